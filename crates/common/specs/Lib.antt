@@ -1,0 +1,15 @@
+pub mod Answers
+pub mod Comparator
+pub mod Factor
+pub mod FactorLaws
+pub mod Floats
+pub mod HistoryMode
+pub mod LimitLaws
+pub mod Limits
+pub mod Ranges
+pub mod Refusals
+pub mod Settings
+pub mod Share
+pub mod UnitCases
+pub mod Units
+pub mod Words
