@@ -1,0 +1,12 @@
+pub mod Rules
+pub mod Sweep
+pub mod Turns
+pub mod Found
+pub mod Measured
+pub mod Words
+pub mod Shares
+pub mod Ends
+pub mod Shortage
+pub mod Changes
+pub mod Preserves
+pub mod Steps

@@ -1,0 +1,34 @@
+// What the pass over a key's buckets carries and finds.
+use ring::Bucket;
+
+// What a pass has met so far: whether all is in order, the last time, what the totals (`left` of the counts, `spare` of the
+// declined) have left, the live buckets with their sums, and the counts of the last second.
+pub struct Tally {
+    pub sound: bool,
+    pub lo: u64,
+    pub left: u64,
+    pub spare: u64,
+    pub live: u64,
+    pub total: u64,
+    pub declined: u64,
+    pub recent: u64,
+}
+
+// What a pass finds. Where the buckets are not sound, all is zero.
+pub struct Pass {
+    pub sound: bool,
+    pub buckets: usize,
+    pub expired: usize,
+    pub live_total: u64,
+    pub live_declined: u64,
+    pub last_second: u64,
+    pub oldest: Bucket,
+    pub newest: Bucket,
+}
+
+// What a shortage takes: whole buckets, then `rest` of the next one; `declined` is the total without the whole ones.
+pub struct Cut {
+    pub whole: usize,
+    pub rest: u64,
+    pub declined: u64,
+}

@@ -1,0 +1,27 @@
+-- A key that is too long has no slot, and another's is looked for.
+use borrow.Author.Tests.{lt-ltb, le-ltb}
+use Rattle.judge.specs.Sound.{addressed}
+use borrow.Author.Needs.{needs}
+use Rattle.judge.proofs.address.Statement.{statement}
+use Rattle.judge.proofs.address.Tie as tie
+
+shared-slice-read-result : tie.Need-shared-slice-read-result
+shared-slice-read-result c = search needs
+
+returns : tie.Need-returns
+unfolding addressed
+returns c = rw (lt-ltb _ _ (c .before .if1 .taken))
+
+key-of-requires : tie.Need-key-of-requires
+key-of-requires c κs = search needs
+
+find-requires : tie.Need-find-requires
+find-requires c κs = search needs
+
+returns-2 : tie.Need-returns-2
+unfolding addressed
+returns-2 c = rw (le-ltb _ _ (c .before .before .if1 .left)) (rw (c .before .key-of .ensures) at (c .find .ensures))
+
+pub address-spec : {M : Type 1} → statement M
+address-spec =
+    tie.close (tie.spec shared-slice-read-result returns key-of-requires find-requires returns-2)

@@ -1,0 +1,46 @@
+-- Refusals 1 to 7, which every call with a key has, in document 01's order; and what a call that passes them knows.
+-- Assumes nothing.
+use mathlib.Core.Path.{_≡_}
+use mathlib.Core.Bool.{Bool, true, false, not, _&&_}
+use mathlib.Core.List.{List, [], _∷_, _++_}
+use Prim.Native.Nat.{ℕ, _≤_}
+use lib.ListN.{length}
+use lib.Dec.{ltb, eqb}
+use Rattle.common.specs.Refusals.{first}
+use Rattle.common.specs.Settings.{windowIn, faults, Proper}
+use Rattle.common.specs.declared.settings.Settings.{Settings}
+use Rattle.room.specs.Room.{Room, sized, lastOf}
+use Rattle.judge.specs.declared.RoomKind.{RoomKind}
+use Rattle.judge.specs.declared.Judged.{Judged}
+use Rattle.judge.specs.declared.Slot.{Slot}
+use Rattle.judge.specs.Sound.{addressed, soundAt}
+use Rattle.judge.specs.Slot.{noSlot, pickSlot, slotOf}
+
+-- 5: "the room's lengths are wrong, or the slot addressed is unsound"; 6: "the reading is below the last of a call not refused"; 7: "key over 32 bytes"
+unfoldable pub misfits : RoomKind → Settings → List ℕ → ℕ → List ℕ → List (ℕ × Bool)
+misfits kind s w t key =
+    (5, not (sized w && soundAt kind s w (addressed w key))) ∷
+    (6, ltb t (lastOf w)) ∷
+    (7, ltb 32 (length key)) ∷ []
+
+-- a call's refusals: the shared ones, and its own
+abbrev pub refusals : RoomKind → Settings → List ℕ → ℕ → List ℕ → List (ℕ × Bool) → List (ℕ × Bool)
+refusals kind s w t key own = faults s ++ (misfits kind s w t key ++ own)
+
+abbrev pub early : RoomKind → Settings → List ℕ → ℕ → List ℕ → ℕ
+early kind s w t key = first (faults s ++ misfits kind s w t key)
+
+-- the first of 1 to 7, and where there is none the slot
+unfoldable pub judged : RoomKind → Settings → List ℕ → ℕ → List ℕ → Judged
+judged kind s w t key = record {
+  code = early kind s w t key;
+  slot = pickSlot (eqb (early kind s w t key) 0) (slotOf (windowIn s) w t (addressed w key)) (noSlot 0);
+}
+
+-- what holds of a call that passes
+pub record Passed (kind : RoomKind) (s : Settings) (w : List ℕ) (t : ℕ) (key : List ℕ) : Type 0 where
+  pub settings : Proper s
+  pub room : Room w
+  pub sound : soundAt kind s w (addressed w key) ≡ true
+  pub later : lastOf w ≤ t
+  pub short : length key ≤ 32

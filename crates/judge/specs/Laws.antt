@@ -1,0 +1,105 @@
+-- What the code has tested, turned into what `judged` says; and what callers know of a call that passes, or does not.
+-- Assumes nothing.
+use mathlib.Core.Path.{_≡_, refl, sym, ap, subst, _∙_}
+use mathlib.Core.Bool.{Bool, true, false, not, _&&_, cond, false≢true}
+use mathlib.Core.List.{List, [], _∷_, _++_, append-assoc}
+use Prim.Native.Nat.{ℕ, _≤_, _<_}
+use native.Mathlib.Omega.{arith}
+use lib.ListN.{length}
+use lib.Dec.{ltb, eqb}
+use borrow.Author.Tests.{eq-eqb, ne-eqb, eqb-true, eqb-false, lt-ltb, le-ltb, ltb-false, not-false}
+use Rattle.base.specs.Decides.{and-true}
+use Rattle.common.specs.Refusals.{first, Positive, AllFalse, first-found, first-none, all-false}
+use Rattle.common.specs.Settings.{windowIn, faults, Proper, proper, unrefused}
+use Rattle.common.specs.declared.settings.Settings.{Settings}
+use Rattle.room.specs.Room.{Room, sized, lastOf}
+use Rattle.room.specs.Laws.{room-sized, sized-room}
+use Rattle.judge.specs.declared.RoomKind.{RoomKind}
+use Rattle.judge.specs.declared.Judged.{Judged}
+use Rattle.judge.specs.declared.Slot.{Slot}
+use Rattle.judge.specs.Sound.{addressed, soundAt}
+use Rattle.judge.specs.Slot.{noSlot, pickSlot, slotOf}
+use Rattle.judge.specs.Judge.{misfits, refusals, early, judged, Passed}
+
+pub faults-positive : (s : Settings) → Positive (faults s)
+unfolding faults
+faults-positive s = omega arith
+
+misfits-positive : (kind : RoomKind) (s : Settings) (w : List ℕ) (t : ℕ) (key : List ℕ) → Positive (misfits kind s w t key)
+unfolding misfits
+misfits-positive kind s w t key = omega arith
+
+-- positive lists, one after the other
+joined-positive : (xs ys : List (ℕ × Bool)) → Positive xs → Positive ys → Positive (xs ++ ys)
+joined-positive [] ys p q = q
+joined-positive (x ∷ xs) ys p q = (p .0, joined-positive xs ys (p .1) q)
+
+module _ (kind : RoomKind) (s : Settings) (w : List ℕ) (t : ℕ) (key : List ℕ) where
+  -- ---- the answer
+  pub refused-is : (n : ℕ) → early kind s w t key ≡ n → (n ≡ 0 → ⊥) → record { code = n; slot = noSlot 0 } ≡ judged kind s w t key
+  unfolding judged
+  refused-is n e z = sym (rw (e, ne-eqb n 0 z))
+
+  pub passed-is : (x : Slot) → early kind s w t key ≡ 0 → x ≡ slotOf (windowIn s) w t (addressed w key) → record { code = 0; slot = x } ≡ judged kind s w t key
+  unfolding judged
+  passed-is x e p = sym (rw (e, ← p))
+
+  pub code-is : judged kind s w t key .code ≡ early kind s w t key
+  unfolding judged
+  code-is = refl
+
+  pub slot-is : early kind s w t key ≡ 0 → judged kind s w t key .slot ≡ slotOf (windowIn s) w t (addressed w key)
+  unfolding judged
+  slot-is e = rw (eq-eqb _ 0 e)
+
+  -- ---- its number
+  pub early-fault : (n : ℕ) → n ≡ first (faults s) → (n ≡ 0 → ⊥) → early kind s w t key ≡ n
+  early-fault n e z = first-found (faults s) (misfits kind s w t key) (λ f. z (e ∙ f)) ∙ sym e
+
+  after : Proper s → early kind s w t key ≡ first (misfits kind s w t key)
+  after p = first-none (faults s) (misfits kind s w t key) (faults-positive s) (unrefused s p)
+
+  pub early-lengths : Proper s → sized w ≡ false → early kind s w t key ≡ 5
+  unfolding misfits first
+  early-lengths p e = after p ∙ rw e
+
+  pub early-unsound : Proper s → Room w → soundAt kind s w (addressed w key) ≡ false → early kind s w t key ≡ 5
+  unfolding misfits first
+  early-unsound p o e = after p ∙ rw (room-sized w o, e)
+
+  pub early-reading : Proper s → Room w → soundAt kind s w (addressed w key) ≡ true → t < lastOf w → early kind s w t key ≡ 6
+  unfolding misfits first
+  early-reading p o e l = after p ∙ rw (room-sized w o, e, lt-ltb t (lastOf w) l)
+
+  pub early-key : Proper s → Room w → soundAt kind s w (addressed w key) ≡ true → lastOf w ≤ t → 32 < length key → early kind s w t key ≡ 7
+  unfolding misfits first
+  early-key p o e l k = after p ∙ rw (room-sized w o, e, le-ltb t (lastOf w) l, lt-ltb 32 (length key) k)
+
+  pub early-none : Passed kind s w t key → early kind s w t key ≡ 0
+  unfolding misfits first
+  early-none p = after (p .settings) ∙ rw (room-sized w (p .room), p .sound, le-ltb t (lastOf w) (p .later), le-ltb 32 (length key) (p .short))
+
+  -- ---- what callers know
+  fault-none : early kind s w t key ≡ 0 → first (faults s) ≡ 0
+  fault-none e = go (eqb (first (faults s)) 0) refl
+    where
+      go : (b : Bool) → eqb (first (faults s)) 0 ≡ b → first (faults s) ≡ 0
+      go true h = eqb-true _ _ h
+      go false h = sym (first-found (faults s) (misfits kind s w t key) (eqb-false _ _ h)) ∙ e
+
+  pub passed : early kind s w t key ≡ 0 → Passed kind s w t key
+  unfolding misfits
+  passed e =
+      let p = proper s (fault-none e) in
+      let f = all-false (misfits kind s w t key) (misfits-positive kind s w t key) (sym (after p) ∙ e) in
+      let q = and-true (sized w) (soundAt kind s w (addressed w key)) (not-false _ (f .0)) in
+      record { settings = p; room = sized-room w (q .0); sound = q .1; later = ltb-false _ _ (f .1 .0); short = ltb-false _ _ (f .1 .1 .0) }
+
+  -- a call's refusals: an early one is the call's; where there is none its own decide
+  pub refused-early : (own : List (ℕ × Bool)) → (early kind s w t key ≡ 0 → ⊥) → first (refusals kind s w t key own) ≡ early kind s w t key
+  refused-early own z = ap first (sym (append-assoc (faults s) (misfits kind s w t key) own)) ∙ first-found (faults s ++ misfits kind s w t key) own z
+
+  pub refused-own : (own : List (ℕ × Bool)) → early kind s w t key ≡ 0 → first (refusals kind s w t key own) ≡ first own
+  refused-own own e =
+      ap first (sym (append-assoc (faults s) (misfits kind s w t key) own)) ∙
+      first-none (faults s ++ misfits kind s w t key) own (joined-positive (faults s) (misfits kind s w t key) (faults-positive s) (misfits-positive kind s w t key)) e

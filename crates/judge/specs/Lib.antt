@@ -1,0 +1,5 @@
+pub mod Sound
+pub mod Slot
+pub mod Right
+pub mod Judge
+pub mod Laws

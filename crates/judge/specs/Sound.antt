@@ -1,0 +1,74 @@
+-- When a slot is sound, in document 01's words. W and F are the settings' window and factor, r the ring, last the last reading.
+-- Assumes nothing.
+use mathlib.Core.Bool.{Bool, true, false, not, _&&_, _||_, cond}
+use mathlib.Core.List.{List}
+use Prim.Native.Nat.{ℕ}
+use lib.ListN.{length, getD}
+use lib.Dec.{leb, ltb, eqb}
+use lib.Ieee.{Float}
+use Rattle.common.specs.Factor.{factorWordOk}
+use Rattle.common.specs.Limits.{limitOk}
+use Rattle.common.specs.Ranges.{one}
+use Rattle.common.specs.Settings.{windowIn, factorIn}
+use Rattle.common.specs.declared.settings.Settings.{Settings}
+use Rattle.ring.specs.Ring.{declinedOf}
+use Rattle.ring.specs.Sound.{soundBuckets}
+use Rattle.room.specs.Room.{slotsOf, ringOf, lastOf, useOf, keySound, keyOf, find, bodyOf}
+use Rattle.judge.specs.declared.RoomKind.{RoomKind}
+use Rattle.judge.specs.declared.RoomKind.the-variants.{Absolute, Suppressed}
+
+-- ---- the words of a body that buckets do not use
+
+abbrev pub limitOf : List ℕ → ℕ
+limitOf b = getD b 0 0
+
+abbrev pub factorOf : List ℕ → ℕ
+factorOf b = getD b 5 0
+
+abbrev pub factorTimeOf : List ℕ → ℕ
+factorTimeOf b = getD b 6 0
+
+-- ---- a slot's use: 1 a series, 2 a cached factor, 3 both
+
+abbrev pub hasSeries : ℕ → Bool
+hasSeries u = eqb u 1 || eqb u 3
+
+abbrev pub hasCached : ℕ → Bool
+hasCached u = eqb u 2 || eqb u 3
+
+-- an absolute room caches no factor
+unfoldable pub rightUse : RoomKind → ℕ → Bool
+rightUse Absolute u = eqb u 1
+rightUse Suppressed u = hasSeries u || hasCached u
+
+-- "divided by W and F (1 for absolute)"
+abbrev pub divisor : RoomKind → Float → Float
+divisor Absolute F = one
+divisor Suppressed F = F
+
+-- "declined is at most count in each bucket (zero in the absolute room)": the total is the sum
+abbrev pub declinedRight : RoomKind → ℕ → Bool
+declinedRight Absolute d = eqb d 0
+declinedRight Suppressed d = true
+
+unfoldable pub soundSeries : RoomKind → Settings → ℕ → ℕ → List ℕ → Bool
+soundSeries kind s r last b =
+    soundBuckets r b last && (declinedRight kind (declinedOf b) && limitOk (windowIn s) (divisor kind (factorIn s)) (limitOf b))
+
+-- "a cached factor is 0 to 1 with a time not past the last reading"
+unfoldable pub soundCached : ℕ → List ℕ → Bool
+soundCached last b = factorWordOk (factorOf b) && leb (factorTimeOf b) last
+
+-- what is not there is not judged
+unfoldable pub soundSlot : RoomKind → Settings → List ℕ → ℕ → Bool
+soundSlot kind s w at =
+    keySound w at && (rightUse kind (useOf w at) &&
+    ((not (hasSeries (useOf w at)) || soundSeries kind s (ringOf w) (lastOf w) (bodyOf w at)) &&
+    (not (hasCached (useOf w at)) || soundCached (lastOf w) (bodyOf w at))))
+
+-- ---- the slot addressed: "the lowest slot with their key", or the number of slots; a key of over 32 bytes has none
+unfoldable pub addressed : List ℕ → List ℕ → ℕ
+addressed w key = cond (ltb 32 (length key)) (slotsOf w) (find w (keyOf key))
+
+unfoldable pub soundAt : RoomKind → Settings → List ℕ → ℕ → Bool
+soundAt kind s w at = cond (ltb at (slotsOf w)) (soundSlot kind s w at) true

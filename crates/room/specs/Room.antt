@@ -1,0 +1,208 @@
+-- A room's words: slots, ring, last reading; an entry of six words for each slot (use, key length, four words of key); then a body for
+-- each slot. Which lengths are right, what an entry and a body are, which slot is found, and what each change writes.
+-- Assumes nothing.
+use mathlib.Core.Path.{_≡_}
+use mathlib.Core.Bool.{Bool, cond, not, _&&_}
+use mathlib.Core.List.{List, [], _∷_}
+use Prim.Native.Nat.{ℕ, zero, suc, _+_, _-_, _*_, _^_, _≤_, min}
+use lib.ListN.{length, getD, take, drop, set, replicate}
+use lib.Dec.{leb, ltb, eqb}
+use Rattle.base.specs.Writes.{writes}
+use Rattle.base.specs.Splice.{splice}
+use Rattle.base.specs.Seek.{seek}
+use Rattle.room.specs.declared.Key.{Key}
+
+-- ---- where words stand (the code's constants are these)
+
+-- the header's words
+abbrev pub slotsWord : ℕ
+slotsWord = 0
+
+abbrev pub ringWord : ℕ
+ringWord = 1
+
+abbrev pub lastWord : ℕ
+lastWord = 2
+
+-- an entry's words behind the use, which is its first
+abbrev pub lenWord : ℕ
+lenWord = 1
+
+abbrev pub aWord : ℕ
+aWord = 2
+
+abbrev pub bWord : ℕ
+bWord = 3
+
+abbrev pub cWord : ℕ
+cWord = 4
+
+abbrev pub dWord : ℕ
+dWord = 5
+
+-- how many words: the header, an entry, what stands before a body's cells, and a cell
+abbrev pub headerWords : ℕ
+headerWords = 3
+
+abbrev pub entryWords : ℕ
+entryWords = 6
+
+abbrev pub fixedWords : ℕ
+fixedWords = 7
+
+abbrev pub cellWords : ℕ
+cellWords = 3
+
+abbrev pub slotsOf : List ℕ → ℕ
+slotsOf w = getD w slotsWord 0
+
+abbrev pub ringOf : List ℕ → ℕ
+ringOf w = getD w ringWord 0
+
+abbrev pub lastOf : List ℕ → ℕ
+lastOf w = getD w lastWord 0
+
+-- how many words a body has, and all bodies with what stands before them
+abbrev pub size : ℕ → ℕ
+size r = fixedWords + cellWords * r
+
+abbrev pub lengthOf : ℕ → ℕ → ℕ
+lengthOf n r = headerWords + entryWords * n + n * size r
+
+-- where slot s's entry starts; where its body starts and ends
+abbrev pub entryOf : ℕ → ℕ
+entryOf s = headerWords + entryWords * s
+
+abbrev pub startOf : List ℕ → ℕ → ℕ
+startOf w s = headerWords + entryWords * slotsOf w + s * size (ringOf w)
+
+abbrev pub endOf : List ℕ → ℕ → ℕ
+endOf w s = startOf w s + size (ringOf w)
+
+-- ---- lengths
+
+-- n slots with rings of r are in range, and need l words
+unfoldable pub fits : ℕ → ℕ → ℕ → Bool
+fits n r l = leb 1 n && (leb n 64 && (leb 1 r && (leb r 512 && eqb l (lengthOf n r))))
+
+-- the same as facts
+pub record Lengths (n r l : ℕ) : Type 0 where
+  pub one : 1 ≤ n
+  pub few : n ≤ 64
+  pub some : 1 ≤ r
+  pub small : r ≤ 512
+  pub long : l ≡ lengthOf n r
+
+-- a room's words are as many as its header says
+abbrev pub sized : List ℕ → Bool
+sized w = fits (slotsOf w) (ringOf w) (length w)
+
+abbrev pub Room : List ℕ → Type 0
+Room w = Lengths (slotsOf w) (ringOf w) (length w)
+
+-- an empty room: last reading 0, every slot free, every other word 0
+unfoldable pub empty : ℕ → ℕ → List ℕ
+empty n r = n ∷ r ∷ 0 ∷ replicate (entryWords * n + n * size r) 0
+
+-- making one in lent words: said yes exactly where they fit; else every word stays
+pub record Made (n r : ℕ) (w : List ℕ) (x : Bool) (v : List ℕ) : Type 0 where
+  pub answer : x ≡ fits n r (length w)
+  pub words : v ≡ cond (fits n r (length w)) (empty n r) w
+
+-- ---- keys
+
+-- eight bytes from i on, the first one lowest
+abbrev pub pack : List ℕ → ℕ → ℕ
+pack key i =
+    getD key i 0 + 256 * getD key (i + 1) 0 + 65536 * getD key (i + 2) 0 + 16777216 * getD key (i + 3) 0 + 4294967296 * getD key (i + 4) 0 +
+    1099511627776 * getD key (i + 5) 0 + 281474976710656 * getD key (i + 6) 0 + 72057594037927936 * getD key (i + 7) 0
+
+unfoldable pub keyOf : List ℕ → Key
+keyOf key = record { len = length key; a = pack key 0; b = pack key 8; c = pack key 16; d = pack key 24 }
+
+unfoldable pub sameKey : Key → Key → Bool
+sameKey k l = eqb (k .len) (l .len) && (eqb (k .a) (l .a) && (eqb (k .b) (l .b) && (eqb (k .c) (l .c) && eqb (k .d) (l .d))))
+
+-- a word with the bytes from i on, of a key of n bytes, is 0 in the bytes that the key does not have
+unfoldable pub within : ℕ → ℕ → ℕ → Bool
+within n i x = ltb x (256 ^ min 8 (n - i))
+
+-- at most 32 bytes, and unused ones 0
+unfoldable pub keyFits : Key → Bool
+keyFits k = leb (k .len) 32 && (within (k .len) 0 (k .a) && (within (k .len) 8 (k .b) && (within (k .len) 16 (k .c) && within (k .len) 24 (k .d))))
+
+-- ---- entries
+
+-- slot s's use: 0 where it is free
+abbrev pub useOf : List ℕ → ℕ → ℕ
+useOf w s = getD w (entryOf s) 0
+
+unfoldable pub keyAt : List ℕ → ℕ → Key
+keyAt w s = record {
+  len = getD w (entryOf s + lenWord) 0;
+  a = getD w (entryOf s + aWord) 0;
+  b = getD w (entryOf s + bWord) 0;
+  c = getD w (entryOf s + cWord) 0;
+  d = getD w (entryOf s + dWord) 0;
+}
+
+unfoldable pub free : List ℕ → ℕ → Bool
+free w s = eqb (useOf w s) 0
+
+-- slot s is in use with key k
+unfoldable pub has : List ℕ → Key → ℕ → Bool
+has w k s = not (free w s) && sameKey (keyAt w s) k
+
+-- slot s's key is one
+abbrev pub keySound : List ℕ → ℕ → Bool
+keySound w s = keyFits (keyAt w s)
+
+-- the lowest slot with key k, and the lowest free one; or the number of slots
+abbrev pub find : List ℕ → Key → ℕ
+find w k = seek (has w k) 0 (slotsOf w)
+
+abbrev pub vacant : List ℕ → ℕ
+vacant w = seek (free w) 0 (slotsOf w)
+
+-- ---- bodies
+
+-- the body that starts at a, and the room with b in its place
+unfoldable pub bodyFrom : List ℕ → ℕ → List ℕ
+bodyFrom w a = take (size (ringOf w)) (drop a w)
+
+abbrev pub withFrom : List ℕ → ℕ → List ℕ → List ℕ
+withFrom w a b = splice a (a + size (ringOf w)) w b
+
+abbrev pub bodyOf : List ℕ → ℕ → List ℕ
+bodyOf w s = bodyFrom w (startOf w s)
+
+-- where a body starts, and that it ends within the room
+pub record Starts (w : List ℕ) (s x : ℕ) : Type 0 where
+  pub at : x ≡ startOf w s
+  pub inside : x + size (ringOf w) ≤ length w
+
+-- ---- the room with a change
+
+abbrev pub withBody : List ℕ → ℕ → List ℕ → List ℕ
+withBody w s b = withFrom w (startOf w s) b
+
+-- use u and key k at slot s
+unfoldable pub entered : List ℕ → ℕ → ℕ → Key → List ℕ
+entered w s u k =
+    writes w
+    ((entryOf s, u) ∷ (entryOf s + lenWord, k .len) ∷ (entryOf s + aWord, k .a) ∷ (entryOf s + bWord, k .b) ∷ (entryOf s + cWord, k .c) ∷ (entryOf s + dWord, k .d) ∷ [])
+
+-- use u alone: 0 frees the slot
+unfoldable pub withUse : List ℕ → ℕ → ℕ → List ℕ
+withUse w s u = set w (entryOf s) u
+
+unfoldable pub withReading : List ℕ → ℕ → List ℕ
+withReading w t = set w lastWord t
+
+-- the first n slots freed; all of them
+unfoldable pub freed : List ℕ → ℕ → List ℕ
+freed w zero = w
+freed w (suc n) = withUse (freed w n) n 0
+
+abbrev pub cleared : List ℕ → List ℕ
+cleared w = freed w (slotsOf w)

@@ -1,0 +1,319 @@
+// A lent room: its lengths, its directory, and where a slot's body starts. What a body holds is not known here.
+ghost use mathlib.Core.Path.{_≡_};
+ghost use Prim.Native.Nat.{_+_, _*_, _^_, _<_, _≤_};
+ghost use lib.ListN.{length, getD, replicate};
+ghost use Rattle.base.specs.Decides.{Decides};
+ghost use Rattle.room.specs.Room.{Room, Lengths, Made, Starts, slotsOf, ringOf, size, startOf, useOf, keyAt, pack, keyOf, sameKey, within, keyFits, keySound, free, has, find, vacant, entered, withUse, withReading, cleared};
+
+// The header's words.
+pub const SLOTS: usize = 0;
+
+pub const RING: usize = 1;
+
+pub const LAST: usize = 2;
+
+// A directory entry's words behind the use, which is its first.
+const LEN: usize = 1;
+
+const A: usize = 2;
+
+const B: usize = 3;
+
+const C: usize = 4;
+
+const D: usize = 5;
+
+// How many words: the header, a directory entry, what stands before a body's cells, and a cell.
+pub const HEADER: usize = 3;
+
+pub const ENTRY: usize = 6;
+
+pub const FIXED: usize = 7;
+
+pub const CELL: usize = 3;
+
+// A key as the directory has it: its length, and its bytes in four words, the first one lowest.
+pub struct Key {
+    pub len: u64,
+    pub a: u64,
+    pub b: u64,
+    pub c: u64,
+    pub d: u64,
+}
+
+// Whether a room of these slots and ring has `len` words.
+fn fits(slots: u64, ring: u64, len: usize) -> bool
+    ensures { λ x. ⌜ Decides x (Lengths slots ring len) ⌝ }
+{
+    if slots < 1 {
+        return false;
+    }
+    if 64 < slots {
+        return false;
+    }
+    if ring < 1 {
+        return false;
+    }
+    if 512 < ring {
+        return false;
+    }
+    let n = slots as usize;
+    let r = ring as usize;
+    if len != HEADER + ENTRY * n + n * (FIXED + CELL * r) {
+        return false;
+    }
+    true
+}
+
+// Whether the words are as many as the header says.
+pub fn sized(w: &[u64]) -> bool
+    ensures { λ x. ⌜ Decides x (Room (now (w .entry))) ⌝ }
+{
+    if w.len() < HEADER {
+        return false;
+    }
+    fits(w[SLOTS], w[RING], w.len())
+}
+
+// Sets every word to 0.
+fn zero(w: &mut [u64])
+    ensures { λ _. ⌜ now (w .exit) ≡ replicate (length (now (w .entry))) 0 ⌝ }
+{
+    let mut i = 0;
+    while i < w.len() {
+        w[i] = 0;
+        i += 1;
+    }
+}
+
+// Makes an empty room of the lent words, or says that they do not fit and leaves them.
+pub fn make(w: &mut [u64], slots: u64, ring: u64) -> bool
+    ensures { λ x. ⌜ Made slots ring (now (w .entry)) x (now (w .exit)) ⌝ }
+{
+    if !fits(slots, ring, w.len()) {
+        return false;
+    }
+    zero(w);
+    w[SLOTS] = slots;
+    w[RING] = ring;
+    true
+}
+
+// Where slot `s`'s body starts.
+pub fn start(w: &[u64], s: usize) -> usize
+    requires { ⌜ Room (now w) × (s < slotsOf (now w)) ⌝ }
+    ensures { λ x. ⌜ Starts (now (w .entry)) s x ⌝ }
+{
+    let slots = w[SLOTS] as usize;
+    let r = w[RING] as usize;
+    HEADER + ENTRY * slots + s * (FIXED + CELL * r)
+}
+
+// Byte `i` of a key, or 0 past its end.
+fn byte(key: &[u8], i: usize) -> u64
+    ensures { λ x. ⌜ (x ≡ getD (now (key .entry)) i 0) × (x < 256) ⌝ }
+{
+    if i < key.len() { key[i] as u64 } else { 0 }
+}
+
+fn packed(key: &[u8], i: usize) -> u64
+    requires { ⌜ i ≤ 24 ⌝ }
+    ensures { λ x. ⌜ x ≡ pack (now (key .entry)) i ⌝ }
+{
+    byte(key, i)
+        + 256 * byte(key, i + 1)
+        + 65536 * byte(key, i + 2)
+        + 16777216 * byte(key, i + 3)
+        + 4294967296 * byte(key, i + 4)
+        + 1099511627776 * byte(key, i + 5)
+        + 281474976710656 * byte(key, i + 6)
+        + 72057594037927936 * byte(key, i + 7)
+}
+
+pub fn key_of(key: &[u8]) -> Key
+    ensures { λ x. ⌜ x ≡ keyOf (now (key .entry)) ⌝ }
+{
+    Key {
+        len: key.len() as u64,
+        a: packed(key, 0),
+        b: packed(key, 8),
+        c: packed(key, 16),
+        d: packed(key, 24),
+    }
+}
+
+// 256 to the `n`.
+fn top(n: u64) -> u64
+    requires { ⌜ n < 8 ⌝ }
+    ensures { λ x. ⌜ x ≡ 256 ^ n ⌝ }
+{
+    let mut x = 1;
+    let mut k = 0;
+    while k < n {
+        x *= 256;
+        k += 1;
+    }
+    x
+}
+
+// Whether a word with a key's bytes from `i` on is 0 in the bytes that a key of `len` bytes does not have.
+fn within(len: u64, i: u64, word: u64) -> bool
+    ensures { λ x. ⌜ x ≡ within len i word ⌝ }
+{
+    if len <= i {
+        return word == 0;
+    }
+    let n = len - i;
+    if 8 <= n {
+        return true;
+    }
+    word < top(n)
+}
+
+fn key_at(w: &[u64], s: usize) -> Key
+    requires { ⌜ Room (now w) × (s < slotsOf (now w)) ⌝ }
+    ensures { λ x. ⌜ x ≡ keyAt (now (w .entry)) s ⌝ }
+{
+    let e = HEADER + ENTRY * s;
+    Key {
+        len: w[e + LEN],
+        a: w[e + A],
+        b: w[e + B],
+        c: w[e + C],
+        d: w[e + D],
+    }
+}
+
+// Whether slot `s`'s key has at most 32 bytes and the rest of its words is 0.
+pub fn key_fits(w: &[u64], s: usize) -> bool
+    requires { ⌜ Room (now w) × (s < slotsOf (now w)) ⌝ }
+    ensures { λ x. ⌜ x ≡ keySound (now (w .entry)) s ⌝ }
+{
+    let k = key_at(w, s);
+    let len = k.len;
+    if 32 < len {
+        return false;
+    }
+    if !within(len, 0, k.a) {
+        return false;
+    }
+    if !within(len, 8, k.b) {
+        return false;
+    }
+    if !within(len, 16, k.c) {
+        return false;
+    }
+    within(len, 24, k.d)
+}
+
+fn same_key(k: Key, l: Key) -> bool
+    ensures { λ x. ⌜ x ≡ sameKey k l ⌝ }
+{
+    if k.len != l.len {
+        return false;
+    }
+    if k.a != l.a {
+        return false;
+    }
+    if k.b != l.b {
+        return false;
+    }
+    if k.c != l.c {
+        return false;
+    }
+    k.d == l.d
+}
+
+// Slot `slot`'s use: 0 where it is free.
+pub fn use_of(w: &[u64], slot: usize) -> u64
+    requires { ⌜ Room (now w) × (slot < slotsOf (now w)) ⌝ }
+    ensures { λ x. ⌜ x ≡ useOf (now (w .entry)) slot ⌝ }
+{
+    w[HEADER + ENTRY * slot]
+}
+
+// Whether slot `s` is in use with key `k`.
+fn holds(w: &[u64], k: Key, s: usize) -> bool
+    requires { ⌜ Room (now w) × (s < slotsOf (now w)) ⌝ }
+    ensures { λ x. ⌜ x ≡ has (now (w .entry)) k s ⌝ }
+{
+    if use_of(w, s) == 0 {
+        return false;
+    }
+    same_key(key_at(w, s), k)
+}
+
+// The lowest slot with key `k`, or the number of slots.
+pub fn find(w: &[u64], k: Key) -> usize
+    requires { ⌜ Room (now w) ⌝ }
+    ensures { λ x. ⌜ x ≡ find (now (w .entry)) k ⌝ }
+{
+    let n = w[SLOTS] as usize;
+    let mut slot = 0;
+    while slot < n {
+        if holds(w, k, slot) {
+            return slot;
+        }
+        slot += 1;
+    }
+    slot
+}
+
+// The lowest free slot, or the number of slots.
+pub fn vacant(w: &[u64]) -> usize
+    requires { ⌜ Room (now w) ⌝ }
+    ensures { λ x. ⌜ x ≡ vacant (now (w .entry)) ⌝ }
+{
+    let n = w[SLOTS] as usize;
+    let mut spare = 0;
+    while spare < n {
+        if use_of(w, spare) == 0 {
+            return spare;
+        }
+        spare += 1;
+    }
+    spare
+}
+
+// Writes slot `s`'s entry: its use and its key.
+pub fn enter(w: &mut [u64], s: usize, u: u64, k: Key)
+    requires { ⌜ Room (now w) × (s < slotsOf (now w)) ⌝ }
+    ensures { λ _. ⌜ now (w .exit) ≡ entered (now (w .entry)) s u k ⌝ }
+{
+    let e = HEADER + ENTRY * s;
+    w[e] = u;
+    w[e + LEN] = k.len;
+    w[e + A] = k.a;
+    w[e + B] = k.b;
+    w[e + C] = k.c;
+    w[e + D] = k.d;
+}
+
+// Writes slot `s`'s use alone: 0 frees it.
+pub fn set_use(w: &mut [u64], s: usize, u: u64)
+    requires { ⌜ Room (now w) × (s < slotsOf (now w)) ⌝ }
+    ensures { λ _. ⌜ now (w .exit) ≡ withUse (now (w .entry)) s u ⌝ }
+{
+    w[HEADER + ENTRY * s] = u;
+}
+
+// Writes the last reading.
+pub fn store_reading(w: &mut [u64], t: u64)
+    requires { ⌜ Room (now w) ⌝ }
+    ensures { λ _. ⌜ now (w .exit) ≡ withReading (now (w .entry)) t ⌝ }
+{
+    w[LAST] = t;
+}
+
+// Frees every slot, and changes no other word.
+pub fn clear(w: &mut [u64])
+    requires { ⌜ Room (now w) ⌝ }
+    ensures { λ _. ⌜ now (w .exit) ≡ cleared (now (w .entry)) ⌝ }
+{
+    let n = w[SLOTS] as usize;
+    let mut s = 0;
+    while s < n {
+        set_use(w, s, 0);
+        s += 1;
+    }
+}
