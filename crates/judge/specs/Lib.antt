@@ -3,3 +3,4 @@ pub mod Slot
 pub mod Right
 pub mod Judge
 pub mod Laws
+pub mod Verdict
