@@ -1,0 +1,111 @@
+//! Every history of up to three calls over a small alphabet.
+
+use twin::calls::{Call, Op};
+use twin::rules::{Comparator, Kind, Mode, Settings};
+use twin::set::Wanted;
+
+use crate::compare::{Comparison, History};
+use crate::state::Key;
+
+/// How far the reading rises, and the call.
+#[derive(Clone, Copy)]
+struct Letter<'a> {
+    rise: u64,
+    call: Call<'a>,
+}
+
+fn set(kind: Kind, rate: f64, comparator: Comparator, count: u64, mode: Mode) -> Op {
+    Op::Set { kind, wanted: Wanted { rate, comparator, count, mode } }
+}
+
+fn shared_ops(kind: Kind, rate: f64) -> Vec<Op> {
+    vec![
+        Op::SetRateLimit { kind, rate },
+        Op::SetRateLimit { kind, rate: rate * 3.0 },
+        Op::Delete { kind },
+        Op::Clear { kind },
+        set(kind, rate, Comparator::Always, 0, Mode::Replace),
+        set(kind, rate, Comparator::Always, 2, Mode::Replace),
+        set(kind, rate, Comparator::Eq(0), 1, Mode::PreserveNewest),
+        set(kind, rate, Comparator::Always, 2, Mode::PreserveNewest),
+        set(kind, rate, Comparator::Always, 1, Mode::PreserveOldest),
+        set(kind, rate, Comparator::Gt(0), 3, Mode::PreserveOldest),
+        Op::Cleanup { kind, stale: 0 },
+        Op::Cleanup { kind, stale: 101 },
+    ]
+}
+
+fn absolute_ops(rate: f64) -> Vec<Op> {
+    let mut ops = shared_ops(Kind::Absolute, rate);
+    ops.extend((0..3).map(|count| Op::AbsoluteInc { rate, count }));
+    ops.extend([Op::AbsoluteInc { rate, count: 1 << 53 }, Op::IsAllowed, Op::AbsoluteGet]);
+    ops
+}
+
+fn suppressed_ops(rate: f64) -> Vec<Op> {
+    let mut ops = shared_ops(Kind::Suppressed, rate);
+    let least = (0..4).map(|count| Op::SuppressedInc { rate, count, draw: 0 });
+    let most = [1, 2].map(|count| Op::SuppressedInc { rate, count, draw: (1 << 53) - 1 });
+    ops.extend(least.chain(most));
+    ops.extend([Op::SuppressedInc { rate, count: 1 << 53, draw: 0 }]);
+    ops.extend([Op::GetSuppressionFactor, Op::SuppressedGet]);
+    ops
+}
+
+fn letters<'a>(ops: &[Op], rises: &[u64], keys: &'a [Key]) -> Vec<Letter<'a>> {
+    let first = &keys[0].bytes;
+    let mut letters: Vec<Letter> = ops
+        .iter()
+        .flat_map(|op| {
+            rises.iter().map(|rise| Letter { rise: *rise, call: Call { key: first, op: *op } })
+        })
+        .collect();
+    // A second key, for rooms with one slot.
+    let other = ops.iter().filter(|op| {
+        matches!(
+            op,
+            Op::AbsoluteInc { count: 1, .. }
+                | Op::SuppressedInc { count: 1, .. }
+                | Op::GetSuppressionFactor
+        )
+    });
+    letters.extend(other.map(|op| Letter { rise: 0, call: Call { key: &keys[1].bytes, op: *op } }));
+    letters
+}
+
+fn all_words(comparison: &mut Comparison, settings: Settings, letters: &[Letter], keys: &[Key]) {
+    for first in letters {
+        for second in letters {
+            if !comparison.goes_on() {
+                return;
+            }
+            for third in letters {
+                let mut history = History::new(settings, 1, 2, keys);
+                comparison.begin(&history);
+                let mut reading = 0;
+                for letter in [first, second, third] {
+                    reading += letter.rise;
+                    if !comparison.step(&mut history, &settings, reading, letter.call) {
+                        break;
+                    }
+                }
+            }
+        }
+    }
+}
+
+/// Settings with a rate that makes limits of 0 to 4, and how far a reading may rise: to or over an edge.
+const CASES: [(Settings, f64, [u64; 3]); 4] = [
+    (Settings { window: 1, bucket: 100, cache: 100, factor: 1.0 }, 2.0, [0, 100, 1001]),
+    (Settings { window: 1, bucket: 100, cache: 101, factor: 2.0 }, 2.0, [0, 101, 1000]),
+    (Settings { window: 1, bucket: 1000, cache: 101, factor: 4.0 }, 0.5, [0, 101, 1001]),
+    (Settings { window: 1, bucket: 2000, cache: 1002, factor: 1.5 }, 1.4, [0, 1000, 1001]),
+];
+
+pub fn run(comparison: &mut Comparison) {
+    let keys = [Key::new(b"a"), Key::new(b"b")];
+    for (settings, rate, rises) in CASES {
+        all_words(comparison, settings, &letters(&absolute_ops(rate), &rises, &keys), &keys);
+        all_words(comparison, settings, &letters(&suppressed_ops(rate), &rises, &keys), &keys);
+    }
+}

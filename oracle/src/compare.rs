@@ -1,0 +1,380 @@
+//! One history at a time: every answer and the whole state after every call.
+
+use std::collections::BTreeMap;
+use std::fmt;
+
+use twin::calls::{Answer, Call, Limiters, Op, Rooms, Row, Twin};
+use twin::room::{Bucket, last_reading};
+use twin::rules::{Kind, Settings};
+
+use crate::expected::{Expected, expected, kind};
+use crate::original::Original;
+use crate::sample;
+use crate::state::{self, Key, LiveAt};
+use crate::words;
+
+/// What a row holds where no bucket is put.
+const UNTOUCHED: Bucket = Bucket { count: 11, declined: 12, time: 13 };
+
+/// How many differing histories are printed.
+const SHOWN: u64 = 3;
+
+/// The counts, and the implementations over rooms besides the twin.
+pub struct Comparison {
+    pub others: Vec<Box<dyn Limiters>>,
+    pub histories: u64,
+    /// Calls put to the original and compared.
+    pub calls: u64,
+    /// Refused calls: number and unchanged rooms judged.
+    pub refused: u64,
+    /// Histories that ended where 01 ends the comparison.
+    pub ended: u64,
+    pub differed: u64,
+    /// The random history under way: `judge history SEED` runs it alone.
+    pub seed: Option<u64>,
+    /// The sample's lines, if they are kept.
+    pub record: Option<String>,
+    /// So many differing histories end the run.
+    pub most_differing: u64,
+    /// How often each kind of call had each kind of answer, if that is kept.
+    pub tally: Option<BTreeMap<String, u64>>,
+}
+
+impl fmt::Display for Comparison {
+    fn fmt(&self, f: &mut fmt::Formatter) -> fmt::Result {
+        let Comparison { histories, calls, refused, ended, differed, .. } = self;
+        write!(
+            f,
+            "{histories} histories, {calls} calls compared, {refused} refusals judged, {ended} ended early by 01, {differed} differed"
+        )
+    }
+}
+
+/// Why a call differs.
+struct Difference(String);
+
+/// One call as it was given, for the print of a differing history.
+struct Given<'a> {
+    settings: Settings,
+    reading: u64,
+    call: Call<'a>,
+    answer: Answer,
+}
+
+/// A history under comparison.
+pub struct History<'a> {
+    pub settings: Settings,
+    pub keys: &'a [Key],
+    pub rooms: Rooms,
+    original: Original,
+    /// From an absolute increment that took expired buckets out: they are left out of both states.
+    leaves_expired_out: bool,
+    given: Vec<Given<'a>>,
+    before: Rooms,
+    row: Row,
+    row_before: Row,
+    states: (Vec<u64>, Vec<u64>),
+}
+
+impl<'a> History<'a> {
+    pub fn new(settings: Settings, slots: usize, ring: usize, keys: &'a [Key]) -> Self {
+        History {
+            settings,
+            keys,
+            rooms: Rooms::empty(slots, ring),
+            original: Original::new(&settings),
+            leaves_expired_out: false,
+            given: Vec::new(),
+            before: Rooms::empty(slots, ring),
+            row: vec![UNTOUCHED; ring.div_ceil(2) + 1],
+            row_before: Vec::new(),
+            states: Default::default(),
+        }
+    }
+
+    /// A history that starts from these sound rooms.
+    pub fn from_rooms(settings: Settings, rooms: Rooms, keys: &'a [Key]) -> Self {
+        let (slots, ring) = (rooms.absolute[0] as usize, rooms.absolute[1] as usize);
+        let history = History { rooms, ..History::new(settings, slots, ring, keys) };
+        for kind in [Kind::Absolute, Kind::Suppressed] {
+            for key in keys {
+                let (series, cached) = state::of_key(history.rooms.of(kind), &key.bytes);
+                history.original.put(kind, &key.text, series, cached);
+            }
+        }
+        history
+    }
+
+    /// The answer to the last call given.
+    pub fn last_answer(&self) -> Answer {
+        self.given.last().expect("a call").answer
+    }
+
+    /// The absolute room's own last reading tells what is expired there.
+    fn live(&self, kind: Kind) -> Option<LiveAt<'_>> {
+        let masks = self.leaves_expired_out && kind == Kind::Absolute;
+        let reading = last_reading(&self.rooms.absolute);
+        masks.then_some(LiveAt { settings: &self.settings, reading })
+    }
+
+    fn agrees(&mut self, kind: Kind) -> bool {
+        let (mut told, mut held) = std::mem::take(&mut self.states);
+        let live = self.live(kind);
+        state::of_original(&self.original, kind, self.keys, live, &mut told);
+        state::of_room(self.rooms.of(kind), self.keys, live, &mut held);
+        let same = told == held;
+        self.states = (told, held);
+        same
+    }
+}
+
+impl Comparison {
+    pub fn new(others: Vec<Box<dyn Limiters>>) -> Self {
+        Comparison {
+            others,
+            histories: 0,
+            calls: 0,
+            refused: 0,
+            ended: 0,
+            differed: 0,
+            seed: None,
+            record: None,
+            most_differing: 100,
+            tally: None,
+        }
+    }
+
+    /// A history starts.
+    pub fn begin(&mut self, history: &History) {
+        self.histories += 1;
+        if let Some(record) = &mut self.record {
+            record.push_str(&sample::history_line(history));
+        }
+    }
+
+    pub fn goes_on(&self) -> bool {
+        self.differed < self.most_differing
+    }
+
+    /// Tells how often each kind of call had each kind of answer.
+    pub fn show_tally(&self) {
+        for (name, times) in self.tally.iter().flatten() {
+            println!("{times:>10} {name}");
+        }
+    }
+
+    fn count_kind(&mut self, op: &Op, answer: &Answer, wanted: Expected) {
+        let Some(tally) = &mut self.tally else {
+            return;
+        };
+        let first_word =
+            |text: String| text.split([' ', '(']).next().unwrap_or_default().to_string();
+        let call = first_word(format!("{op:?}"));
+        let told = match answer {
+            Answer::Refused(number) => format!("refused {number}"),
+            Answer::Suppressed { factor, admitted } => {
+                let factor = match f64::from_bits(*factor) {
+                    0.0 => "0",
+                    1.0 => "1",
+                    _ => "between",
+                };
+                format!("Suppressed, factor {factor}, {admitted}")
+            }
+            answer => first_word(format!("{answer:?}")),
+        };
+        let added = if wanted.takes_out { ", expired taken out first" } else { "" };
+        *tally.entry(format!("{:?} {call}: {told}{added}", kind(op))).or_default() += 1;
+    }
+
+    /// One call; false where the history ends.
+    pub fn step<'a>(
+        &mut self,
+        history: &mut History<'a>,
+        settings: &Settings,
+        reading: u64,
+        call: Call<'a>,
+    ) -> bool {
+        self.step_in(history, settings, reading, call, true)
+    }
+
+    /// One call on rooms that the original cannot hold: refusals and other implementations only.
+    pub fn step_without_original<'a>(
+        &mut self,
+        history: &mut History<'a>,
+        reading: u64,
+        call: Call<'a>,
+    ) {
+        let settings = history.settings;
+        self.step_in(history, &settings, reading, call, false);
+    }
+
+    fn step_in<'a>(
+        &mut self,
+        history: &mut History<'a>,
+        settings: &Settings,
+        reading: u64,
+        call: Call<'a>,
+        with_original: bool,
+    ) -> bool {
+        let wanted = expected(settings, &history.rooms, reading, call);
+        let History { rooms, before, row, row_before, .. } = history;
+        before.clone_from(rooms);
+        row_before.clone_from(row);
+        let answer = Twin.call(settings, rooms, reading, call, row);
+        self.count_kind(&call.op, &answer, wanted);
+        history.given.push(Given { settings: *settings, reading, call, answer });
+        let verdict = self
+            .judge_others(history, settings, reading, call, answer)
+            .and_then(|()| self.judge_refusal(history, wanted, answer))
+            .and_then(|refused| match refused || !with_original {
+                true => Ok(true),
+                false => self.judge(history, wanted, reading, call, answer),
+            });
+        match verdict {
+            Ok(goes_on) => {
+                self.ended += u64::from(!goes_on);
+                goes_on
+            }
+            Err(difference) => {
+                self.differed += 1;
+                if self.differed <= SHOWN {
+                    show(history, self.seed, &difference);
+                }
+                false
+            }
+        }
+    }
+
+    /// The others must give the twin's answer and leave the twin's words, refused or not.
+    fn judge_others(
+        &self,
+        history: &History,
+        settings: &Settings,
+        reading: u64,
+        call: Call,
+        answer: Answer,
+    ) -> Result<(), Difference> {
+        for other in &self.others {
+            let mut rooms = history.before.clone();
+            let mut row = history.row_before.clone();
+            let told = other.call(settings, &mut rooms, reading, call, &mut row);
+            if told != answer || rooms != history.rooms || row != history.row {
+                let (name, place) = (other.name(), first_other_word(&history.rooms, &rooms));
+                return Err(Difference(format!("{name} answers {told:?}; {place}, row {row:?}")));
+            }
+        }
+        Ok(())
+    }
+
+    /// Whether the call is refused, as it must be; a refusal leaves rooms and row.
+    fn judge_refusal(
+        &mut self,
+        history: &History,
+        wanted: Expected,
+        answer: Answer,
+    ) -> Result<bool, Difference> {
+        let refusal = if let Answer::Refused(number) = answer { number } else { 0 };
+        if refusal != wanted.refusal {
+            return Err(Difference(format!("refusal {} expected", wanted.refusal)));
+        }
+        if refusal == 0 {
+            return Ok(false);
+        }
+        self.refused += 1;
+        if history.rooms != history.before || history.row != history.row_before {
+            return Err(Difference("a refusal changes words".into()));
+        }
+        Ok(true)
+    }
+
+    /// The twin against the original; false where 01 ends the comparison.
+    fn judge(
+        &mut self,
+        history: &mut History,
+        wanted: Expected,
+        reading: u64,
+        call: Call,
+        answer: Answer,
+    ) -> Result<bool, Difference> {
+        if !words::are_right(&history.before, &history.rooms, reading, call) {
+            return Err(Difference(format!(
+                "words that the call does not write: {:?}",
+                history.rooms
+            )));
+        }
+        let is_absolute_cleanup =
+            matches!(call.op, Op::CleanupBoth { .. } | Op::Cleanup { kind: Kind::Absolute, .. });
+        if history.leaves_expired_out && is_absolute_cleanup {
+            return Ok(false);
+        }
+        if wanted.takes_out {
+            if history.settings.bucket > 1000 * history.settings.window {
+                return Ok(false);
+            }
+            history.leaves_expired_out = true;
+        }
+        self.calls += 1;
+        judge_by_original(history, reading, call, answer)?;
+        let Some(record) = &mut self.record else {
+            return Ok(true);
+        };
+        // The sample holds no call whose states differ in expired buckets.
+        if history.leaves_expired_out {
+            return Ok(false);
+        }
+        let kind = kind(&call.op);
+        record.push_str(&sample::call_line(&history.original, kind, reading, call, answer));
+        Ok(true)
+    }
+}
+
+/// The first word in which two pairs of rooms differ.
+fn first_other_word(twin: &Rooms, other: &Rooms) -> String {
+    for kind in [Kind::Absolute, Kind::Suppressed] {
+        let (twin, other) = (twin.of(kind), other.of(kind));
+        if let Some(at) = twin.iter().zip(other).position(|(a, b)| a != b) {
+            return format!("{kind:?} word {at} is {} and should be {}", other[at], twin[at]);
+        }
+    }
+    "all words are right".to_string()
+}
+
+fn judge_by_original(
+    history: &mut History,
+    reading: u64,
+    call: Call,
+    answer: Answer,
+) -> Result<(), Difference> {
+    let mut row = history.row_before.clone();
+    let told = history.original.call(reading, call, &mut row);
+    let is_read_out = matches!(call.op, Op::ReadOut { .. });
+    let skips = is_read_out && history.leaves_expired_out && kind(&call.op) == Kind::Absolute;
+    if !skips && (told != answer || row != history.row) {
+        return Err(Difference(format!("the original answers {told:?}")));
+    }
+    for kind in [Kind::Absolute, Kind::Suppressed] {
+        if !history.agrees(kind) {
+            return Err(Difference(format!("states (original, room): {:?}", history.states)));
+        }
+    }
+    if history.leaves_expired_out {
+        // Once the states are the same to the bucket again, nothing is left out any more.
+        history.leaves_expired_out = false;
+        history.leaves_expired_out = !history.agrees(Kind::Absolute);
+    }
+    Ok(())
+}
+
+fn show(history: &History, seed: Option<u64>, difference: &Difference) {
+    let (slots, ring) = (history.rooms.absolute[0], history.rooms.absolute[1]);
+    eprintln!("differs: {}", difference.0);
+    eprintln!("  {:?}, slots {slots}, ring {ring}", history.settings);
+    if let Some(seed) = seed {
+        eprintln!("  run it alone: judge history {seed}");
+    }
+    for given in &history.given {
+        let Given { settings, reading, call, answer } = given;
+        let note = if *settings == history.settings { "" } else { " (other settings)" };
+        eprintln!("  t={reading} key={:?} {:?}{note} -> {answer:?}", call.key, call.op);
+    }
+}

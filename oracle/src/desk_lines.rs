@@ -1,0 +1,115 @@
+//! Input for desk programs: good lines at the boundaries, and damaged ones.
+
+use crate::random::Dice;
+
+const TOP: u64 = 1 << 53;
+
+fn settings_line(dice: &mut Dice) -> String {
+    let window = dice.pick(&[1, 1, 2, 10, 10, 10, 60, 33_554_432]);
+    let bucket = dice.pick(&[1, 10, 100, 100, 1000, 2000, 4_294_967_296u64]);
+    let factor = dice.pick(&[1, 1, 2, 2, 3, 4, 1000, TOP]);
+    let cache = dice.pick(&[1, 10, 100, 100, 1000, 4_294_967_296u64]);
+    let line = format!("window={window} bucket={bucket} factor={factor} cache={cache}");
+    match dice.below(40) {
+        0 => line.replace("window=1", "window=0"),
+        1 => line.replace("bucket=1", "bucket=0"),
+        2 => line.replace("factor=1", "factor=0"),
+        3 => line.replace("cache=1", "cache=0"),
+        4 => line.replace(&format!("window={window}"), "window=33554433"),
+        5 => line.replace(&format!("factor={factor}"), &format!("factor={}", TOP + 1)),
+        _ => line,
+    }
+}
+
+fn number(dice: &mut Dice, usual: u64) -> String {
+    if !dice.once_in(60) {
+        return usual.to_string();
+    }
+    let most = u128::from(u64::MAX);
+    let odd = [
+        "0".to_string(),
+        TOP.to_string(),
+        (TOP - 1).to_string(),
+        (TOP + 1).to_string(),
+        most.to_string(),
+        (most + 1).to_string(),
+        (most * 10 + 9).to_string(),
+        format!("0{usual}"),
+        "00".to_string(),
+        String::new(),
+        format!("+{usual}"),
+        format!("{usual}a"),
+    ];
+    odd[dice.below(odd.len() as u64) as usize].clone()
+}
+
+fn key(dice: &mut Dice, most_keys: u64) -> String {
+    match dice.below(60) {
+        0 => String::new(),
+        1 => "k".repeat(32),
+        2 => "k".repeat(33),
+        3 => "0".to_string(),
+        4 => "K".to_string(),
+        5 => "a=b".to_string(),
+        _ => char::from(b'a' + dice.below(most_keys) as u8).to_string(),
+    }
+}
+
+fn call_line(dice: &mut Dice, now: &mut u64, most_keys: u64) -> String {
+    let rises = [0, 0, 1, 2, 10, 50, 99, 100, 101, 500, 999, 1000, 1001, 9999, 10_000, 10_001];
+    // With one key the reading mostly rises little, so that a ring can fill.
+    let is_long = most_keys > 1 || dice.once_in(100);
+    *now += dice.pick(if is_long { &rises } else { &rises[..9] });
+    let t = match dice.below(50) {
+        0 => now.saturating_sub(1),
+        _ => *now,
+    };
+    let op = dice.pick(&["ainc", "ainc", "sinc", "sinc", "sinc", "aget", "sget"]);
+    let op = if dice.once_in(100) { dice.pick(&["inc", "", "aincx", "SINC"]) } else { op };
+    let rate = dice.pick(&[1, 3, 3, 6, 60, 60, 120, 600, 600, 0, TOP]);
+    let count = dice.pick(&[0, 1, 1, 2, 3, 5, 8, 10, 20, 60]);
+    let draw = dice.pick(&[0, 0, TOP - 1, TOP / 2, TOP / 2 - 1, TOP / 3]);
+    let t = if dice.once_in(10) { number(dice, t) } else { t.to_string() };
+    let key = key(dice, most_keys);
+    let (rate, count, draw) = (number(dice, rate), number(dice, count), number(dice, draw));
+    format!("t={t} op={op} key={key} rate={rate} n={count} draw={draw}")
+}
+
+/// One byte gone, doubled, changed or put in.
+fn damaged(dice: &mut Dice, line: String) -> Vec<u8> {
+    let mut bytes = line.into_bytes();
+    if bytes.is_empty() || !dice.once_in(30) {
+        return bytes;
+    }
+    let at = dice.below(bytes.len() as u64) as usize;
+    let other = dice.pick(b" =azAZ09\r\t\0-.\x7f\xff/:`{");
+    match dice.below(5) {
+        0 => drop(bytes.remove(at)),
+        1 => bytes.insert(at, bytes[at]),
+        2 => bytes[at] = other,
+        3 => bytes.insert(at, other),
+        _ => bytes.truncate(at),
+    }
+    bytes
+}
+
+/// A whole input of so many call lines.
+pub fn input(lines: u64, seed: u64) -> Vec<u8> {
+    let mut dice = Dice::new(seed);
+    if dice.once_in(50) {
+        return Vec::new();
+    }
+    let mut now = dice.pick(&[0, 0, 0, 5, u64::MAX - 40_000_000]);
+    let most_keys = dice.pick(&[1, 2, 5, 10]);
+    let settings = settings_line(&mut dice);
+    let mut input = damaged(&mut dice, settings);
+    for _ in 0..lines {
+        let line = call_line(&mut dice, &mut now, most_keys);
+        input.push(b'\n');
+        input.extend(damaged(&mut dice, line));
+    }
+    if !dice.once_in(3) {
+        input.push(b'\n');
+    }
+    input
+}

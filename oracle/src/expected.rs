@@ -1,0 +1,295 @@
+//! Which refusal a call must meet, read from document 01 on lists of buckets.
+
+use twin::calls::{Call, Op, Rooms};
+use twin::room::{Bucket, find, last_reading, slot, slots};
+use twin::rules::{Kind, Settings};
+
+use crate::original::Series;
+use crate::state::of_key;
+
+const TOP: u64 = 1 << 53;
+
+/// The refusal (0 for none), and whether an absolute increment must take expired buckets out to avoid one.
+#[derive(Clone, Copy, Debug, Default, PartialEq, Eq)]
+pub struct Expected {
+    pub refusal: u64,
+    pub takes_out: bool,
+}
+
+/// The call and what it meets.
+struct Met<'a> {
+    settings: &'a Settings,
+    room: &'a [u64],
+    reading: u64,
+    key: &'a [u8],
+    series: Option<Series>,
+    cached: Option<(u64, u64)>,
+}
+
+fn sum(buckets: &[Bucket]) -> u64 {
+    buckets.iter().map(|bucket| bucket.count).sum()
+}
+
+impl Met<'_> {
+    fn age(&self, time: u64) -> u64 {
+        self.reading - time
+    }
+
+    fn live(&self, buckets: &[Bucket]) -> Vec<Bucket> {
+        let window = 1000 * self.settings.window;
+        buckets.iter().filter(|bucket| self.age(bucket.time) <= window).copied().collect()
+    }
+
+    /// 10 or 12 for a count that goes to these buckets, or 0.
+    fn full(&self, buckets: &[Bucket], count: u64) -> u64 {
+        let ring = self.room[1] as usize;
+        if u128::from(sum(buckets)) + u128::from(count) > u128::from(TOP) {
+            return 10;
+        }
+        let joins = buckets.last().is_some_and(|b| self.age(b.time) <= self.settings.bucket);
+        if !joins && buckets.len() == ring { 12 } else { 0 }
+    }
+
+    /// 11 where a slot is needed and none is free.
+    fn no_slot(&self) -> u64 {
+        let full = (0..slots(self.room)).all(|at| slot(self.room, at).in_use());
+        if find(self.room, self.key).is_none() && full { 11 } else { 0 }
+    }
+
+    fn new_series(&self, count: u64) -> u64 {
+        if count > TOP { 10 } else { self.no_slot() }
+    }
+
+    fn absolute_inc(&self, count: u64) -> Expected {
+        let Some(series) = &self.series else {
+            return Expected { refusal: self.new_series(count), takes_out: false };
+        };
+        let limit = f64::from_bits(series.limit) as u64;
+        let live = self.live(&series.buckets);
+        let is_below = sum(&series.buckets) < limit;
+        if !is_below && sum(&live) >= limit {
+            return Expected::default();
+        }
+        let held = if is_below { &series.buckets } else { &live };
+        let takes_out = self.full(held, count) != 0;
+        let refusal = if takes_out { self.full(&live, count) } else { 0 };
+        Expected { refusal, takes_out: takes_out && refusal == 0 }
+    }
+
+    /// 13 exactly at S = 0, H at least 1, some bucket, total 0, where a factor is worked out.
+    fn no_factor(&self) -> u64 {
+        let Some(series) = &self.series else {
+            return 0;
+        };
+        let live = self.live(&series.buckets);
+        let hard = f64::from_bits(series.limit);
+        let evicts = live.len() < series.buckets.len();
+        let uses_cached =
+            !evicts && self.cached.is_some_and(|(_, time)| self.age(time) < self.settings.cache);
+        let soft = (hard / self.settings.factor) as u64;
+        let at_zero = soft == 0 && hard as u64 >= 1 && !live.is_empty() && sum(&live) == 0;
+        if at_zero && !uses_cached { 13 } else { 0 }
+    }
+
+    fn suppressed_inc(&self, count: u64) -> u64 {
+        let Some(series) = &self.series else {
+            return self.new_series(count);
+        };
+        let live = self.live(&series.buckets);
+        let full = self.full(&live, count);
+        if full != 0 {
+            return full;
+        }
+        let hard = f64::from_bits(series.limit);
+        let declined: u64 = live.iter().map(|bucket| bucket.declined).sum();
+        let forecast = sum(&live) - declined + count;
+        let asks = forecast > (hard / self.settings.factor) as u64 && forecast < hard as u64;
+        if asks { self.no_factor() } else { 0 }
+    }
+}
+
+/// The first of 1 to 4, or 0.
+pub fn settings_fault(settings: &Settings) -> u64 {
+    let Settings { window, bucket, cache, factor } = *settings;
+    match () {
+        _ if window == 0 || window > 1 << 25 => 1,
+        _ if bucket == 0 || bucket > 1 << 32 => 2,
+        _ if cache == 0 || cache > 1 << 32 => 3,
+        _ if factor.is_nan() || factor.is_infinite() || factor < 1.0 => 4,
+        _ => 0,
+    }
+}
+
+fn is_bad_rate(rate: f64) -> bool {
+    rate.is_nan() || rate.is_infinite() || rate < 2f64.powi(-900)
+}
+
+const HEADER: usize = 3;
+const ENTRY: usize = 6;
+
+/// Whether the lengths are right.
+fn is_sized(room: &[u64]) -> bool {
+    let [slots, ring, _, ..] = room else {
+        return false;
+    };
+    let is_small = (1..=64).contains(slots) && (1..=512).contains(ring);
+    is_small && room.len() as u64 == 3 + slots * (6 + 7 + 3 * ring)
+}
+
+/// A directory entry's 32 bytes.
+fn key_bytes(entry: &[u64]) -> Vec<u8> {
+    entry[2..6].iter().flat_map(|word| word.to_le_bytes()).collect()
+}
+
+fn entry(room: &[u64], at: usize) -> &[u64] {
+    &room[HEADER + ENTRY * at..][..ENTRY]
+}
+
+/// Whether a series' words are sound.
+fn is_sound_series(kind: Kind, settings: &Settings, body: &[u64], ring: u64, last: u64) -> bool {
+    let [limit, total, declined, head, buckets] = body[..5] else {
+        return false;
+    };
+    if head >= ring || buckets > ring {
+        return false;
+    }
+    let cells: Vec<&[u64]> =
+        (head..head + buckets).map(|at| &body[7 + 3 * (at % ring) as usize..][..3]).collect();
+    let sum = |part: usize| cells.iter().map(|cell| u128::from(cell[part])).sum::<u128>();
+    let factor = if kind == Kind::Absolute { 1.0 } else { settings.factor };
+    let per_second = f64::from_bits(limit) / settings.window as f64 / factor;
+    let declines = |cell: &&[u64]| match kind {
+        Kind::Absolute => cell[1] == 0,
+        Kind::Suppressed => cell[1] <= cell[0],
+    };
+    cells.windows(2).all(|pair| pair[0][2] <= pair[1][2])
+        && cells.iter().all(|cell| cell[2] <= last)
+        && cells.iter().all(declines)
+        && sum(0) == u128::from(total)
+        && sum(1) == u128::from(declined)
+        && total <= TOP
+        && per_second.partial_cmp(&0.0) == Some(std::cmp::Ordering::Greater)
+}
+
+/// Whether a slot in use is sound.
+fn is_sound(kind: Kind, settings: &Settings, room: &[u64], at: usize) -> bool {
+    let (slots, ring, last) = (room[0] as usize, room[1], room[2]);
+    let size = 7 + 3 * ring as usize;
+    let entry = entry(room, at);
+    let body = &room[HEADER + ENTRY * slots + at * size..][..size];
+    let (uses, length) = (entry[0], entry[1]);
+    let is_known_use = if kind == Kind::Absolute { uses == 1 } else { (1..=3).contains(&uses) };
+    let is_key = length <= 32 && key_bytes(entry)[length as usize..].iter().all(|byte| *byte == 0);
+    if !is_known_use || !is_key {
+        return false;
+    }
+    let factor = f64::from_bits(body[5]);
+    let is_factor = factor.is_sign_positive() && (0.0..=1.0).contains(&factor) && body[6] <= last;
+    (uses & 1 == 0 || is_sound_series(kind, settings, body, ring, last))
+        && (uses & 2 == 0 || is_factor)
+}
+
+/// Whether a call meets 5 in this room.
+fn is_unsound(settings: &Settings, kind: Kind, room: &[u64], call: Call) -> bool {
+    if !is_sized(room) {
+        return true;
+    }
+    let in_use = |at: &usize| entry(room, *at)[0] != 0;
+    let slots = 0..room[0] as usize;
+    let sound = |at: usize| is_sound(kind, settings, room, at);
+    if matches!(call.op, Op::Clear { .. }) {
+        return false;
+    }
+    if !has_key(&call.op) {
+        return !slots.filter(in_use).all(sound);
+    }
+    let has_key = |at: &usize| {
+        let entry = entry(room, *at);
+        let bytes = key_bytes(entry);
+        let (own, rest) = bytes.split_at(call.key.len().min(32));
+        entry[1] == call.key.len() as u64 && own == call.key && rest.iter().all(|byte| *byte == 0)
+    };
+    slots.filter(in_use).find(has_key).is_some_and(|at| !sound(at))
+}
+
+/// The rate a call gives, if it gives one.
+fn rate(op: &Op) -> Option<f64> {
+    match op {
+        Op::AbsoluteInc { rate, .. }
+        | Op::SuppressedInc { rate, .. }
+        | Op::SetRateLimit { rate, .. } => Some(*rate),
+        Op::Set { wanted, .. } => Some(wanted.rate),
+        _ => None,
+    }
+}
+
+/// The room a call with a key concerns.
+pub fn kind(op: &Op) -> Kind {
+    match op {
+        Op::AbsoluteInc { .. } | Op::IsAllowed | Op::AbsoluteGet | Op::CleanupBoth { .. } => {
+            Kind::Absolute
+        }
+        Op::SuppressedInc { .. } | Op::SuppressedGet | Op::GetSuppressionFactor => Kind::Suppressed,
+        Op::SetRateLimit { kind, .. }
+        | Op::Delete { kind }
+        | Op::Clear { kind }
+        | Op::Set { kind, .. }
+        | Op::Cleanup { kind, .. }
+        | Op::ReadOut { kind } => *kind,
+    }
+}
+
+/// Whether a call names a key.
+pub fn has_key(op: &Op) -> bool {
+    !matches!(op, Op::Clear { .. } | Op::Cleanup { .. } | Op::CleanupBoth { .. })
+}
+
+pub fn expected(settings: &Settings, rooms: &Rooms, reading: u64, call: Call) -> Expected {
+    let refused = |refusal| Expected { refusal, takes_out: false };
+    let fault = settings_fault(settings);
+    if fault != 0 {
+        return refused(fault);
+    }
+    let room = rooms.of(kind(&call.op));
+    let is_both = matches!(call.op, Op::CleanupBoth { .. });
+    if is_unsound(settings, kind(&call.op), room, call)
+        || (is_both && is_unsound(settings, Kind::Suppressed, &rooms.suppressed, call))
+    {
+        return refused(5);
+    }
+    let is_read_out = matches!(call.op, Op::ReadOut { .. });
+    let mut last = last_reading(room);
+    if is_both {
+        last = last.max(last_reading(&rooms.suppressed));
+    }
+    if reading < last && !is_read_out {
+        return refused(6);
+    }
+    if has_key(&call.op) && call.key.len() > 32 {
+        return refused(7);
+    }
+    if rate(&call.op).is_some_and(is_bad_rate) {
+        return refused(8);
+    }
+    if !has_key(&call.op) {
+        return Expected::default();
+    }
+    let (series, cached) = of_key(room, call.key);
+    let met = Met { settings, room, reading, key: call.key, series, cached };
+    match call.op {
+        Op::AbsoluteInc { count, .. } => met.absolute_inc(count),
+        Op::SuppressedInc { draw, .. } if draw >= TOP => refused(9),
+        Op::SuppressedInc { count, .. } => refused(met.suppressed_inc(count)),
+        Op::SuppressedGet => refused(met.no_factor()),
+        Op::GetSuppressionFactor => refused(met.no_slot().max(met.no_factor())),
+        Op::Set { wanted, .. } => {
+            let is_new = met.series.is_none() && wanted.comparator.matches(0) && wanted.count > 0;
+            refused(match wanted.count {
+                count if count > TOP => 10,
+                _ if is_new => met.no_slot(),
+                _ => 0,
+            })
+        }
+        _ => Expected::default(),
+    }
+}

@@ -1,0 +1,229 @@
+//! Rooms that no short history leads to: any sound words, and damaged ones.
+
+use twin::calls::Rooms;
+use twin::room::words_of;
+use twin::rules::{Kind, Settings};
+
+use crate::random::{Dice, rate};
+use crate::state::Key;
+
+const TOP: u64 = 1 << 53;
+const HEADER: usize = 3;
+const ENTRY: usize = 6;
+
+/// Offsets of a room's parts.
+struct Places {
+    slots: usize,
+    ring: usize,
+}
+
+impl Places {
+    fn entry(&self, at: usize) -> usize {
+        HEADER + ENTRY * at
+    }
+
+    fn size(&self) -> usize {
+        7 + 3 * self.ring
+    }
+
+    fn body(&self, at: usize) -> usize {
+        HEADER + ENTRY * self.slots + at * self.size()
+    }
+}
+
+/// Times that do not fall, the newest at most `last`, with ages at the boundaries.
+fn times(dice: &mut Dice, settings: &Settings, last: u64, many: usize) -> Vec<u64> {
+    let window = 1000 * settings.window;
+    let mut times: Vec<u64> = (0..many)
+        .map(|_| {
+            let edges =
+                [0, 1, settings.bucket, settings.bucket + 1, 1000, 1001, window, window + 1];
+            let age = match dice.below(3) {
+                0 => dice.pick(&edges),
+                1 => dice.below(window + 2),
+                _ => dice.below(2 * window),
+            };
+            last.saturating_sub(age)
+        })
+        .collect();
+    times.sort_unstable();
+    times
+}
+
+/// Counts whose sum is at most 2^53.
+fn counts(dice: &mut Dice, many: usize) -> Vec<u64> {
+    let is_huge = dice.once_in(8);
+    let mut left = TOP;
+    let mut counts = Vec::new();
+    for _ in 0..many {
+        let count = match dice.below(4) {
+            0 => dice.below(2),
+            1 if is_huge => dice.pick(&[left, left / 2, left.saturating_sub(1)]),
+            2 if is_huge => dice.below(left + 1),
+            _ => dice.below(20),
+        };
+        counts.push(count.min(left));
+        left -= count.min(left);
+    }
+    counts
+}
+
+fn fill_series(
+    dice: &mut Dice,
+    kind: Kind,
+    settings: &Settings,
+    body: &mut [u64],
+    ring: usize,
+    last: u64,
+) {
+    let many = dice.below(ring as u64 + 1) as usize;
+    let head = dice.below(ring as u64) as usize;
+    let times = times(dice, settings, last, many);
+    let counts = counts(dice, many);
+    let (mut total, mut declined_total) = (0, 0);
+    for index in 0..many {
+        let count = counts[index];
+        let declined = match kind {
+            Kind::Absolute => 0,
+            Kind::Suppressed if dice.once_in(2) => dice.pick(&[0, 0, count]),
+            Kind::Suppressed => dice.below(count + 1),
+        };
+        let at = 7 + 3 * ((head + index) % ring);
+        body[at..at + 3].copy_from_slice(&[count, declined, times[index]]);
+        total += count;
+        declined_total += declined;
+    }
+    let limit = match dice.below(4) {
+        0 => dice.pick(&[f64::INFINITY, f64::MAX, 0.5, 1.0, total as f64, total as f64 + 1.0]),
+        1 => (total as f64) * settings.factor,
+        _ => settings.limit(kind, rate(dice, settings)),
+    };
+    let limit = if settings.is_limit(kind, limit) { limit } else { f64::INFINITY };
+    body[..5].copy_from_slice(&[limit.to_bits(), total, declined_total, head as u64, many as u64]);
+}
+
+fn packed(key: &[u8]) -> [u64; 5] {
+    let mut bytes = [0u8; 32];
+    bytes[..key.len()].copy_from_slice(key);
+    let word =
+        |at: usize| u64::from_le_bytes(bytes[8 * at..8 * at + 8].try_into().expect("8 bytes"));
+    [key.len() as u64, word(0), word(1), word(2), word(3)]
+}
+
+fn sound_room(
+    dice: &mut Dice,
+    kind: Kind,
+    settings: &Settings,
+    places: &Places,
+    keys: &[Key],
+    last: u64,
+) -> Vec<u64> {
+    // Words that mean nothing are anything.
+    let mut room: Vec<u64> = (0..words_of(places.slots, places.ring))
+        .map(|_| if dice.once_in(2) { dice.any() } else { dice.below(4) })
+        .collect();
+    room[..3].copy_from_slice(&[places.slots as u64, places.ring as u64, last]);
+    let mut unused: Vec<&Key> = keys.iter().collect();
+    for at in 0..places.slots {
+        let entry = places.entry(at);
+        let key = unused.remove(dice.below(unused.len() as u64) as usize);
+        room[entry] = match kind {
+            Kind::Absolute => dice.below(2),
+            Kind::Suppressed => dice.below(4),
+        };
+        room[entry + 1..entry + 6].copy_from_slice(&packed(&key.bytes));
+        let (uses, body) = (room[entry], places.body(at));
+        let body = &mut room[body..][..places.size()];
+        if uses & 1 != 0 {
+            fill_series(dice, kind, settings, body, places.ring, last);
+        }
+        if uses & 2 != 0 {
+            let factor = dice.pick(&[
+                0.0,
+                1.0,
+                0.5,
+                0.25,
+                5e-324,
+                1e-16,
+                1.0 - f64::EPSILON / 2.0,
+                1.0 / 3.0,
+            ]);
+            let edges = [0, settings.cache - 1, settings.cache, 1];
+            body[5] = factor.to_bits();
+            body[6] = last.saturating_sub(dice.pick(&edges));
+        }
+        // A free slot's key may be in play elsewhere.
+        if uses == 0 {
+            unused.push(key);
+        }
+    }
+    room
+}
+
+/// Two sound rooms with anything in the words that hold nothing.
+pub fn sound_rooms(
+    dice: &mut Dice,
+    settings: &Settings,
+    slots: usize,
+    ring: usize,
+    keys: &[Key],
+    last: u64,
+) -> Rooms {
+    let places = Places { slots, ring };
+    Rooms {
+        absolute: sound_room(dice, Kind::Absolute, settings, &places, keys, last),
+        suppressed: sound_room(dice, Kind::Suppressed, settings, &places, keys, last),
+    }
+}
+
+/// One word changed to a value at some boundary, or one word more or less.
+pub fn damage(dice: &mut Dice, room: &mut Vec<u64>) {
+    if dice.once_in(40) {
+        match dice.below(4) {
+            0 => room.truncate(dice.below(4) as usize),
+            1 => room.push(0),
+            2 => drop(room.pop()),
+            _ => room.clear(),
+        }
+        return;
+    }
+    let places = Places { slots: room[0] as usize, ring: room[1] as usize };
+    let slot = dice.below(room[0]) as usize;
+    let at = match dice.below(10) {
+        0 => dice.below(3) as usize,
+        1 | 2 => places.entry(slot) + dice.below(6) as usize,
+        3..=6 => places.body(slot) + dice.below(7) as usize,
+        _ => places.body(slot) + 7 + dice.below(3 * places.ring as u64) as usize,
+    };
+    let old = room[at];
+    let one = 1f64.to_bits();
+    room[at] = match dice.below(8) {
+        0 => old.wrapping_add(1),
+        1 => old.wrapping_sub(1),
+        2 => dice.pick(&[0, 1, 2, 3, 4, 5]),
+        3 => dice.pick(&[
+            32,
+            33,
+            64,
+            65,
+            512,
+            513,
+            room[1],
+            room[1] - 1,
+            room[1] + 1,
+            room[2],
+            room[2].wrapping_add(1),
+        ]),
+        4 => dice.pick(&[u64::MAX, TOP, TOP + 1, 1 << 63]),
+        5 => dice.pick(&[
+            one,
+            one + 1,
+            f64::NAN.to_bits(),
+            f64::INFINITY.to_bits(),
+            (-0.0f64).to_bits(),
+            (-1.0f64).to_bits(),
+        ]),
+        6 => old ^ (1 << dice.below(64)),
+        _ => dice.any(),
+    };
+}

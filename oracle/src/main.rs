@@ -1,0 +1,90 @@
+//! The judge: the original source, unchanged, beside every implementation over lent rooms.
+//! The original's files are modules of this crate, so that its private state can be read.
+
+extern crate std_shim as std;
+
+#[allow(dead_code)]
+#[path = "../target/original/builder.rs"]
+mod builder;
+#[allow(dead_code)]
+#[path = "../target/original/common.rs"]
+mod common;
+#[allow(dead_code)]
+#[path = "../target/original/error.rs"]
+mod error;
+
+#[allow(dead_code)]
+mod local;
+
+pub(crate) use builder::RateLimiterBuilder;
+pub(crate) use common::{
+    BucketSize, ConditionalSetOutcome, HardLimitFactor, HistoryPreservation, RateLimit,
+    RateLimitComparator, RateLimitDecision, SuppressedRateLimitSnapshot,
+    SuppressionFactorCachePeriod, WindowSize,
+};
+pub(crate) use error::TrypemaError;
+
+mod all_short;
+mod compare;
+mod desk_check;
+mod desk_lines;
+mod expected;
+mod loaded;
+mod original;
+mod random;
+mod sample;
+mod state;
+mod units_check;
+mod words;
+
+use std::io::Write;
+
+use compare::Comparison;
+use twin::calls::Limiters;
+
+/// What the arguments ask for.
+fn main() {
+    let arguments: Vec<String> = std::env::args().skip(1).collect();
+    let words: Vec<&str> = arguments.iter().map(String::as_str).collect();
+    let number = |text: &str| text.parse::<u64>().expect("a whole number");
+    match words[..] {
+        ["sample", calls, seed] => sample::print(number(calls), number(seed)),
+        ["desk", lines, seed] => {
+            let input = desk_lines::input(number(lines), number(seed));
+            std::io::stdout().write_all(&input).expect("standard output");
+        }
+        ["history", seed] => {
+            let mut comparison = Comparison::new(others());
+            random::run_one(&mut comparison, number(seed));
+            println!("{comparison}");
+        }
+        [calls, seed] => compare(number(calls), number(seed), Comparison::new(others())),
+        [calls, seed, "tally"] => {
+            let tally = Some(Default::default());
+            compare(number(calls), number(seed), Comparison { tally, ..Comparison::new(others()) });
+        }
+        [calls, seed, "first"] => {
+            let first = Comparison { most_differing: 1, ..Comparison::new(others()) };
+            compare(number(calls), number(seed), first);
+        }
+        _ => panic!(
+            "CALLS SEED [tally | first], history SEED, sample CALLS SEED, or desk LINES SEED"
+        ),
+    }
+}
+
+/// Implementations over rooms that must agree with the twin to the word.
+fn others() -> Vec<Box<dyn Limiters>> {
+    vec![]
+}
+
+/// Desk inputs, random histories and all short ones, and units; one line.
+fn compare(calls: u64, seed: u64, mut comparison: Comparison) {
+    desk_check::run(&mut comparison, calls / 10_000, seed);
+    random::run(&mut comparison, calls, seed);
+    all_short::run(&mut comparison);
+    units_check::run(&mut comparison);
+    comparison.show_tally();
+    println!("{comparison}");
+    std::process::exit(i32::from(comparison.differed > 0));
+}

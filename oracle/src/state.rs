@@ -1,0 +1,104 @@
+//! A limiter's whole state as one list of numbers, from the original and from a room's words.
+
+use twin::room::{Bucket, find, slot, slots};
+use twin::rules::{Kind, Settings};
+
+use crate::original::{Original, Series};
+
+/// A key as bytes, for rooms, and as a text, for the original.
+#[derive(Clone, Debug)]
+pub struct Key {
+    pub bytes: Vec<u8>,
+    pub text: String,
+}
+
+impl Key {
+    pub fn new(bytes: &[u8]) -> Self {
+        Key { bytes: bytes.to_vec(), text: crate::original::text(bytes) }
+    }
+}
+
+/// Leaves out the buckets that are expired at a reading.
+#[derive(Clone, Copy)]
+pub struct LiveAt<'a> {
+    pub settings: &'a Settings,
+    pub reading: u64,
+}
+
+impl LiveAt<'_> {
+    fn keeps(&self, bucket: &Bucket) -> bool {
+        !self.settings.expired(self.reading - bucket.time)
+    }
+}
+
+fn put_series(series: Series, live: Option<LiveAt>, out: &mut Vec<u64>) {
+    let Series { limit, total, declined, buckets } = series;
+    let gone = |bucket: &&Bucket| live.is_some_and(|live| !live.keeps(bucket));
+    let expired: u64 = buckets.iter().filter(gone).map(|bucket| bucket.count).sum();
+    out.extend([limit, total - expired, declined]);
+    for bucket in buckets.iter().filter(|bucket| !gone(bucket)) {
+        out.extend([bucket.count, bucket.declined, bucket.time]);
+    }
+}
+
+/// One key: a mark for series and factor, then what they hold.
+fn put_key(
+    series: Option<Series>,
+    cached: Option<(u64, u64)>,
+    live: Option<LiveAt>,
+    out: &mut Vec<u64>,
+) {
+    out.push(u64::from(series.is_some()) + 2 * u64::from(cached.is_some()));
+    if let Some((factor, time)) = cached {
+        out.extend([factor, time]);
+    }
+    if let Some(series) = series {
+        put_series(series, live, out);
+    }
+}
+
+/// The original's state over the keys in play, and that it holds no others.
+pub fn of_original(
+    original: &Original,
+    kind: Kind,
+    keys: &[Key],
+    live: Option<LiveAt>,
+    out: &mut Vec<u64>,
+) {
+    out.clear();
+    for key in keys {
+        let cached = if kind == Kind::Suppressed { original.cached(&key.text) } else { None };
+        put_key(original.series(kind, &key.text), cached, live, out);
+    }
+    let (series, factors) = original.sizes(kind);
+    out.extend([series as u64, factors as u64]);
+}
+
+/// What a room holds for a key, as plain values.
+pub fn of_key(room: &[u64], key: &[u8]) -> (Option<Series>, Option<(u64, u64)>) {
+    let Some(at) = find(room, key) else {
+        return (None, None);
+    };
+    let slot = slot(room, at);
+    let series = slot.has_series().then(|| Series {
+        limit: slot.limit_bits(),
+        total: slot.total(),
+        declined: slot.declined(),
+        buckets: (0..slot.buckets()).map(|index| slot.bucket(index)).collect(),
+    });
+    let cached = slot.has_factor().then(|| (slot.factor_bits(), slot.factor_time()));
+    (series, cached)
+}
+
+/// A room's state over the keys in play, and that it holds no others.
+pub fn of_room(room: &[u64], keys: &[Key], live: Option<LiveAt>, out: &mut Vec<u64>) {
+    out.clear();
+    for key in keys {
+        let (series, cached) = of_key(room, &key.bytes);
+        put_key(series, cached, live, out);
+    }
+    let all = || (0..slots(room)).map(|at| slot(room, at)).filter(|slot| slot.in_use());
+    let series = all().filter(|slot| slot.has_series()).count();
+    let factors = all().filter(|slot| slot.has_factor()).count();
+    out.extend([series as u64, factors as u64]);
+}

@@ -1,0 +1,14 @@
+//! The two limiters as an ordinary Rust program over the same fixed rooms, written from document 01.
+//! WORDS.md says which words each call writes.
+
+pub mod absolute;
+pub mod calls;
+pub mod desk;
+pub mod provider;
+pub mod replay;
+pub mod room;
+pub mod rules;
+pub mod set;
+pub mod shared;
+pub mod suppressed;
+pub mod units;

@@ -1,0 +1,511 @@
+//! The lent room: where its words lie, how a slot is found and judged, and the changes of WORDS.md.
+
+use crate::rules::{Kind, Refusal, Settings, TOP, cut, refuse_if};
+
+const LAST: usize = 2;
+const HEADER: usize = 3;
+const ENTRY: usize = 6;
+const FIXED: usize = 7;
+const CELL: usize = 3;
+
+const USE: usize = 0;
+const LENGTH: usize = 1;
+const KEY: usize = 2;
+
+const LIMIT: usize = 0;
+const TOTAL: usize = 1;
+const DECLINED: usize = 2;
+const HEAD: usize = 3;
+const BUCKETS: usize = 4;
+const FACTOR: usize = 5;
+const FACTOR_TIME: usize = 6;
+
+const SERIES_BIT: u64 = 1;
+const FACTOR_BIT: u64 = 2;
+
+/// How many words a room of these lengths has.
+pub fn words_of(slots: usize, ring: usize) -> usize {
+    HEADER + slots * ENTRY + slots * (FIXED + CELL * ring)
+}
+
+/// An empty room, last reading 0.
+pub fn empty_room(slots: usize, ring: usize) -> Vec<u64> {
+    let mut room = vec![0; words_of(slots, ring)];
+    room[0] = slots as u64;
+    room[1] = ring as u64;
+    room
+}
+
+/// Whether the lengths are right.
+pub fn is_room(room: &[u64]) -> bool {
+    room.len() >= HEADER
+        && (1..=64).contains(&room[0])
+        && (1..=512).contains(&room[1])
+        && room.len() == words_of(room[0] as usize, room[1] as usize)
+}
+
+pub fn slots(room: &[u64]) -> usize {
+    room[0] as usize
+}
+
+fn ring(room: &[u64]) -> usize {
+    room[1] as usize
+}
+
+pub fn last_reading(room: &[u64]) -> u64 {
+    room[LAST]
+}
+
+/// The last change of every call that is not refused.
+pub fn store_reading(room: &mut [u64], reading: u64) {
+    room[LAST] = reading;
+}
+
+fn entry_start(slot: usize) -> usize {
+    HEADER + ENTRY * slot
+}
+
+fn body_start(room: &[u64], slot: usize) -> usize {
+    HEADER + ENTRY * slots(room) + slot * (FIXED + CELL * ring(room))
+}
+
+/// A key as the directory has it: length, then the bytes in four words.
+fn packed(key: &[u8]) -> [u64; 5] {
+    let mut words = [key.len() as u64, 0, 0, 0, 0];
+    for (at, byte) in key.iter().enumerate() {
+        words[1 + at / 8] |= u64::from(*byte) << (8 * (at % 8));
+    }
+    words
+}
+
+/// Whether a directory entry's length fits and its unused bytes are 0.
+fn is_packed(entry: &[u64]) -> bool {
+    let length = entry[LENGTH];
+    length <= 32
+        && (0..4).all(|word| {
+            let used = length.saturating_sub(8 * word).min(8);
+            used == 8 || entry[KEY + word as usize] >> (8 * used) == 0
+        })
+}
+
+/// The lowest slot in use with this key.
+pub fn find(room: &[u64], key: &[u8]) -> Option<usize> {
+    if key.len() > 32 {
+        return None;
+    }
+    let wanted = packed(key);
+    (0..slots(room)).find(|slot| {
+        let entry = &room[entry_start(*slot)..][..ENTRY];
+        entry[USE] != 0 && entry[LENGTH..] == wanted
+    })
+}
+
+/// The lowest free slot, or refusal 11.
+pub fn vacant(room: &[u64]) -> Result<usize, Refusal> {
+    (0..slots(room)).find(|slot| room[entry_start(*slot)] == 0).ok_or(Refusal(11))
+}
+
+/// One bucket of a ring.
+#[repr(C)]
+#[derive(Clone, Copy, Debug, Default, PartialEq, Eq)]
+pub struct Bucket {
+    pub count: u64,
+    pub declined: u64,
+    pub time: u64,
+}
+
+/// A slot's words, to read.
+#[derive(Clone, Copy)]
+pub struct Slot<'a> {
+    entry: &'a [u64],
+    body: &'a [u64],
+}
+
+pub fn slot(room: &[u64], at: usize) -> Slot<'_> {
+    Slot {
+        entry: &room[entry_start(at)..][..ENTRY],
+        body: &room[body_start(room, at)..][..FIXED + CELL * ring(room)],
+    }
+}
+
+/// Where cell `index` lies in a body.
+fn cell(index: usize) -> usize {
+    FIXED + CELL * index
+}
+
+fn wrap(index: u64, ring: u64) -> u64 {
+    if index < ring { index } else { index - ring }
+}
+
+impl<'a> Slot<'a> {
+    pub fn in_use(&self) -> bool {
+        self.entry[USE] != 0
+    }
+
+    pub fn has_series(&self) -> bool {
+        self.entry[USE] & SERIES_BIT != 0
+    }
+
+    pub fn has_factor(&self) -> bool {
+        self.entry[USE] & FACTOR_BIT != 0
+    }
+
+    /// The key's length and packed bytes.
+    pub fn key_words(&self) -> &'a [u64] {
+        &self.entry[LENGTH..]
+    }
+
+    pub fn limit_bits(&self) -> u64 {
+        self.body[LIMIT]
+    }
+
+    pub fn limit(&self) -> f64 {
+        f64::from_bits(self.limit_bits())
+    }
+
+    pub fn total(&self) -> u64 {
+        self.body[TOTAL]
+    }
+
+    pub fn declined(&self) -> u64 {
+        self.body[DECLINED]
+    }
+
+    pub fn buckets(&self) -> u64 {
+        self.body[BUCKETS]
+    }
+
+    pub fn factor_bits(&self) -> u64 {
+        self.body[FACTOR]
+    }
+
+    pub fn factor_time(&self) -> u64 {
+        self.body[FACTOR_TIME]
+    }
+
+    pub fn ring(&self) -> u64 {
+        ((self.body.len() - FIXED) / CELL) as u64
+    }
+
+    /// Where bucket `index`, oldest first, lies in the body.
+    fn place(&self, index: u64) -> usize {
+        cell(wrap(self.body[HEAD] + index, self.ring()) as usize)
+    }
+
+    pub fn bucket(&self, index: u64) -> Bucket {
+        let at = self.place(index);
+        Bucket { count: self.body[at], declined: self.body[at + 1], time: self.body[at + 2] }
+    }
+
+    /// The newest bucket once the oldest `gone` are out.
+    pub fn newest(&self, gone: u64) -> Option<Bucket> {
+        (self.buckets() > gone).then(|| self.bucket(self.buckets() - 1))
+    }
+
+    /// Whether an increment joins the newest bucket once the oldest `gone` are out.
+    pub fn joins(&self, gone: u64, reading: u64, bucket_ms: u64) -> bool {
+        self.newest(gone).is_some_and(|newest| reading - newest.time <= bucket_ms)
+    }
+
+    /// The cached factor, if there is one at age below `cache_ms`.
+    pub fn cached(&self, reading: u64, cache_ms: u64) -> Option<f64> {
+        (self.has_factor() && reading - self.factor_time() < cache_ms)
+            .then(|| f64::from_bits(self.factor_bits()))
+    }
+}
+
+/// What the one pass over a slot's buckets finds.
+#[derive(Clone, Copy, Debug, Default)]
+pub struct Scan {
+    /// The expired buckets, which are the oldest.
+    pub expired: Gone,
+    /// The counts at age at most 1000 ms.
+    pub last_second: u64,
+}
+
+/// The oldest buckets that go: how many, with their counts and declined counts.
+#[derive(Clone, Copy, Debug, Default)]
+pub struct Gone {
+    pub buckets: u64,
+    pub count: u64,
+    pub declined: u64,
+}
+
+/// The pass over the buckets, or none where the series is unsound.
+fn scan_series(
+    kind: Kind,
+    settings: &Settings,
+    slot: Slot,
+    last: u64,
+    reading: u64,
+) -> Option<Scan> {
+    if slot.body[HEAD] >= slot.ring() || slot.buckets() > slot.ring() {
+        return None;
+    }
+    if slot.total() > TOP || !settings.is_limit(kind, slot.limit()) {
+        return None;
+    }
+    let mut scan = Scan::default();
+    let (mut count, mut declined, mut time) = (0u64, 0u64, 0u64);
+    for index in 0..slot.buckets() {
+        let bucket = slot.bucket(index);
+        let most_declined = if kind == Kind::Absolute { 0 } else { bucket.count };
+        if bucket.time < time || bucket.time > last || bucket.declined > most_declined {
+            return None;
+        }
+        time = bucket.time;
+        count = count.checked_add(bucket.count)?;
+        declined += bucket.declined;
+        let age = reading.saturating_sub(bucket.time);
+        if settings.expired(age) {
+            scan.expired = Gone { buckets: index + 1, count, declined };
+        }
+        if age <= 1000 {
+            scan.last_second += bucket.count;
+        }
+    }
+    (count == slot.total() && declined == slot.declined()).then_some(scan)
+}
+
+/// The pass over a slot in use, or none where it is unsound.
+pub fn scan_slot(
+    kind: Kind,
+    settings: &Settings,
+    slot: Slot,
+    last: u64,
+    reading: u64,
+) -> Option<Scan> {
+    let most_use = if kind == Kind::Absolute { 1 } else { 3 };
+    if slot.entry[USE] > most_use || !is_packed(slot.entry) {
+        return None;
+    }
+    if slot.has_factor() && (slot.factor_bits() > 1f64.to_bits() || slot.factor_time() > last) {
+        return None;
+    }
+    if slot.has_series() {
+        scan_series(kind, settings, slot, last, reading)
+    } else {
+        Some(Scan::default())
+    }
+}
+
+/// The slot a call addresses, and what the pass over it found.
+#[derive(Clone, Copy, Debug)]
+pub struct Found {
+    pub slot: Option<usize>,
+    pub scan: Scan,
+}
+
+impl Found {
+    /// The slot, if its key has a series.
+    pub fn series(&self, room: &[u64]) -> Option<usize> {
+        self.slot.filter(|at| slot(room, *at).has_series())
+    }
+}
+
+/// Refusals 1 to 5 of a call with a key.
+pub fn judge_slot(
+    kind: Kind,
+    settings: &Settings,
+    room: &[u64],
+    reading: u64,
+    key: &[u8],
+) -> Result<Found, Refusal> {
+    settings.judge()?;
+    refuse_if(!is_room(room), 5)?;
+    let at = find(room, key);
+    let scan = match at {
+        Some(at) => scan_slot(kind, settings, slot(room, at), last_reading(room), reading)
+            .ok_or(Refusal(5))?,
+        None => Scan::default(),
+    };
+    Ok(Found { slot: at, scan })
+}
+
+/// Refusals 1 to 7 of a call with a key and a reading.
+pub fn judge(
+    kind: Kind,
+    settings: &Settings,
+    room: &[u64],
+    reading: u64,
+    key: &[u8],
+) -> Result<Found, Refusal> {
+    let found = judge_slot(kind, settings, room, reading, key)?;
+    refuse_if(reading < last_reading(room), 6)?;
+    judge_key(key)?;
+    Ok(found)
+}
+
+/// Refusal 7.
+pub fn judge_key(key: &[u8]) -> Result<(), Refusal> {
+    refuse_if(key.len() > 32, 7)
+}
+
+/// A slot's words, to change.
+pub struct SlotMut<'a> {
+    entry: &'a mut [u64],
+    body: &'a mut [u64],
+}
+
+pub fn slot_mut(room: &mut [u64], at: usize) -> SlotMut<'_> {
+    let body_length = FIXED + CELL * ring(room);
+    let start = body_start(room, at);
+    let (front, bodies) = room.split_at_mut(start);
+    SlotMut { entry: &mut front[entry_start(at)..][..ENTRY], body: &mut bodies[..body_length] }
+}
+
+impl SlotMut<'_> {
+    pub fn read(&self) -> Slot<'_> {
+        Slot { entry: self.entry, body: self.body }
+    }
+
+    pub fn free(&mut self) {
+        self.entry[USE] = 0;
+    }
+
+    /// A free slot gets its directory entry and fixed words; its cells stay.
+    pub fn take(&mut self, key: &[u8]) {
+        self.entry[LENGTH..].copy_from_slice(&packed(key));
+        self.body[..FIXED].fill(0);
+    }
+
+    /// A series with no bucket starts; a lone cached factor stays.
+    pub fn open(&mut self, limit: f64) {
+        self.entry[USE] |= SERIES_BIT;
+        self.blank();
+        self.set_limit(limit);
+    }
+
+    /// The words of a series that is not there.
+    pub fn blank(&mut self) {
+        self.body[LIMIT..=BUCKETS].fill(0);
+    }
+
+    pub fn set_limit(&mut self, limit: f64) {
+        self.body[LIMIT] = limit.to_bits();
+    }
+
+    /// The oldest go: head moves, cells stay.
+    pub fn cut(&mut self, gone: Gone) {
+        self.body[HEAD] = wrap(self.body[HEAD] + gone.buckets, self.read().ring());
+        self.body[BUCKETS] -= gone.buckets;
+        self.lower(gone.count, gone.declined);
+    }
+
+    /// All buckets go, by moving head.
+    pub fn cut_all(&mut self) {
+        let slot = self.read();
+        let all = Gone { buckets: slot.buckets(), count: slot.total(), declined: slot.declined() };
+        self.cut(all);
+    }
+
+    /// The oldest or the newest bucket goes whole.
+    fn drop_one(&mut self, oldest: bool) {
+        let slot = self.read();
+        let index = if oldest { 0 } else { slot.buckets() - 1 };
+        let bucket = slot.bucket(index);
+        if oldest {
+            self.cut(Gone { buckets: 1, count: bucket.count, declined: bucket.declined });
+        } else {
+            self.body[BUCKETS] -= 1;
+            self.lower(bucket.count, bucket.declined);
+        }
+    }
+
+    fn lower(&mut self, count: u64, declined: u64) {
+        self.body[TOTAL] -= count;
+        self.body[DECLINED] -= declined;
+    }
+
+    /// Counts go to the totals and to bucket `index`.
+    fn raise(&mut self, index: u64, count: u64, declined: u64) {
+        let at = self.read().place(index);
+        self.body[at] += count;
+        self.body[at + 1] += declined;
+        self.body[TOTAL] += count;
+        self.body[DECLINED] += declined;
+    }
+
+    /// A bucket is added behind the newest.
+    pub fn add(&mut self, count: u64, declined: u64, reading: u64) {
+        let index = self.body[BUCKETS];
+        let at = self.read().place(index);
+        self.body[at..at + CELL].copy_from_slice(&[0, 0, reading]);
+        self.body[BUCKETS] += 1;
+        self.raise(index, count, declined);
+    }
+
+    /// An increment joins the newest bucket at age at most b; else it adds one.
+    pub fn join_or_add(&mut self, count: u64, declined: u64, reading: u64, bucket_ms: u64) {
+        if self.read().joins(0, reading, bucket_ms) {
+            self.raise(self.body[BUCKETS] - 1, count, declined);
+        } else {
+            self.add(count, declined, reading);
+        }
+    }
+
+    /// A surplus goes to the newest or oldest bucket, or to a new one if there is none.
+    pub fn give(&mut self, surplus: u64, oldest: bool, reading: u64) {
+        match self.body[BUCKETS] {
+            0 => self.add(surplus, 0, reading),
+            _ if oldest => self.raise(0, surplus, 0),
+            buckets => self.raise(buckets - 1, surplus, 0),
+        }
+    }
+
+    /// A shortage takes whole buckets from the oldest or newest end; the last, partial one keeps its share.
+    pub fn take_out(&mut self, mut shortage: u64, oldest: bool) {
+        while shortage > 0 {
+            let slot = self.read();
+            let index = if oldest { 0 } else { slot.buckets() - 1 };
+            let bucket = slot.bucket(index);
+            if bucket.count > shortage {
+                self.lessen(index, bucket, bucket.count - shortage);
+                return;
+            }
+            shortage -= bucket.count;
+            self.drop_one(oldest);
+        }
+    }
+
+    fn lessen(&mut self, index: u64, bucket: Bucket, retained: u64) {
+        let declined = crate::rules::declined_share(bucket.declined, retained, bucket.count);
+        let at = self.read().place(index);
+        self.body[at] = retained;
+        self.body[at + 1] = declined;
+        self.lower(bucket.count - retained, bucket.declined - declined);
+    }
+
+    pub fn cache(&mut self, factor: f64, reading: u64) {
+        self.entry[USE] |= FACTOR_BIT;
+        self.body[FACTOR] = factor.to_bits();
+        self.body[FACTOR_TIME] = reading;
+    }
+
+    /// The cached factor goes: the use word only.
+    pub fn forget(&mut self) {
+        self.entry[USE] &= !FACTOR_BIT;
+    }
+
+    pub fn drop_series(&mut self) {
+        self.entry[USE] &= !SERIES_BIT;
+    }
+}
+
+/// 10 or 12, if an increment meets one once `gone` is out.
+pub fn crowded(
+    slot: Slot,
+    gone: Gone,
+    settings: &Settings,
+    reading: u64,
+    count: u64,
+) -> Result<(), Refusal> {
+    refuse_if(count > TOP - (slot.total() - gone.count), 10)?;
+    let adds = !slot.joins(gone.buckets, reading, settings.bucket);
+    refuse_if(adds && slot.buckets() - gone.buckets == slot.ring(), 12)
+}
+
+/// The cut limit of a series.
+pub fn cut_limit(slot: Slot) -> u64 {
+    cut(slot.limit())
+}

@@ -1,0 +1,98 @@
+//! `set_if` and `set_if_preserve_history`, alike in both limiters.
+
+use crate::room::{Found, Slot, SlotMut, judge, slot, slot_mut, store_reading};
+use crate::rules::{
+    Comparator, Kind, Mode, Refusal, SetOutcome, Settings, TOP, judge_rate, refuse_if,
+};
+use crate::shared::series_slot;
+
+/// What a set is asked to do.
+#[derive(Clone, Copy, Debug)]
+pub struct Wanted {
+    pub rate: f64,
+    pub comparator: Comparator,
+    pub count: u64,
+    pub mode: Mode,
+}
+
+impl Wanted {
+    /// Nothing changes: the comparator is not met, an unknown key is set to 0, or a known one is as wanted already.
+    fn changes_nothing(&self, known: Option<Slot>, found: &Found, live: u64, limit: f64) -> bool {
+        if !self.comparator.matches(live) {
+            return true;
+        }
+        let Some(slot) = known else {
+            return self.count == 0;
+        };
+        self.mode != Mode::Replace
+            && self.count > 0
+            && self.count == live
+            && found.scan.expired.buckets == 0
+            && slot.limit() == limit
+    }
+
+    /// The history of a series without expired buckets is made to hold the count.
+    fn update(&self, slot: &mut SlotMut, live: u64, reading: u64) {
+        let keeps_oldest = self.mode == Mode::PreserveOldest;
+        if self.mode == Mode::Replace {
+            slot.cut_all();
+            slot.add(self.count, 0, reading);
+        } else if self.count > live {
+            slot.give(self.count - live, keeps_oldest, reading);
+        } else {
+            slot.take_out(live - self.count, !keeps_oldest);
+        }
+    }
+}
+
+/// A set with mode Replace is `set_if`, with another `set_if_preserve_history`.
+pub fn set(
+    kind: Kind,
+    settings: &Settings,
+    room: &mut [u64],
+    reading: u64,
+    key: &[u8],
+    wanted: Wanted,
+) -> Result<SetOutcome, Refusal> {
+    let found = judge(kind, settings, room, reading, key)?;
+    judge_rate(wanted.rate)?;
+    refuse_if(wanted.count > TOP, 10)?;
+    let limit = settings.limit(kind, wanted.rate);
+    let known = found.series(room).map(|at| slot(room, at));
+    let live = known.map_or(0, |slot| slot.total() - found.scan.expired.count);
+    let mut current = live;
+    if !wanted.changes_nothing(known, &found, live, limit) {
+        change(room, &found, key, limit, wanted, live, reading)?;
+        current = wanted.count;
+    }
+    store_reading(room, reading);
+    Ok(SetOutcome { matched: wanted.comparator.matches(live), previous: live, current })
+}
+
+/// The change of a set: count 0 ends a series; otherwise evict, store the limit, update. The cached factor goes.
+fn change(
+    room: &mut [u64],
+    found: &Found,
+    key: &[u8],
+    limit: f64,
+    wanted: Wanted,
+    live: u64,
+    reading: u64,
+) -> Result<(), Refusal> {
+    match found.series(room).map(|at| slot_mut(room, at)) {
+        Some(mut slot) if wanted.count == 0 => slot.free(),
+        Some(mut slot) => {
+            slot.cut(found.scan.expired);
+            slot.set_limit(limit);
+            wanted.update(&mut slot, live, reading);
+            slot.forget();
+        }
+        None => {
+            let mut slot = series_slot(room, found.slot, key)?;
+            slot.open(limit);
+            slot.add(wanted.count, 0, reading);
+            slot.forget();
+        }
+    }
+    Ok(())
+}

@@ -1,0 +1,167 @@
+//! The calls that both limiters have in common; the room's kind tells limits and soundness.
+
+use crate::room::{
+    Bucket, Gone, Slot, SlotMut, find, is_room, judge, judge_key, judge_slot, last_reading,
+    scan_slot, slot, slot_mut, slots, store_reading, vacant,
+};
+use crate::rules::{Kind, Refusal, Settings, judge_rate, refuse_if};
+
+/// The slot a new series goes to: the key's own, or the lowest free one, taken.
+pub fn series_slot<'a>(
+    room: &'a mut [u64],
+    own: Option<usize>,
+    key: &[u8],
+) -> Result<SlotMut<'a>, Refusal> {
+    match own {
+        Some(at) => Ok(slot_mut(room, at)),
+        None => {
+            let at = vacant(room)?;
+            let mut slot = slot_mut(room, at);
+            slot.take(key);
+            Ok(slot)
+        }
+    }
+}
+
+/// Setting a rate touches only a known series and gives the old rate back.
+pub fn set_rate_limit(
+    kind: Kind,
+    settings: &Settings,
+    room: &mut [u64],
+    reading: u64,
+    key: &[u8],
+    rate: f64,
+) -> Result<Option<f64>, Refusal> {
+    let found = judge(kind, settings, room, reading, key)?;
+    judge_rate(rate)?;
+    let old = found.series(room).map(|at| {
+        let mut slot = slot_mut(room, at);
+        let (before, after) = (slot.read().limit(), settings.limit(kind, rate));
+        if before != after {
+            slot.set_limit(after);
+            slot.forget();
+        }
+        settings.rate_of(kind, before)
+    });
+    store_reading(room, reading);
+    Ok(old)
+}
+
+/// Gives live total less declined, 0 for a lone cached factor, or none; frees the slot.
+pub fn delete(
+    kind: Kind,
+    settings: &Settings,
+    room: &mut [u64],
+    reading: u64,
+    key: &[u8],
+) -> Result<Option<u64>, Refusal> {
+    let found = judge(kind, settings, room, reading, key)?;
+    let accepted = found.slot.map(|at| {
+        let mut slot = slot_mut(room, at);
+        let accepted = live_accepted(slot.read(), found.scan.expired);
+        slot.free();
+        accepted
+    });
+    store_reading(room, reading);
+    Ok(accepted)
+}
+
+fn live_accepted(slot: Slot, expired: Gone) -> u64 {
+    if !slot.has_series() {
+        return 0;
+    }
+    (slot.total() - expired.count) - (slot.declined() - expired.declined)
+}
+
+/// Every slot becomes free; lengths only are judged.
+pub fn clear(settings: &Settings, room: &mut [u64], reading: u64) -> Result<(), Refusal> {
+    settings.judge()?;
+    refuse_if(!is_room(room), 5)?;
+    refuse_if(reading < last_reading(room), 6)?;
+    for at in 0..slots(room) {
+        slot_mut(room, at).free();
+    }
+    store_reading(room, reading);
+    Ok(())
+}
+
+/// Refusals 1 to 6 of a cleanup, which judges every slot in use.
+pub fn judge_cleanup(
+    kind: Kind,
+    settings: &Settings,
+    room: &[u64],
+    reading: u64,
+) -> Result<(), Refusal> {
+    settings.judge()?;
+    refuse_if(!is_room(room), 5)?;
+    let last = last_reading(room);
+    let sound = (0..slots(room))
+        .map(|at| slot(room, at))
+        .all(|slot| !slot.in_use() || scan_slot(kind, settings, slot, last, reading).is_some());
+    refuse_if(!sound, 5)?;
+    refuse_if(reading < last, 6)
+}
+
+/// Whether a series has a newest bucket whose age is not over the stale time.
+fn is_fresh(slot: Slot, reading: u64, stale: u64) -> bool {
+    slot.newest(0).is_some_and(|newest| reading - newest.time <= stale)
+}
+
+/// The cleanup of a room that is judged.
+pub fn sweep(room: &mut [u64], reading: u64, stale: u64) {
+    for at in 0..slots(room) {
+        let mut slot = slot_mut(room, at);
+        let stands = slot.read();
+        let drops_series = stands.has_series() && !is_fresh(stands, reading, stale);
+        let drops_factor = stands.has_factor() && reading - stands.factor_time() >= stale;
+        if drops_series {
+            slot.drop_series();
+        }
+        if drops_factor {
+            slot.forget();
+        }
+    }
+    store_reading(room, reading);
+}
+
+/// Drops stale series and stale cached factors.
+pub fn cleanup(
+    kind: Kind,
+    settings: &Settings,
+    room: &mut [u64],
+    reading: u64,
+    stale: u64,
+) -> Result<(), Refusal> {
+    judge_cleanup(kind, settings, room, reading)?;
+    sweep(room, reading, stale);
+    Ok(())
+}
+
+/// Fills the row with buckets, oldest first, as many as fit; gives the ring's bucket count.
+pub fn read_out(
+    kind: Kind,
+    settings: &Settings,
+    room: &[u64],
+    key: &[u8],
+    row: &mut [Bucket],
+) -> Result<u64, Refusal> {
+    let last = if is_room(room) { last_reading(room) } else { 0 };
+    let found = judge_slot(kind, settings, room, last, key)?;
+    judge_key(key)?;
+    let Some(at) = found.series(room) else {
+        return Ok(0);
+    };
+    let slot = slot(room, at);
+    for (place, index) in row.iter_mut().zip(0..slot.buckets()) {
+        *place = slot.bucket(index);
+    }
+    Ok(slot.buckets())
+}
+
+/// The key's stored total and declined count, zeros for an unknown key.
+pub fn stored(room: &[u64], key: &[u8]) -> (u64, u64) {
+    match find(room, key).map(|at| slot(room, at)) {
+        Some(slot) if slot.has_series() => (slot.total(), slot.declined()),
+        _ => (0, 0),
+    }
+}
