@@ -87,19 +87,10 @@ fn units_1() {
 }
 
 fn units_2() {
-    case(b"0 s", window_number(WindowSize::seconds(0)), 1000000000001);
     case(b"2 min", window_number(WindowSize::minutes(2)), 120);
-    case(b"3 h", window_number(WindowSize::hours(3)), 10800);
-    case(b"4 d", window_number(WindowSize::days(4)), 345600);
 }
 
 fn units_3() {
-    case(b"5 weeks", window_number(WindowSize::weeks(5)), 3024000);
-    case(
-        b"12 months",
-        window_number(WindowSize::months(12)),
-        31104000,
-    );
     case(
         b"13 months",
         window_number(WindowSize::months(13)),
@@ -132,13 +123,6 @@ fn units_4() {
 }
 
 fn units_5() {
-    case(b"bucket 1 h", bucket_number(BucketSize::hours(1)), 3600000);
-    case(b"bucket 1 d", bucket_number(BucketSize::days(1)), 86400000);
-    case(
-        b"bucket 1 week",
-        bucket_number(BucketSize::weeks(1)),
-        604800000,
-    );
     case(
         b"bucket 1 month",
         bucket_number(BucketSize::months(1)),
@@ -153,19 +137,9 @@ fn units_6() {
         50,
     );
     case(
-        b"cache 1 s",
-        cache_number(SuppressionFactorCachePeriod::seconds(1)),
-        1000,
-    );
-    case(
         b"cache 0 min",
         cache_number(SuppressionFactorCachePeriod::minutes(0)),
         1000000000003,
-    );
-    case(
-        b"cache 7 weeks",
-        cache_number(SuppressionFactorCachePeriod::weeks(7)),
-        4233600000,
     );
 }
 
@@ -185,24 +159,9 @@ fn units_7() {
         rate_bits(RateLimit::per_minute(100.0)),
         4610184818551597739,
     );
-    case(
-        b"7 per hour",
-        rate_bits(RateLimit::per_hour(7.0)),
-        4566609990156995206,
-    );
 }
 
 fn units_8() {
-    case(
-        b"7 per day",
-        rate_bits(RateLimit::per_day(7.0)),
-        4545606535894828804,
-    );
-    case(
-        b"7 per week",
-        rate_bits(RateLimit::per_week(7.0)),
-        4532949752942055721,
-    );
     case(
         b"7 per month",
         rate_bits(RateLimit::per_month(7.0)),
@@ -227,11 +186,6 @@ fn units_9() {
         rate_bits(RateLimit::per_second(1.0 / 0.0)),
         8,
     );
-    case(
-        b"NaN per second",
-        rate_bits(RateLimit::per_second(0.0 / 0.0)),
-        8,
-    );
 }
 
 fn units_10() {
@@ -244,11 +198,6 @@ fn units_10() {
         b"0.3 per second, per minute",
         common::word_of(RateLimit(0.3).as_per_minute()),
         4625759767262920704,
-    );
-    case(
-        b"0.3 per second, per month",
-        common::word_of(RateLimit(0.3).as_per_month()),
-        4694926745231425536,
     );
     case(b"10 s in ms", WindowSize(10).as_milliseconds(), 10000);
 }
@@ -264,11 +213,6 @@ fn units_11() {
         common::word_of(WindowSize(100).as_minutes()),
         4610184818551597739,
     );
-    case(
-        b"100 s in weeks",
-        common::word_of(WindowSize(100).as_weeks()),
-        4550232137797819072,
-    );
 }
 
 fn settings_1() {
@@ -279,11 +223,6 @@ fn settings_1() {
 }
 
 fn settings_2() {
-    case(
-        b"default cache period",
-        Settings::default().suppression_factor_cache_period.0,
-        100,
-    );
     case(
         b"default factor",
         common::word_of(Settings::default().hard_limit_factor),
@@ -323,11 +262,6 @@ fn settings_3() {
         Settings::default().hard_limit_factor(0.0 / 0.0).refusal(),
         4,
     );
-    case(
-        b"factor infinite",
-        Settings::default().hard_limit_factor(1.0 / 0.0).refusal(),
-        4,
-    );
 }
 
 fn settings_4() {
@@ -348,23 +282,12 @@ fn comparator_1() {
         said(RateLimitComparator::Eq(5).matches(5)),
         1,
     );
-    case(
-        b"4 equals 5",
-        said(RateLimitComparator::Eq(5).matches(4)),
-        0,
-    );
     case(b"4 below 5", said(RateLimitComparator::Lt(5).matches(4)), 1);
 }
 
 fn comparator_2() {
     case(b"5 below 5", said(RateLimitComparator::Lt(5).matches(5)), 0);
-    case(b"6 above 5", said(RateLimitComparator::Gt(5).matches(6)), 1);
     case(b"5 above 5", said(RateLimitComparator::Gt(5).matches(5)), 0);
-    case(
-        b"6 differs from 5",
-        said(RateLimitComparator::Ne(5).matches(6)),
-        1,
-    );
 }
 
 fn comparator_3() {
@@ -388,11 +311,6 @@ fn limits_1() {
         4621819117588971520,
     );
     case(
-        b"0.1 per second, 3 s",
-        common::absolute_limit(RateLimit(0.1), WindowSize(3)),
-        4599075939470750516,
-    );
-    case(
         b"0.1 per second, factor 3, 7 s",
         common::hard_limit(RateLimit(0.1), 3.0, WindowSize(7)),
         4611911198408756430,
@@ -411,11 +329,9 @@ fn limits_2() {
         9218868437227405312,
     );
     case(b"cut of 10.9", common::cut(10.9), 10);
-    case(b"cut of 0.99", common::cut(0.99), 0);
 }
 
 fn limits_3() {
-    case(b"cut of -3", common::cut(-3.0), 0);
     case(b"cut of a NaN", common::cut(0.0 / 0.0), 0);
     case(
         b"cut of 2^64",
@@ -430,11 +346,6 @@ fn limits_3() {
 }
 
 fn limits_4() {
-    case(
-        b"cut of 2^64 - 2048",
-        common::cut(18446744073709549568.0),
-        18446744073709549568,
-    );
     case(
         b"cut of the word of 20.0",
         common::cut_limit(4626322717216342016),
@@ -466,11 +377,6 @@ fn limits_5() {
     case(
         b"0.0 is a limit",
         said(common::is_limit(0, WindowSize(10), 1.0)),
-        0,
-    );
-    case(
-        b"-1.0 is a limit",
-        said(common::is_limit(13830554455654793216, WindowSize(10), 1.0)),
         0,
     );
 }
@@ -508,13 +414,6 @@ fn limits_7() {
         ),
         9218868437227405311,
     );
-    case(
-        b"old rate of the largest",
-        common::word_of(
-            RateLimit::from_stored_window_limit(9218868437227405311, WindowSize(7), 3.0).0,
-        ),
-        9218868437227405311,
-    );
 }
 
 fn the_factor_and_the_draw_1() {
@@ -529,24 +428,9 @@ fn the_factor_and_the_draw_1() {
         common::word_of(common::fresh_factor(10, 15, WindowSize(10), 5)),
         4605380978949069210,
     );
-    case(
-        b"S 10, total 15, W 10, last second 0",
-        common::word_of(common::fresh_factor(10, 15, WindowSize(10), 0)),
-        4599676419421066582,
-    );
 }
 
 fn the_factor_and_the_draw_2() {
-    case(
-        b"S 3, total 7, W 3, last second 7",
-        common::word_of(common::fresh_factor(3, 7, WindowSize(3), 7)),
-        4605895676049340124,
-    );
-    case(
-        b"S 0, total 5, W 10, last second 5",
-        common::word_of(common::fresh_factor(0, 5, WindowSize(10), 5)),
-        4607182418800017408,
-    );
     case(
         b"S 10, total 10, W 10, last second 1",
         common::word_of(common::fresh_factor(10, 10, WindowSize(10), 1)),
@@ -576,11 +460,6 @@ fn the_factor_and_the_draw_3() {
         said(common::is_factor(4607182418800017408)),
         1,
     );
-    case(
-        b"just above 1 is a factor",
-        said(common::is_factor(4607182418800017409)),
-        0,
-    );
 }
 
 fn the_factor_and_the_draw_4() {
@@ -594,12 +473,6 @@ fn the_factor_and_the_draw_4() {
         said(common::is_factor(9221120237041090561)),
         0,
     );
-    case(
-        b"a NaN with its sign set is a factor",
-        said(common::is_factor(18444492273895866368)),
-        0,
-    );
-    case(b"factor 0.0 admits 0", said(common::admits(0.0, 0)), 1);
 }
 
 fn the_factor_and_the_draw_5() {
@@ -622,11 +495,6 @@ fn the_factor_and_the_draw_5() {
 }
 
 fn the_factor_and_the_draw_6() {
-    case(
-        b"factor 0.9999999999999999 admits 0",
-        said(common::admits(0.9999999999999999, 0)),
-        1,
-    );
     case(
         b"factor 0.9999999999999999 admits 1",
         said(common::admits(0.9999999999999999, 1)),
@@ -652,11 +520,6 @@ fn floor_a_b_c_1() {
         common::mul_div(9007199254740992, 9007199254740992, 9007199254740992),
         9007199254740992,
     );
-    case(
-        b"9007199254740992 * 9007199254740991 / 9007199254740992",
-        common::mul_div(9007199254740992, 9007199254740991, 9007199254740992),
-        9007199254740991,
-    );
 }
 
 fn floor_a_b_c_2() {
@@ -670,7 +533,6 @@ fn floor_a_b_c_2() {
         common::mul_div(9007199254740992, 9007199254740992, 1),
         18446744073709551615,
     );
-    case(b"0 * 7 / 3", common::mul_div(0, 7, 3), 0);
     case(b"7 * 3 / 0", common::mul_div(7, 3, 0), 0);
 }
 
