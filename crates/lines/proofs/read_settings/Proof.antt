@@ -1,0 +1,170 @@
+-- `lines::read_settings` meets its contract: at each answer the fields that were found, and the one that was not, are put into
+-- the definition, which then computes to the answer.
+-- Assumes nothing.
+use mathlib.Core.Path.{sym, _∙_}
+use borrow.Author.Tests.{le-leb, lt-leb, eq-eqb, ne-eqb}
+use Rattle.lines.specs.Reading.{readSettings}
+use borrow.Author.Needs.{needs}
+use Rattle.lines.proofs.read_settings.Statement.{statement}
+use Rattle.lines.proofs.read_settings.Tie as tie
+
+slice-aggregate-field-at : tie.Need-slice-aggregate-field-at
+slice-aggregate-field-at c = search needs
+
+field-at-requires : tie.Need-field-at-requires
+field-at-requires c κs = tt
+
+enum-known-window : tie.Need-enum-known-window
+enum-known-window c = c .match .keys1
+
+enum-told : tie.Need-enum-told
+enum-told c = c .match .keys2
+
+returns : tie.Need-returns
+unfolding readSettings
+returns c =
+    rw (sym (c .before .before .field-at .ensures) ∙ c .enum-told .given .1)
+
+slice-aggregate-field-at-2 : tie.Need-slice-aggregate-field-at-2
+slice-aggregate-field-at-2 c = search needs
+
+field-at-requires-2 : tie.Need-field-at-requires-2
+field-at-requires-2 c κs = tt
+
+enum-known-bucket : tie.Need-enum-known-bucket
+enum-known-bucket c = c .match2 .keys1
+
+enum-told-2 : tie.Need-enum-told-2
+enum-told-2 c = c .match2 .keys2
+
+returns-2 : tie.Need-returns-2
+unfolding readSettings
+returns-2 c =
+    let s1 = c .before .before .before .before .before in
+    rw (
+      sym (s1 .before .before .field-at .ensures) ∙ s1 .window .given .1,
+      sym (c .before .before .field-at2 .ensures) ∙ c .enum-told2 .given .1,
+    )
+
+slice-aggregate-field-at-3 : tie.Need-slice-aggregate-field-at-3
+slice-aggregate-field-at-3 c = search needs
+
+field-at-requires-3 : tie.Need-field-at-requires-3
+field-at-requires-3 c κs = tt
+
+enum-known-factor : tie.Need-enum-known-factor
+enum-known-factor c = c .match3 .keys1
+
+enum-told-3 : tie.Need-enum-told-3
+enum-told-3 c = c .match3 .keys2
+
+returns-3 : tie.Need-returns-3
+unfolding readSettings
+returns-3 c =
+    let s2 = c .before .before .before .before .before in
+    let s1 = s2 .before .before .before .before .before in
+    rw (
+      sym (s1 .before .before .field-at .ensures) ∙ s1 .window .given .1,
+      sym (s2 .before .before .field-at2 .ensures) ∙ s2 .bucket .given .1,
+      sym (c .before .before .field-at3 .ensures) ∙ c .enum-told3 .given .1,
+    )
+
+slice-aggregate-field-at-4 : tie.Need-slice-aggregate-field-at-4
+slice-aggregate-field-at-4 c = search needs
+
+field-at-requires-4 : tie.Need-field-at-requires-4
+field-at-requires-4 c κs = tt
+
+enum-known-cache : tie.Need-enum-known-cache
+enum-known-cache c = c .match4 .keys1
+
+enum-told-4 : tie.Need-enum-told-4
+enum-told-4 c = c .match4 .keys2
+
+returns-4 : tie.Need-returns-4
+unfolding readSettings
+returns-4 c =
+    let s3 = c .before .before .before .before .before in
+    let s2 = s3 .before .before .before .before .before in
+    let s1 = s2 .before .before .before .before .before in
+    rw (
+      sym (s1 .before .before .field-at .ensures) ∙ s1 .window .given .1,
+      sym (s2 .before .before .field-at2 .ensures) ∙ s2 .bucket .given .1,
+      sym (s3 .before .before .field-at3 .ensures) ∙ s3 .factor .given .1,
+      sym (c .before .before .field-at4 .ensures) ∙ c .enum-told4 .given .1,
+    )
+
+returns-5 : tie.Need-returns-5
+unfolding readSettings
+returns-5 c =
+    let s4 = c .before .before in
+    let s3 = s4 .before .before .before .before .before in
+    let s2 = s3 .before .before .before .before .before in
+    let s1 = s2 .before .before .before .before .before in
+    rw (
+      sym (s1 .before .before .field-at .ensures) ∙ s1 .window .given .1,
+      sym (s2 .before .before .field-at2 .ensures) ∙ s2 .bucket .given .1,
+      sym (s3 .before .before .field-at3 .ensures) ∙ s3 .factor .given .1,
+      sym (s4 .before .before .field-at4 .ensures) ∙ s4 .cache .given .1,
+      lt-leb _ _ (c .if1 .taken),
+    )
+
+returns-6 : tie.Need-returns-6
+unfolding readSettings
+returns-6 c =
+    let s4 = c .before .before .before in
+    let s3 = s4 .before .before .before .before .before in
+    let s2 = s3 .before .before .before .before .before in
+    let s1 = s2 .before .before .before .before .before in
+    rw (
+      sym (s1 .before .before .field-at .ensures) ∙ s1 .window .given .1,
+      sym (s2 .before .before .field-at2 .ensures) ∙ s2 .bucket .given .1,
+      sym (s3 .before .before .field-at3 .ensures) ∙ s3 .factor .given .1,
+      sym (s4 .before .before .field-at4 .ensures) ∙ s4 .cache .given .1,
+      le-leb _ _ (c .before .if1 .left),
+      ne-eqb _ _ (c .if2 .taken),
+    )
+
+returns-7 : tie.Need-returns-7
+unfolding readSettings
+returns-7 c =
+    let s4 = c .before .before .before in
+    let s3 = s4 .before .before .before .before .before in
+    let s2 = s3 .before .before .before .before .before in
+    let s1 = s2 .before .before .before .before .before in
+    rw (
+      sym (s1 .before .before .field-at .ensures) ∙ s1 .window .given .1,
+      sym (s2 .before .before .field-at2 .ensures) ∙ s2 .bucket .given .1,
+      sym (s3 .before .before .field-at3 .ensures) ∙ s3 .factor .given .1,
+      sym (s4 .before .before .field-at4 .ensures) ∙ s4 .cache .given .1,
+      le-leb _ _ (c .before .if1 .left),
+      eq-eqb _ _ (c .if2 .left),
+    )
+
+pub read-settings-spec : {M : Type 1} → statement M
+read-settings-spec =
+    tie.close
+    (tie.spec
+    slice-aggregate-field-at
+    field-at-requires
+    enum-known-window
+    enum-told
+    returns
+    slice-aggregate-field-at-2
+    field-at-requires-2
+    enum-known-bucket
+    enum-told-2
+    returns-2
+    slice-aggregate-field-at-3
+    field-at-requires-3
+    enum-known-factor
+    enum-told-3
+    returns-3
+    slice-aggregate-field-at-4
+    field-at-requires-4
+    enum-known-cache
+    enum-told-4
+    returns-4
+    returns-5
+    returns-6
+    returns-7)
