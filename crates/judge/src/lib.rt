@@ -226,7 +226,7 @@ fn cached_right(last: u64, x: Slot) -> bool
 }
 
 // Whether an opened slot is sound; its key is judged elsewhere.
-fn slot_right(kind: RoomKind, settings: Settings, last: u64, u: u64, x: Slot) -> bool
+pub fn slot_right(kind: RoomKind, settings: Settings, last: u64, u: u64, x: Slot) -> bool
     ensures { λ y. ⌜ y ≡ slotRight kind settings last u x ⌝ }
 {
     if !use_right(kind, u) {

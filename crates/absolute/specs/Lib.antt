@@ -1,0 +1,4 @@
+pub mod Rules
+pub mod Calls
+pub mod Laws
+pub mod Told

@@ -1,0 +1,7 @@
+pub mod Calls
+pub mod Clear
+pub mod Delete
+pub mod Rate
+pub mod Set
+pub mod SetLaws
+pub mod View

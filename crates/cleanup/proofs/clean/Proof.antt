@@ -1,0 +1,35 @@
+-- The uses, then the reading.
+use mathlib.Core.Path.{sym, ap, subst, _∙_}
+use mathlib.Core.List.{List}
+use Prim.Native.Nat.{ℕ}
+use Rattle.room.specs.Room.{Room, slotsOf, withReading}
+use Rattle.cleanup.specs.Cleanup.{cleaned}
+use Rattle.cleanup.specs.Swept.{swept-room}
+use native.Mathlib.Omega.{arith}
+use borrow.Author.Needs.{needs}
+use Rattle.cleanup.proofs.clean.Statement.{statement}
+use Rattle.cleanup.proofs.clean.Tie as tie
+
+sweep-requires : tie.Need-sweep-requires
+sweep-requires c κs = search needs
+
+store-reading-requires : tie.Need-store-reading-requires
+store-reading-requires c κs =
+    let k = c .before .before .before in
+    let s = k .before .before .before in
+    let w = s .args .w .now in
+    subst (λ (y : List ℕ). Room y) (sym (k .sweep .ensures)) (swept-room w (s .args .reading) (s .args .stale) (slotsOf w) (s .pre .room))
+
+same-length : tie.Need-same-length
+same-length c = search needs
+
+returns : tie.Need-returns
+unfolding cleaned
+returns c =
+    let r = c .before .before in
+    let k = r .before .before .before .before in
+    let a = k .before .before .before .args in
+    r .store-reading .ensures ∙ ap (λ (y : List ℕ). withReading y (a .reading)) (k .sweep .ensures)
+
+pub clean-spec : {M : Type 1} → statement M
+clean-spec = tie.close (tie.spec sweep-requires store-reading-requires same-length returns)

@@ -1,0 +1,59 @@
+-- A free slot is not judged; of another the key, then the rest.
+use mathlib.Core.Path.{sym, _∙_}
+use borrow.Author.Tests.{not-true, not-false}
+use Rattle.cleanup.specs.Laws.{passes-free, fails-key, passes-right}
+use native.Mathlib.Omega.{arith}
+use borrow.Author.Needs.{needs}
+use Rattle.cleanup.proofs.slot_passes.Statement.{statement}
+use Rattle.cleanup.proofs.slot_passes.Tie as tie
+
+use-of-requires : tie.Need-use-of-requires
+use-of-requires c κs = search needs
+
+returns : tie.Need-returns
+returns c =
+    let k = c .before in
+    let a = k .before .before .before .args in
+    passes-free (a .kind) (a .settings) (a .w .now) (a .i) (sym (k .use-of .ensures) ∙ c .if1 .taken)
+
+key-fits-requires : tie.Need-key-fits-requires
+key-fits-requires c κs = search needs
+
+returns-2 : tie.Need-returns-2
+returns-2 c =
+    let k = c .before in
+    let u = k .before .before in
+    let a = u .before .before .before .args in
+    fails-key (a .kind) (a .settings) (a .w .now) (a .i) (λ z. k .before .if1 .left (u .use-of .ensures ∙ z)) (sym (k .key-fits .ensures) ∙ not-true (k .key-fits .result) (c .if2 .taken))
+
+open-at-requires : tie.Need-open-at-requires
+open-at-requires c κs = search needs
+
+shared-slice-read-slot-right : tie.Need-shared-slice-read-slot-right
+shared-slice-read-slot-right c = search needs
+
+slot-right-requires : tie.Need-slot-right-requires
+slot-right-requires c κs = search needs
+
+returns-3 : tie.Need-returns-3
+returns-3 c =
+    let o = c .before .before in
+    let k = o .before .before in
+    let u = k .before .before in
+    let s = u .before .before .before in
+    let a = s .args in
+    passes-right (a .kind) (a .settings) (a .w .now) (a .i) (a .reading) (u .use-of .result) (o .open-at .result) (c .slot-right .result) (s .pre .1)
+    (λ z. k .before .if1 .left (u .use-of .ensures ∙ z)) (sym (k .key-fits .ensures) ∙ not-false (k .key-fits .result) (o .before .if2 .left)) (u .use-of .ensures) (o .open-at .ensures) (c .slot-right .ensures)
+
+pub slot-passes-spec : {M : Type 1} → statement M
+slot-passes-spec =
+    tie.close
+    (tie.spec
+    use-of-requires
+    returns
+    key-fits-requires
+    returns-2
+    open-at-requires
+    shared-slice-read-slot-right
+    slot-right-requires
+    returns-3)

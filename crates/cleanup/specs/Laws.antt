@@ -1,0 +1,232 @@
+-- What the code has tested, turned into what the definitions say; and what is known of a cleanup that is not refused.
+-- Assumes nothing.
+use mathlib.Core.Path.{_≡_, refl, sym, ap, subst, _∙_}
+use mathlib.Core.Bool.{Bool, true, false, not, _&&_, _||_, cond, false≢true}
+use mathlib.Core.List.{List, [], _∷_, _++_}
+use mathlib.Core.Logic.{_≢_}
+use Prim.Native.Nat.{ℕ, _+_, _-_, _≤_, _<_}
+use native.Mathlib.Decide.{ℕ-discrete}
+use native.Mathlib.Omega.{arith}
+use lib.ListN.{length, getD}
+use lib.Dec.{leb, ltb, eqb}
+use borrow.Author.Tests.{eq-eqb, ne-eqb, eqb-true, eqb-false, lt-ltb, le-ltb, ltb-false, ltb-true, le-leb, leb-true, not-false}
+use Rattle.base.specs.Decides.{and-true, not-so}
+use Rattle.common.specs.Refusals.{first, Positive, first-found, first-none, all-false}
+use Rattle.common.specs.Settings.{windowIn, faults, Proper, proper, unrefused}
+use Rattle.common.specs.declared.answers.DoneAnswer.the-variants.{Done, Refused}
+use Rattle.common.specs.declared.settings.Settings.{Settings}
+use Rattle.history.specs.Rules.{newest}
+use Rattle.ring.specs.declared.Bucket.{Bucket}
+use Rattle.ring.specs.Ring.{Shape, noBucket, lenOf, buckets}
+use Rattle.ring.specs.View.{view-length}
+use Rattle.ring.specs.Sound.{soundBuckets, sound-true}
+use Rattle.room.specs.Room.{Room, slotsOf, ringOf, lastOf, useOf, keySound, bodyOf, free, sized}
+use Rattle.room.specs.Entries.{free-yes, free-no}
+use Rattle.room.specs.Laws.{room-sized, sized-room}
+use Rattle.judge.specs.declared.RoomKind.{RoomKind}
+use Rattle.judge.specs.declared.Slot.{Slot}
+use Rattle.judge.specs.Laws.{faults-positive}
+use Rattle.judge.specs.Right.{slotRight, slot-here, right-is}
+use Rattle.judge.specs.Slot.{slotOf}
+use Rattle.judge.specs.Sound.{factorTimeOf, hasSeries, hasCached, rightUse, soundSeries, soundCached, soundSlot}
+use Rattle.cleanup.specs.Every.{every, every-at}
+use Rattle.judge.specs.Verdict.{verdict, Told, told-turned, told-done}
+use Rattle.cleanup.specs.Cleanup.{seriesStays, seriesUse, factorStays, factorUse, useAfter, cleaned, Ready, slotPasses, allPass, misfits, refusal, cleanup}
+
+-- ---- one slot
+
+module _ (kind : RoomKind) (s : Settings) (w : List ℕ) (i : ℕ) where
+  pub passes-free : useOf w i ≡ 0 → true ≡ slotPasses kind s w i
+  unfolding slotPasses
+  passes-free e = sym (rw (free-yes w i e))
+
+  pub passes-used : useOf w i ≢ 0 → slotPasses kind s w i ≡ soundSlot kind s w i
+  unfolding slotPasses
+  passes-used h = rw (free-no w i h)
+
+  pub fails-key : useOf w i ≢ 0 → keySound w i ≡ false → false ≡ slotPasses kind s w i
+  unfolding soundSlot
+  fails-key h k = sym (passes-used h ∙ rw k)
+
+  -- the slot opened and judged
+  pub passes-right : (t u : ℕ) (x : Slot) (y : Bool) → i < slotsOf w → useOf w i ≢ 0 → keySound w i ≡ true → u ≡ useOf w i →
+      x ≡ slotOf (windowIn s) w t i → y ≡ slotRight kind s (lastOf w) u x → y ≡ slotPasses kind s w i
+  passes-right t u x y l h k p q e =
+      e ∙
+      ap (λ (n : ℕ). slotRight kind s (lastOf w) n x) p ∙
+      ap (slotRight kind s (lastOf w) (useOf w i)) (q ∙ slot-here (windowIn s) t w i l) ∙
+      right-is kind s (windowIn s) t w i k ∙
+      sym (passes-used h)
+
+-- ---- the number
+
+misfits-positive : (kind : RoomKind) (s : Settings) (w : List ℕ) (t : ℕ) → Positive (misfits kind s w t)
+unfolding misfits
+misfits-positive kind s w t = omega arith
+
+-- what holds of a cleanup that is not refused
+pub record Passed (kind : RoomKind) (s : Settings) (w : List ℕ) (t : ℕ) : Type 0 where
+  pub settings : Proper s
+  pub room : Room w
+  pub sound : allPass kind s w ≡ true
+  pub later : lastOf w ≤ t
+
+module _ (kind : RoomKind) (s : Settings) (w : List ℕ) (t : ℕ) where
+  pub number-fault : (n : ℕ) → n ≡ first (faults s) → n ≢ 0 → n ≡ refusal kind s w t
+  number-fault n e z = e ∙ sym (first-found (faults s) (misfits kind s w t) (λ f. z (e ∙ f)))
+
+  after : Proper s → refusal kind s w t ≡ first (misfits kind s w t)
+  after p = first-none (faults s) (misfits kind s w t) (faults-positive s) (unrefused s p)
+
+  pub number-lengths : Proper s → (Room w → ⊥) → 5 ≡ refusal kind s w t
+  unfolding misfits first
+  number-lengths p f = sym (after p ∙ rw (not-so (sized w) (λ e. f (sized-room w e))))
+
+  pub number-unsound : Proper s → Room w → allPass kind s w ≡ false → 5 ≡ refusal kind s w t
+  unfolding misfits first
+  number-unsound p o e = sym (after p ∙ rw (room-sized w o, e))
+
+  pub number-reading : Proper s → Room w → allPass kind s w ≡ true → t < lastOf w → 6 ≡ refusal kind s w t
+  unfolding misfits first
+  number-reading p o e l = sym (after p ∙ rw (room-sized w o, e, lt-ltb t (lastOf w) l))
+
+  pub number-none : Passed kind s w t → 0 ≡ refusal kind s w t
+  unfolding misfits first
+  number-none p = sym (after (p .settings) ∙ rw (room-sized w (p .room), p .sound, le-ltb t (lastOf w) (p .later)))
+
+  -- ---- not refused
+
+  fault-none : refusal kind s w t ≡ 0 → first (faults s) ≡ 0
+  fault-none e = go (eqb (first (faults s)) 0) refl
+    where
+      go : (b : Bool) → eqb (first (faults s)) 0 ≡ b → first (faults s) ≡ 0
+      go true h = eqb-true _ _ h
+      go false h = sym (first-found (faults s) (misfits kind s w t) (eqb-false _ _ h)) ∙ e
+
+  pub passed : refusal kind s w t ≡ 0 → Passed kind s w t
+  unfolding misfits
+  passed e =
+      let p = proper s (fault-none e) in
+      let f = all-false (misfits kind s w t) (misfits-positive kind s w t) (sym (after p) ∙ e) in
+      let q = and-true (sized w) (allPass kind s w) (not-false _ (f .0)) in
+      record { settings = p; room = sized-room w (q .0); sound = q .1; later = ltb-false _ _ (f .1 .0) }
+
+  -- a slot in use is sound
+  pub passed-sound : Passed kind s w t → (i : ℕ) → i < slotsOf w → useOf w i ≢ 0 → soundSlot kind s w i ≡ true
+  passed-sound p i h u = sym (passes-used kind s w i u) ∙ every-at (slotPasses kind s w) (slotsOf w) i h (p .sound)
+
+-- ---- a sound slot's parts
+
+-- what a slot with a series, or a cached factor, has
+pub record SoundParts (kind : RoomKind) (s : Settings) (w : List ℕ) (i : ℕ) : Type 0 where
+  pub key : keySound w i ≡ true
+  pub uses : rightUse kind (useOf w i) ≡ true
+  pub series : not (hasSeries (useOf w i)) || soundSeries kind s (ringOf w) (lastOf w) (bodyOf w i) ≡ true
+  pub cached : not (hasCached (useOf w i)) || soundCached (lastOf w) (bodyOf w i) ≡ true
+
+pub sound-parts : (kind : RoomKind) (s : Settings) (w : List ℕ) (i : ℕ) → soundSlot kind s w i ≡ true → SoundParts kind s w i
+unfolding soundSlot
+sound-parts kind s w i e =
+    let p = and-true (keySound w i) _ e in
+    let q = and-true (rightUse kind (useOf w i)) _ (p .1) in
+    let r = and-true (not (hasSeries (useOf w i)) || soundSeries kind s (ringOf w) (lastOf w) (bodyOf w i)) _ (q .1) in
+    record { key = p .0; uses = q .0; series = r .0; cached = r .1 }
+
+pub parts-sound : (kind : RoomKind) (s : Settings) (w : List ℕ) (i : ℕ) → SoundParts kind s w i → soundSlot kind s w i ≡ true
+unfolding soundSlot
+parts-sound kind s w i p = rw (p .key, p .uses, p .series, p .cached)
+
+-- a || that is true though its left side is not
+pub other-true : (a b : Bool) → a ≡ true → not a || b ≡ true → b ≡ true
+other-true true b e f = f
+other-true false b e f = absurd (false≢true e)
+
+has-some : (u : ℕ) → hasSeries u ≡ true → u ≢ 0
+has-some u e z = false≢true (sym (ap hasSeries z) ∙ e)
+
+series-shape : (kind : RoomKind) (s : Settings) (r last : ℕ) (b : List ℕ) → soundSeries kind s r last b ≡ true → Shape r b
+unfolding soundSeries
+series-shape kind s r last b e = sound-true r b last (and-true (soundBuckets r b last) _ e .0) .shape
+
+pub passed-ready : (kind : RoomKind) (s : Settings) (w : List ℕ) (t : ℕ) → Passed kind s w t → Ready w
+passed-ready kind s w t p = record {
+  room = p .room;
+  shapes = λ i h e.
+      let q = sound-parts kind s w i (passed-sound kind s w t p i h (has-some (useOf w i) e)) in
+      series-shape kind s (ringOf w) (lastOf w) (bodyOf w i) (other-true (hasSeries (useOf w i)) _ e (q .series));
+}
+
+-- ---- what stays
+
+module _ (xs : List Bucket) (t stale : ℕ) where
+  pub series-none : length xs ≡ 0 → 0 ≡ seriesUse xs t stale
+  unfolding seriesStays
+  series-none e = sym (rw e)
+
+  pub series-old : 0 < length xs → stale < t - newest xs .time → 0 ≡ seriesUse xs t stale
+  unfolding seriesStays
+  series-old h l = sym (rw (lt-ltb 0 (length xs) h, leb-lt (t - newest xs .time) stale l))
+    where
+      leb-lt : (a b : ℕ) → b < a → leb a b ≡ false
+      leb-lt a b l = not-so (leb a b) (λ e. omega (arith, leb-true a b e))
+
+  pub series-young : 0 < length xs → t - newest xs .time ≤ stale → 1 ≡ seriesUse xs t stale
+  unfolding seriesStays
+  series-young h l = sym (rw (lt-ltb 0 (length xs) h, le-leb (t - newest xs .time) stale l))
+
+module _ (time t stale : ℕ) where
+  pub factor-young : t - time < stale → 2 ≡ factorUse time t stale
+  unfolding factorStays
+  factor-young l = sym (rw (lt-ltb (t - time) stale l))
+
+  pub factor-old : stale ≤ t - time → 0 ≡ factorUse time t stale
+  unfolding factorStays
+  factor-old l = sym (rw (le-ltb (t - time) stale l))
+
+-- the newest of n buckets, as it is read
+pub newest-time : (r : ℕ) (b : List ℕ) (n : ℕ) (x : Bucket) → n ≡ lenOf b → x ≡ getD (buckets r b) (n - 1) noBucket → x .time ≡ newest (buckets r b) .time
+newest-time r b n x e f =
+    ap (λ (y : Bucket). y .time) (f ∙ ap (λ (k : ℕ). getD (buckets r b) (k - 1) noBucket) (e ∙ sym (view-length r b)))
+
+pub series-few : (xs : List Bucket) (t stale : ℕ) → seriesUse xs t stale ≤ 1
+series-few xs t stale = go (seriesStays xs t stale)
+  where
+    go : (b : Bool) → cond b 1 0 ≤ 1
+    go true = omega arith
+    go false = omega arith
+
+pub factor-few : (time t stale : ℕ) → factorUse time t stale ≤ 2
+factor-few time t stale = go (factorStays time t stale)
+  where
+    go : (b : Bool) → cond b 2 0 ≤ 2
+    go true = omega arith
+    go false = omega arith
+
+-- the use afterwards, by the use before
+module _ (r u : ℕ) (b : List ℕ) (t stale : ℕ) where
+  pub after-series : (x : ℕ) → u ≡ 1 → x ≡ seriesUse (buckets r b) t stale → x ≡ useAfter r u b t stale
+  unfolding useAfter
+  after-series x e f = rw e (omega arith)
+
+  pub after-factor : (x : ℕ) → u ≡ 2 → x ≡ factorUse (factorTimeOf b) t stale → x ≡ useAfter r u b t stale
+  unfolding useAfter
+  after-factor x e f = rw e (omega arith)
+
+  pub after-both : (x y : ℕ) → u ≡ 3 → x ≡ seriesUse (buckets r b) t stale → y ≡ factorUse (factorTimeOf b) t stale → x + y ≡ useAfter r u b t stale
+  unfolding useAfter
+  after-both x y e f g = rw e (omega arith)
+
+  pub after-other : u ≢ 1 → u ≢ 2 → u ≢ 3 → 0 ≡ useAfter r u b t stale
+  unfolding useAfter
+  after-other p q s = sym (rw (ne-eqb u 1 p, ne-eqb u 2 q, ne-eqb u 3 s))
+
+-- ---- the answer and the words
+
+module _ (kind : RoomKind) (s : Settings) (w : List ℕ) (t stale : ℕ) where
+  pub cleanup-refused : (n : ℕ) → n ≡ refusal kind s w t → n ≢ 0 → Told (cleanup kind s w t stale) (Refused n) w
+  unfolding cleanup
+  cleanup-refused n e z = rw (sym e) (told-turned Refused n w (verdict Done (cleaned w t stale)) z)
+
+  pub cleanup-done : (v : List ℕ) → refusal kind s w t ≡ 0 → v ≡ cleaned w t stale → Told (cleanup kind s w t stale) Done v
+  unfolding cleanup
+  cleanup-done v e f = told-done Refused (refusal kind s w t) w (verdict Done (cleaned w t stale)) Done v e (record { answer = refl; words = f })

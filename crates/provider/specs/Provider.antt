@@ -1,0 +1,43 @@
+-- The provider's cleanup: what it answers, and what it leaves in both rooms. a and b are the absolute and the suppressed room, t the reading, stale the stale time.
+-- Assumes nothing.
+use mathlib.Core.Path.{_≡_}
+use mathlib.Core.Bool.{cond}
+use mathlib.Core.List.{List}
+use Prim.Native.Nat.{ℕ, min}
+use lib.Dec.{eqb}
+use Rattle.common.specs.declared.answers.DoneAnswer.{DoneAnswer}
+use Rattle.common.specs.declared.answers.DoneAnswer.the-variants.{Done, Refused}
+use Rattle.common.specs.declared.settings.Settings.{Settings}
+use Rattle.judge.specs.declared.RoomKind.the-variants.{Absolute, Suppressed}
+use Rattle.cleanup.specs.Cleanup.{cleaned, refusal}
+
+-- the lower of two refusals, where 0 is none
+unfoldable pub lowest : ℕ → ℕ → ℕ
+lowest m n = cond (eqb m 0) n (cond (eqb n 0) m (min m n))
+
+-- the lowest over both rooms
+abbrev pub refusalOfBoth : Settings → List ℕ → List ℕ → ℕ → ℕ
+refusalOfBoth s a b t = lowest (refusal Absolute s a t) (refusal Suppressed s b t)
+
+-- an answer, and the words of both rooms
+pub record Verdict : Type 0 where
+  pub answer : DoneAnswer
+  pub absolute : List ℕ
+  pub suppressed : List ℕ
+
+-- refused with n, unless n is 0: "cleans both rooms or neither"
+unfoldable pub decided : ℕ → List ℕ → List ℕ → ℕ → ℕ → Verdict
+decided n a b t stale = record {
+  answer = cond (eqb n 0) Done (Refused n);
+  absolute = cond (eqb n 0) (cleaned a t stale) a;
+  suppressed = cond (eqb n 0) (cleaned b t stale) b;
+}
+
+abbrev pub cleanup : Settings → List ℕ → List ℕ → ℕ → ℕ → Verdict
+cleanup s a b t stale = decided (refusalOfBoth s a b t) a b t stale
+
+-- the answer and the words after are the verdict's
+pub record Told (v : Verdict) (r : DoneAnswer) (a b : List ℕ) : Type 0 where
+  pub answer : r ≡ v .answer
+  pub absolute : a ≡ v .absolute
+  pub suppressed : b ≡ v .suppressed

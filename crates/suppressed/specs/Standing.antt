@@ -1,0 +1,156 @@
+-- What a call that passes refusals 1 to 7 knows of its key's slot x: where it is, its series, and its sums.
+-- Assumes nothing.
+use mathlib.Core.Path.{_≡_, refl, sym, ap, subst, _∙_}
+use mathlib.Core.Bool.{Bool, true, false, _&&_, _||_, cond, false≢true}
+use mathlib.Core.List.{List, [], _∷_}
+use Prim.Native.Nat.{ℕ, suc, _+_, _-_, _*_, _^_, _≤_, _<_}
+use native.Mathlib.Decide.{decLt}
+use native.Mathlib.Omega.{arith}
+use lib.Dec.{ltb, leb, eqb}
+use lib.ListN.{length, drop, length-drop}
+use borrow.Author.Tests.{lt-ltb, le-ltb, ltb-true, ltb-false}
+use Rattle.common.specs.FactorLaws.{nothing-is}
+use Rattle.common.specs.Settings.{windowIn}
+use Rattle.common.specs.declared.settings.Settings.{Settings}
+use Rattle.history.specs.Measured.{newest-drop}
+use Rattle.history.specs.Rules.{windowTicks, over, within, ahead, lastSecond, newest, joins}
+use Rattle.history.specs.Sweep.{passOf, unsound}
+use Rattle.history.specs.declared.tally.Pass.{Pass}
+use Rattle.ring.specs.declared.Bucket.{Bucket}
+use Rattle.ring.specs.Order.{fine-sums, fine-drop}
+use Rattle.ring.specs.Ring.{sumOf, countOf, counts, declineds, lenOf, buckets}
+use Rattle.ring.specs.Sums.{sum-split}
+use Rattle.ring.specs.View.{view-length}
+use Rattle.room.specs.Room.{slotsOf, ringOf, lastOf, useOf, bodyOf}
+use Rattle.judge.specs.declared.RoomKind.the-variants as kind
+use Rattle.judge.specs.declared.Slot.{Slot}
+use Rattle.judge.specs.Judge.{Passed}
+use Rattle.judge.specs.Slot.{noSlot, pickPass, opened}
+use Rattle.judge.specs.Sound.{addressed, hasSeries}
+use Rattle.plan.specs.Known.{Found, Known, found, none, series-known, series-is, at-as}
+use Rattle.suppressed.specs.Calls.{slotIn, unperceived}
+use Rattle.suppressed.specs.Edits.{hasSlot}
+use Rattle.suppressed.specs.Factor.{left}
+use Rattle.suppressed.specs.Refusals.{joinsLeft}
+
+-- ---- the counts of the last second are among the live ones
+
+within-le : (w t : ℕ) (xs : List Bucket) → counts (within w t xs) ≤ counts xs
+unfolding within sumOf
+within-le w t [] = omega arith
+within-le w t (x ∷ xs) = go (over w t x) (within-le w t xs)
+  where
+    go : (o : Bool) → counts (within w t xs) ≤ counts xs → counts (cond o (within w t xs) (x ∷ within w t xs)) ≤ x .count + counts xs
+    go true h = omega arith
+    go false h = omega arith
+
+over-more : (v w t : ℕ) (x : Bucket) → v ≤ w → over w t x ≡ true → over v t x ≡ true
+unfolding over
+over-more v w t x h e = lt-ltb v (t - x .time) (omega (arith, ltb-true w (t - x .time) e))
+
+pub recent-le : (v w t : ℕ) (xs : List Bucket) → v ≤ w → counts (within v t xs) ≤ counts (drop (ahead w t xs) xs)
+unfolding within ahead
+recent-le v w t [] h = omega arith
+recent-le v w t (x ∷ xs) h = go (over w t x) refl (recent-le v w t xs h)
+  where
+    go : (o : Bool) → over w t x ≡ o → counts (within v t xs) ≤ counts (drop (ahead w t xs) xs) → counts (cond (over v t x) (within v t xs) (x ∷ within v t xs)) ≤ counts (drop (cond o (suc (ahead w t xs)) 0) (x ∷ xs))
+    go true e i = rw (over-more v w t x h e) i
+    go false e i = within-le v t (x ∷ xs)
+
+-- ---- the sums of the live buckets
+
+pub record Sums (x : Slot) : Type 0 where
+  pub recent : x .pass .«last_second» ≤ x .pass .«live_total»
+  pub declined : x .pass .«live_declined» ≤ x .pass .«live_total»
+  pub most : x .pass .«live_total» ≤ 2 ^ 53
+
+no-sums : (x : Slot) → x .pass ≡ unsound → Sums x
+no-sums x e =
+    let a = ap (λ (p : Pass). p .«last_second») e in
+    let b = ap (λ (p : Pass). p .«live_total») e in
+    let d = ap (λ (p : Pass). p .«live_declined») e in
+    record { recent = omega arith; declined = omega arith; most = omega arith }
+
+module _ (s : Settings) (w : List ℕ) (t at : ℕ) (x : Slot) (k : Known kind.Suppressed s w t at x) where
+  known-sums : 1 ≤ windowIn s → Sums x
+  known-sums h =
+      let xs = buckets (ringOf w) (bodyOf w at) in
+      let m = k .measured in
+      let n = x .pass .expired in
+      let r : lastSecond t xs ≤ counts (drop n xs) = rw (← m .expired-are) at (recent-le 1000 (windowTicks (windowIn s)) t xs (omega arith)) in
+      let d : declineds (drop n xs) ≤ counts (drop n xs) = fine-sums 0 (drop n xs) t (fine-drop n 0 xs t (k .now .each)) in
+      record {
+        recent = omega (arith, r, m .recent, m .total);
+        declined = omega (arith, d, m .declined, m .total);
+        most = omega (arith, m .total, sum-split countOf n xs, k .now .total, k .now .most);
+      }
+
+  pub left-length : length (drop (x .pass .expired) (buckets (ringOf w) (bodyOf w at))) ≡ left x
+  left-length =
+      let xs = buckets (ringOf w) (bodyOf w at) in
+      omega (arith, length-drop (x .pass .expired) xs, view-length (ringOf w) (bodyOf w at), k .measured .buckets-are)
+
+  -- the newest that the pass found is the newest of the live ones
+  pub joins-left : (b : ℕ) → joinsLeft b t x ≡ joins b t (drop (x .pass .expired) (buckets (ringOf w) (bodyOf w at)))
+  unfolding joinsLeft joins
+  joins-left b = go (decLt 0 (left x))
+    where
+      xs : List Bucket
+      xs = buckets (ringOf w) (bodyOf w at)
+
+      ys : List Bucket
+      ys = drop (x .pass .expired) (buckets (ringOf w) (bodyOf w at))
+
+      go : Dec (0 < left x) → ltb 0 (left x) && leb (t - x .pass .newest .time) b ≡ ltb 0 (length ys) && leb (t - newest ys .time) b
+      go (yes l) =
+          let h : x .pass .expired < length xs = omega (arith, view-length (ringOf w) (bodyOf w at), k .measured .buckets-are) in
+          ap (λ (z : Bucket). ltb 0 (left x) && leb (t - z .time) b) (k .measured .newest-is ∙ sym (newest-drop (x .pass .expired) xs h)) ∙
+          ap (λ (n : ℕ). ltb 0 n && leb (t - newest ys .time) b) (sym left-length)
+      go (no l) =
+          ap (λ (z : Bool). z && leb (t - x .pass .newest .time) b) (le-ltb 0 (left x) (omega arith)) ∙
+          sym (ap (λ (z : Bool). z && leb (t - newest ys .time) b) (le-ltb 0 (length ys) (omega (arith, left-length))))
+
+lone-pass : (s : Settings) (w : List ℕ) (t at : ℕ) (x : Slot) → Found kind.Suppressed s w t at x → x .series ≡ false → x .pass ≡ unsound
+unfolding opened
+lone-pass s w t at x f e =
+    ap (λ (y : Slot). y .pass) (f .is) ∙
+    ap (λ (z : Bool). pickPass z (passOf (ringOf w) (bodyOf w at) (lastOf w) t (windowTicks (windowIn s)))) (sym (series-is kind.Suppressed s w t at x f) ∙ e)
+
+-- ---- the slot that a key addresses
+
+module _ (s : Settings) (w : List ℕ) (t : ℕ) (key : List ℕ) (q : Passed kind.Suppressed s w t key) (x : Slot) (p : x ≡ slotIn s w t key) where
+  there : addressed w key < slotsOf w → Found kind.Suppressed s w t (x .at) x
+  there l =
+      let f : Found kind.Suppressed s w t (addressed w key) x = subst (λ (y : Slot). Found kind.Suppressed s w t (addressed w key) y) (sym p) (found kind.Suppressed s w t key q l) in
+      subst (λ (n : ℕ). Found kind.Suppressed s w t n x) (sym (at-as kind.Suppressed s w t (addressed w key) x f)) f
+
+  nowhere : (addressed w key < slotsOf w → ⊥) → x ≡ noSlot (slotsOf w)
+  nowhere n = let l : slotsOf w ≤ addressed w key = omega arith in p ∙ none kind.Suppressed s w t key q l
+
+  pub used : hasSlot x ≡ true → Found kind.Suppressed s w t (x .at) x
+  used e = go (decLt (addressed w key) (slotsOf w))
+    where
+      go : Dec (addressed w key < slotsOf w) → Found kind.Suppressed s w t (x .at) x
+      go (yes l) = there l
+      go (no n) = absurd (false≢true (sym (ap (λ (y : Slot). hasSlot y) (nowhere n)) ∙ e))
+
+  pub known : x .series ≡ true → Known kind.Suppressed s w t (x .at) x
+  known e = series-known kind.Suppressed s w t (x .at) x (used (ap (λ (z : Bool). z || x .cached) e)) (q .later) e
+
+  pub unknown : x .series ≡ false → x .pass ≡ unsound
+  unknown e = go (decLt (addressed w key) (slotsOf w))
+    where
+      go : Dec (addressed w key < slotsOf w) → x .pass ≡ unsound
+      go (yes l) = lone-pass s w t (x .at) x (there l) e
+      go (no n) = ap (λ (y : Slot). y .pass) (nowhere n)
+
+  pub sums : Sums x
+  sums = go (x .series) refl
+    where
+      go : (z : Bool) → x .series ≡ z → Sums x
+      go true e = known-sums s w t (x .at) x (known e) (q .settings .window-low)
+      go false e = no-sums x (unknown e)
+
+  -- the perceived rate is zero exactly where nothing was counted
+  pub unperceived-is : unperceived s x ≡ eqb (x .pass .«live_total») 0
+  unperceived-is = nothing-is (x .pass .«live_total») (windowIn s) (x .pass .«last_second») (sums .recent) (sums .most) (q .settings .window-low) (q .settings .window-high)
