@@ -112,7 +112,7 @@ pub fn replay(limiters: &dyn Limiters, list: &str) -> Replayed {
     let mut settings = Settings::default();
     let mut rooms = Rooms::empty(1, 1);
     let mut replayed = Replayed::default();
-    for line in list.lines() {
+    for line in list.lines().filter(|line| !line.starts_with('#')) {
         if line.starts_with('h') {
             let [slots, ring, window, bucket, cache, factor] = numbers(line);
             settings = Settings { window, bucket, cache, factor: f64::from_bits(factor) };
