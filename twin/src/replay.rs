@@ -1,7 +1,7 @@
 //! Replays the list of the original's answers: every answer, and the key's words after every call.
 
 use crate::calls::{Answer, Call, Limiters, Op, Rooms};
-use crate::room::{find, slot};
+use crate::room::{find, is_room, slot};
 use crate::rules::{Comparator, Kind, Mode, Settings};
 use crate::set::Wanted;
 
@@ -96,15 +96,58 @@ fn key_numbers(room: &[u64], key: &[u8]) -> [u64; 6] {
     numbers
 }
 
-/// Whether a `c` line's answer and state come out.
-fn is_same(limiters: &dyn Limiters, settings: &Settings, rooms: &mut Rooms, line: &str) -> bool {
-    let given: [u64; 24] = numbers(line);
-    let bytes: Vec<u8> = given[3..7].iter().flat_map(|word| word.to_le_bytes()).collect();
+/// A call's answer and the key's state after it, as the list has them.
+fn outcome(
+    limiters: &dyn Limiters,
+    settings: &Settings,
+    rooms: &mut Rooms,
+    given: &[u64],
+) -> [u64; 10] {
+    let mut bytes: Vec<u8> = given[3..7].iter().flat_map(|word| word.to_le_bytes()).collect();
+    bytes.resize(64, b'x');
     let key = &bytes[..given[2] as usize];
     let call = Call { key, op: op(given[0], &given[7..14]) };
     let answer = limiters.call(settings, rooms, given[1], call, &mut vec![]);
     let kind = if given[0] > 10 { Kind::Suppressed } else { Kind::Absolute };
-    answer_numbers(answer) == given[14..18] && key_numbers(rooms.of(kind), key) == given[18..]
+    let mut numbers = [0; 10];
+    numbers[..4].copy_from_slice(&answer_numbers(answer));
+    if is_room(rooms.of(kind)) {
+        numbers[4..].copy_from_slice(&key_numbers(rooms.of(kind), key));
+    }
+    numbers
+}
+
+/// What a list's lines do before a call: `h` begins with empty rooms, `w` changes a word.
+fn prepare(settings: &mut Settings, rooms: &mut Rooms, line: &str) {
+    if line.starts_with('h') {
+        let [slots, ring, window, bucket, cache, factor] = numbers(line);
+        *settings = Settings { window, bucket, cache, factor: f64::from_bits(factor) };
+        *rooms = Rooms::empty(slots as usize, ring as usize);
+    }
+    if line.starts_with('w') {
+        let [which, at, value] = numbers(line);
+        let kind = if which == 0 { Kind::Absolute } else { Kind::Suppressed };
+        rooms.of_mut(kind)[at as usize] = value;
+    }
+}
+
+/// The list with its answers: each `c` line has its first fourteen numbers, and gets the other ten.
+pub fn filled(limiters: &dyn Limiters, list: &str) -> String {
+    let mut settings = Settings::default();
+    let mut rooms = Rooms::empty(1, 1);
+    let mut out = String::new();
+    for line in list.lines() {
+        out.push_str(line);
+        if line.starts_with('c') {
+            let given: [u64; 14] = numbers(line);
+            for number in outcome(limiters, &settings, &mut rooms, &given) {
+                out.push_str(&format!(" {number}"));
+            }
+        }
+        prepare(&mut settings, &mut rooms, line);
+        out.push('\n');
+    }
+    out
 }
 
 /// Runs the whole list.
@@ -112,17 +155,15 @@ pub fn replay(limiters: &dyn Limiters, list: &str) -> Replayed {
     let mut settings = Settings::default();
     let mut rooms = Rooms::empty(1, 1);
     let mut replayed = Replayed::default();
-    for line in list.lines().filter(|line| !line.starts_with('#')) {
-        if line.starts_with('h') {
-            let [slots, ring, window, bucket, cache, factor] = numbers(line);
-            settings = Settings { window, bucket, cache, factor: f64::from_bits(factor) };
-            rooms = Rooms::empty(slots as usize, ring as usize);
-        } else {
+    for line in list.lines() {
+        if line.starts_with('c') {
+            let given: [u64; 24] = numbers(line);
             replayed.calls += 1;
-            if !is_same(limiters, &settings, &mut rooms, line) {
+            if outcome(limiters, &settings, &mut rooms, &given) != given[14..] {
                 replayed.differed.push(line.to_string());
             }
         }
+        prepare(&mut settings, &mut rooms, line);
     }
     replayed
 }

@@ -1,7 +1,7 @@
 -- The suppressed limiter's factor, in document 01's words. x is the key's slot, F the hard limit factor, W the window in seconds, C the cache period,
 -- t the reading, S and H the soft and the hard limit as whole numbers.
 -- Assumes nothing.
-use mathlib.Core.Bool.{Bool, true, false, not, _&&_, _||_, cond}
+use mathlib.Core.Bool.{Bool, false, not, _&&_, _||_, cond}
 use Prim.Native.Nat.{ℕ, _-_}
 use lib.Dec.{leb, ltb, eqb}
 use lib.Ieee.{Float, binary64, ofBits}
@@ -14,7 +14,6 @@ use Rattle.common.specs.declared.factor.CachedFactor.{CachedFactor}
 use Rattle.judge.specs.declared.Slot.{Slot}
 use Rattle.suppressed.specs.declared.factor.FactorRule.{FactorRule}
 use Rattle.suppressed.specs.declared.factor.FactorRule.the-variants.{Nil, One, Worked}
-use Rattle.suppressed.specs.declared.factor.Caching.{Caching}
 use Rattle.suppressed.specs.declared.factor.Caching.the-variants.{Left, Cached}
 use Rattle.suppressed.specs.declared.factor.Asked.{Asked}
 

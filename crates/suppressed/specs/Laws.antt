@@ -3,25 +3,21 @@
 use mathlib.Core.Path.{_≡_, refl, sym, ap, ap₂, subst, _∙_}
 use mathlib.Core.Bool.{Bool, true, false, not, _&&_, _||_, cond, false≢true}
 use mathlib.Core.List.{List, [], _∷_, _++_}
-use Prim.Native.Nat.{ℕ, _+_, _-_, _≤_, _<_}
+use Prim.Native.Nat.{ℕ, _+_, _≤_, _<_}
 use native.Mathlib.Omega.{arith}
 use lib.Dec.{leb, ltb, eqb}
 use lib.ListN.{length, drop}
 use borrow.Author.Tests.{ltb-false, leb-false}
 use Rattle.common.specs.Refusals.{first, Positive, AllFalse, first-found, first-none, all-false}
-use Rattle.common.specs.Settings.{windowIn, bucketIn}
-use Rattle.common.specs.declared.answers.FactorAnswer.{FactorAnswer}
+use Rattle.common.specs.Settings.{bucketIn}
 use Rattle.common.specs.declared.answers.FactorAnswer.the-variants as factor
-use Rattle.common.specs.declared.answers.RateLimitDecision.{RateLimitDecision}
 use Rattle.common.specs.declared.answers.RateLimitDecision.the-variants as decision
-use Rattle.common.specs.declared.answers.SnapshotAnswer.{SnapshotAnswer}
 use Rattle.common.specs.declared.answers.SnapshotAnswer.the-variants as snapshot
 use Rattle.common.specs.declared.history_mode.SuppressedRateLimitSnapshot.{SuppressedRateLimitSnapshot}
 use Rattle.common.specs.declared.settings.Settings.{Settings}
 use Rattle.common.specs.declared.units.RateLimit.{RateLimit}
 use Rattle.history.specs.Rules.{joins}
-use Rattle.ring.specs.declared.Bucket.{Bucket}
-use Rattle.ring.specs.Ring.{sumOf, countOf, counts, mostTotal, buckets}
+use Rattle.ring.specs.Ring.{countOf, mostTotal, buckets}
 use Rattle.ring.specs.Sums.{sum-none}
 use Rattle.room.specs.Room.{Room, slotsOf, ringOf, bodyOf}
 use Rattle.judge.specs.declared.Judged.{Judged}
@@ -29,7 +25,7 @@ use Rattle.judge.specs.declared.RoomKind.the-variants as kind
 use Rattle.judge.specs.declared.Slot.{Slot}
 use Rattle.judge.specs.Judge.{early, judged, Passed}
 use Rattle.judge.specs.Laws.{code-is, slot-is, passed}
-use Rattle.judge.specs.Verdict.{Verdict, verdict, Told, call-early, call-own, call-done}
+use Rattle.judge.specs.Verdict.{Told, call-early, call-own, call-done}
 use Rattle.change.specs.declared.Change.{Change}
 use Rattle.change.specs.declared.Change.the-variants.{Keep, Update, Take}
 use Rattle.change.specs.declared.Edit.{Edit}
@@ -42,7 +38,7 @@ use Rattle.suppressed.specs.declared.factor.Caching.{Caching}
 use Rattle.suppressed.specs.declared.factor.Caching.the-variants.{Left, Cached}
 use Rattle.suppressed.specs.declared.forecast.Outcome.{Outcome}
 use Rattle.suppressed.specs.Factor.{left, asked}
-use Rattle.suppressed.specs.Edits.{hasSlot, factorAfter, timeAfter, useAfter, recached, getChange, loneEdit, loneBy, loneChange, factorChange, incEdit, incChange}
+use Rattle.suppressed.specs.Edits.{hasSlot, factorAfter, timeAfter, useAfter, recached, getChange, loneBy, loneChange, factorChange, incEdit, incChange}
 use Rattle.suppressed.specs.Refusals.{placeOf, joinsLeft, crowded, incLate}
 use Rattle.suppressed.specs.Calls.{slotIn, unperceived, asking, snapshotOf, getOwn, getDoes, getOn, get, factorOwn, factorDoes, factorOn, getFactor, limitFor, incOwn, incDoes, incOn, incOutcome, inc}
 use Rattle.suppressed.specs.Forecast.{forecast, outcome, outcome-declined}
@@ -77,7 +73,7 @@ not-crowded false j l e h f = absurd (false≢true e)
 
 -- of a series without its expired buckets
 module _ (s : Settings) (w : List ℕ) (t at : ℕ) (x : Slot) (o : Room w) (h : Known kind.Suppressed s w t at x) where
-  get-edits : (k : Caching) → EditsAt w at (bucketIn s) t (recached x k (evicting x Nothing))
+  pub get-edits : (k : Caching) → EditsAt w at (bucketIn s) t (recached x k (evicting x Nothing))
   unfolding recached
   get-edits k = evicting-edits kind.Suppressed s w t at x o h (bucketIn s) (recached x k (evicting x Nothing)) refl refl refl refl tt
 
@@ -111,11 +107,11 @@ module _ (s : Settings) (w : List ℕ) (t : ℕ) (key : List ℕ) (e : early kin
   passes : Passed kind.Suppressed s w t key
   passes = passed kind.Suppressed s w t key e
 
-  place-used : hasSlot x ≡ true → placeOf w x ≡ x .at
+  pub place-used : hasSlot x ≡ true → placeOf w x ≡ x .at
   unfolding placeOf
   place-used h = rw h
 
-  with-series : x .series ≡ true → hasSlot x ≡ true
+  pub with-series : x .series ≡ true → hasSlot x ≡ true
   with-series h = ap (λ (z : Bool). z || x .cached) h
 
   known-place : x .series ≡ true → Known kind.Suppressed s w t (placeOf w x) x
@@ -283,6 +279,10 @@ module _ (s : Settings) (w : List ℕ) (t : ℕ) (key : List ℕ) (e : early kin
           inc-applies ch k =
               subst (λ (j : ℕ). Applies w j (bucketIn s) t ch) (sym m)
               (subst (λ (d : Change). Applies w (placeOf w x) (bucketIn s) t d) (sym k) (inc-carries (o .caching) limit (o .declined) declined-le))
+
+          pub inc-edit : x .series ≡ true → EditsAt w (x .at) (bucketIn s) t (recached x (o .caching) (evicting x (Increment c (o .declined))))
+          inc-edit z =
+              inc-edits s w t (x .at) x (passes .room) (known s w t key passes x p z) (o .caching) limit c (o .declined) declined-le z (none-late .1 .1 .0) (none-late .1 .1 .1 .1 .0)
 
 -- ---- the calls, from what the judging function has found
 

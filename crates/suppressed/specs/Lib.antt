@@ -7,3 +7,4 @@ pub mod Standing
 pub mod Laws
 pub mod Unit
 pub mod View
+pub mod Leaves

@@ -3,12 +3,12 @@
 use mathlib.Core.Path.{_≡_, refl, sym, ap, subst, _∙_}
 use mathlib.Core.Bool.{Bool, true, false, _&&_, _||_, cond, false≢true}
 use mathlib.Core.List.{List, [], _∷_}
-use Prim.Native.Nat.{ℕ, suc, _+_, _-_, _*_, _^_, _≤_, _<_}
+use Prim.Native.Nat.{ℕ, suc, _+_, _-_, _^_, _≤_, _<_}
 use native.Mathlib.Decide.{decLt}
 use native.Mathlib.Omega.{arith}
 use lib.Dec.{ltb, leb, eqb}
 use lib.ListN.{length, drop, length-drop}
-use borrow.Author.Tests.{lt-ltb, le-ltb, ltb-true, ltb-false}
+use borrow.Author.Tests.{lt-ltb, le-ltb, ltb-true}
 use Rattle.common.specs.FactorLaws.{nothing-is}
 use Rattle.common.specs.Settings.{windowIn}
 use Rattle.common.specs.declared.settings.Settings.{Settings}
@@ -18,15 +18,15 @@ use Rattle.history.specs.Sweep.{passOf, unsound}
 use Rattle.history.specs.declared.tally.Pass.{Pass}
 use Rattle.ring.specs.declared.Bucket.{Bucket}
 use Rattle.ring.specs.Order.{fine-sums, fine-drop}
-use Rattle.ring.specs.Ring.{sumOf, countOf, counts, declineds, lenOf, buckets}
+use Rattle.ring.specs.Ring.{sumOf, countOf, counts, declineds, buckets}
 use Rattle.ring.specs.Sums.{sum-split}
 use Rattle.ring.specs.View.{view-length}
-use Rattle.room.specs.Room.{slotsOf, ringOf, lastOf, useOf, bodyOf}
+use Rattle.room.specs.Room.{slotsOf, ringOf, lastOf, bodyOf}
 use Rattle.judge.specs.declared.RoomKind.the-variants as kind
 use Rattle.judge.specs.declared.Slot.{Slot}
 use Rattle.judge.specs.Judge.{Passed}
 use Rattle.judge.specs.Slot.{noSlot, pickPass, opened}
-use Rattle.judge.specs.Sound.{addressed, hasSeries}
+use Rattle.judge.specs.Sound.{addressed}
 use Rattle.plan.specs.Known.{Found, Known, found, none, series-known, series-is, at-as}
 use Rattle.suppressed.specs.Calls.{slotIn, unperceived}
 use Rattle.suppressed.specs.Edits.{hasSlot}

@@ -1,14 +1,14 @@
 -- The factor of every decision and snapshot that is not refused lies in 0 to 1, and so does every factor that is cached.
 -- Assumes nothing.
-use mathlib.Core.Path.{_≡_, refl, sym, ap, subst, _∙_}
-use mathlib.Core.Bool.{Bool, true, false, not, _&&_, _||_, cond, false≢true}
-use Prim.Native.Nat.{ℕ, _-_, _^_, _≤_, _<_}
+use mathlib.Core.Path.{_≡_, refl, subst}
+use mathlib.Core.Bool.{Bool, true, false, not, _&&_, _||_, cond}
+use Prim.Native.Nat.{ℕ, _-_, _≤_}
 use native.Mathlib.Omega.{arith}
 use lib.Dec.{leb, ltb, eqb}
 use lib.Ieee.{Float, binary64, ofBits, toBits}
 use borrow.Author.Tests.{ltb-false, eqb-false}
 use Rattle.base.specs.Decides.{and-true}
-use Rattle.common.specs.Factor.{Unit01, factorWordOk, freshFactor}
+use Rattle.common.specs.Factor.{Unit01, factorWordOk}
 use Rattle.common.specs.FactorLaws.{Counted, fresh-unit, fresh-ok, factor-unit, nilWord, oneWord, nil-ok, one-ok, nil-word, one-word}
 use Rattle.common.specs.Ranges.{nil, one}
 use Rattle.common.specs.Limits.{cutWord, softWord}
@@ -24,7 +24,7 @@ use Rattle.suppressed.specs.declared.factor.Caching.the-variants.{Left, 
 use Rattle.suppressed.specs.declared.factor.Asked.{Asked}
 use Rattle.suppressed.specs.declared.forecast.Reach.{Reach}
 use Rattle.suppressed.specs.declared.forecast.Reach.the-variants.{Hard, Soft, Over, Between}
-use Rattle.suppressed.specs.Factor.{accepted, left, stays, usable, ruleOf, freshBy, blindBy, freshOf, worked, asked}
+use Rattle.suppressed.specs.Factor.{accepted, left, stays, usable, ruleOf, freshBy, blindBy, worked, asked}
 use Rattle.suppressed.specs.Forecast.{reachOf, drawn, outcomeOf, outcome}
 use Rattle.suppressed.specs.Standing.{Sums}
 

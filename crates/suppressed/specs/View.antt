@@ -1,12 +1,11 @@
 -- What the calls leave: every other slot word for word as it was, the key's slot with the buckets that the rules make of those before, and sound again.
 -- Assumes nothing.
-use mathlib.Core.Path.{_≡_, refl, sym, ap, _∙_}
-use mathlib.Core.Bool.{Bool, true, false, not, _&&_, _||_, cond, false≢true}
+use mathlib.Core.Path.{_≡_, refl, ap, _∙_}
+use mathlib.Core.Bool.{Bool, true, false, not, _&&_, _||_, false≢true}
 use mathlib.Core.List.{List}
 use Prim.Native.Nat.{ℕ, _≤_}
 use native.Mathlib.Omega.{arith}
-use lib.Dec.{leb, eqb}
-use lib.ListN.{length}
+use lib.Dec.{eqb}
 use borrow.Author.Tests.{le-leb}
 use Rattle.base.specs.Decides.{and-true, true-and}
 use Rattle.common.specs.Factor.{factorWordOk}
@@ -26,10 +25,9 @@ use Rattle.judge.specs.Sound.{limitOf, factorOf, factorTimeOf, hasSeries, hasCa
 use Rattle.change.specs.declared.Change.the-variants.{Update, Take}
 use Rattle.change.specs.declared.Edit.{Edit}
 use Rattle.change.specs.declared.Then.{Then}
-use Rattle.change.specs.declared.Then.the-variants.{Nothing}
 use Rattle.change.specs.Words.{edited, carried, applied, EditsAt}
 use Rattle.change.specs.Laws.{Edited, edited-is, update-change, take-change}
-use Rattle.plan.specs.Known.{Found, cached-known}
+use Rattle.plan.specs.Known.{cached-known}
 use Rattle.plan.specs.Plan.{evicting, opening}
 use Rattle.suppressed.specs.declared.factor.Caching.{Caching}
 use Rattle.suppressed.specs.declared.factor.Caching.the-variants.{Left, Cached}

@@ -1,6 +1,6 @@
 // What the calls change of a key's slot, once its factor is known.
 ghost use mathlib.Core.Path.{_≡_};
-ghost use Rattle.suppressed.specs.Edits.{hasSlot, useLeft, recached, getChange, loneEdit, loneBy, loneChange, factorChange, incEdit, incChange};
+ghost use Rattle.suppressed.specs.Edits.{hasSlot, useLeft, recached, getChange, loneBy, loneChange, factorChange, incEdit, incChange};
 use crate::factor::Caching;
 use crate::factor::stays;
 use change::Change;

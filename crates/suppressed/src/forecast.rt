@@ -2,10 +2,8 @@
 ghost use mathlib.Core.Path.{_≡_};
 ghost use Prim.Native.Nat.{_+_, _≤_};
 ghost use lib.Dec.{eqb};
-ghost use Rattle.common.specs.Settings.{factorIn};
 ghost use Rattle.ring.specs.Ring.{mostTotal};
-ghost use Rattle.suppressed.specs.Factor.{asked};
-ghost use Rattle.suppressed.specs.Forecast.{forecast, reachOf, fullAt, drawn, outcomeOf, outcome, declinedBy};
+ghost use Rattle.suppressed.specs.Forecast.{forecast, reachOf, fullAt, drawn, outcome, declinedBy};
 use crate::factor::Asked;
 use crate::factor::Caching;
 use crate::factor::ask;

@@ -1,7 +1,6 @@
 -- By the series.
 use mathlib.Core.Path.{_∙_}
 use Rattle.suppressed.specs.Edits.{factor-series, factor-lone}
-use Rattle.suppressed.specs.Edits.{factorChange}
 use borrow.Author.Needs.{needs}
 use Rattle.suppressed.proofs.edits.factor_change.Statement.{statement}
 use Rattle.suppressed.proofs.edits.factor_change.Tie as tie

@@ -1,7 +1,6 @@
 -- By the series.
 use Rattle.suppressed.specs.Edits.{getChange, get-series}
 use borrow.Author.Tests.{not-true, not-false}
-use Rattle.suppressed.specs.Edits.{getChange}
 use borrow.Author.Needs.{needs}
 use Rattle.suppressed.proofs.edits.get_change.Statement.{statement}
 use Rattle.suppressed.proofs.edits.get_change.Tie as tie
