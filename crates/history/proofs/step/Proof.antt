@@ -1,4 +1,4 @@
--- `history::step` meets its contract: field by field, what the helpers return is the definition.
+-- `history::step` meets its contract: field by field, what the smaller functions return is the definition.
 -- Assumes nothing.
 use Rattle.history.specs.Sweep.{stepOf}
 use Rattle.history.specs.Rules.{over}
