@@ -4,4 +4,3 @@ pub mod Delete
 pub mod Rate
 pub mod Set
 pub mod SetLaws
-pub mod View

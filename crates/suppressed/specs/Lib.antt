@@ -5,6 +5,3 @@ pub mod Refusals
 pub mod Calls
 pub mod Standing
 pub mod Laws
-pub mod Unit
-pub mod View
-pub mod Leaves

@@ -1,0 +1,5 @@
+pub mod Calls
+pub mod Cleanup
+pub mod Unit
+pub mod Suppressed
+pub mod Leaves
