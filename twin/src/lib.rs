@@ -1,5 +1,5 @@
 //! The two limiters as an ordinary Rust program over the same fixed rooms, written from document 01.
-//! WORDS.md says which words each call writes.
+//! docs/WORDS.md says which words each call writes.
 
 pub mod absolute;
 pub mod calls;

@@ -1,4 +1,4 @@
-//! The lent room: where its words lie, how a slot is found and judged, and the changes of WORDS.md.
+//! The lent room: where its words lie, how a slot is found and judged, and the changes of docs/WORDS.md.
 
 use crate::rules::{Kind, Refusal, Settings, TOP, cut, refuse_if};
 
