@@ -11,10 +11,12 @@ use borrow.Author.Tests.{le-leb, leb-true, eq-eqb, eqb-true}
 use Rattle.lines.specs.Bytes.{counts, classOf}
 use Rattle.lines.specs.Numbers.{showNumber}
 use Rattle.lines.specs.Shown.{windowText, bucketText, factorText, cacheText, tText, opText, keyText, rateText, nText, drawText, largest, exactLargest, Key, showSettings, SettingsFit, showCall, CallFits, keyStart}
-use Rattle.lines.specs.Reading.{fieldAt, textAt, keyAt, opAt, readSettings, readCall}
-use Rattle.lines.specs.ReadLaws.{Stops, Field, KeyRead, each-number, each-place, each-name, each-test, both, past-part, past-field, text-shown, text-read, field-shown, field-read, key-shown, key-read, op-shown, op-read}
+use Rattle.lines.specs.Reading.{fieldAt, textAt, keyAt, opAt, closes, amountsAt, readSettings, readCall}
+use Rattle.lines.specs.ReadLaws.{Stops, Field, KeyRead, each-number, each-place, each-name, each-amounts, each-test, both, past-part, past-field, text-shown, text-read, field-shown, field-read, key-shown, key-read, op-shown, op-read}
 use Rattle.lines.specs.declared.Op.{Op}
 use Rattle.lines.specs.declared.Op.the-variants.{AbsoluteInc, AbsoluteGet, SuppressedInc, SuppressedGet}
+use Rattle.lines.specs.declared.Amounts.{Amounts}
+use Rattle.lines.specs.declared.Amounts.the-variants.{Are, NoAmounts}
 use Rattle.lines.specs.declared.CallLine.{CallLine}
 use Rattle.lines.specs.declared.CallLine.the-variants as call
 use Rattle.lines.specs.declared.SettingsLine.{SettingsLine}
@@ -43,6 +45,25 @@ last-read line text at n next f e =
     let h : length line ≤ next = omega arith in
     let d : drop next line ≡ [] = drop-of-length-le line h in
     f .shows ∙ rw (d, append-nil)
+
+-- a line that ends after its last field, with a number at most 2^53
+pub record Closed (line : List ℕ) (at n : ℕ) : Type 0 where
+  pub exact : n ≤ exactLargest
+  pub ended : at ≡ length line
+
+closed-is : (line : List ℕ) (at n : ℕ) → closes line at n ≡ true → Closed line at n
+unfolding closes
+closed-is line at n e =
+    let u = both (leb n exactLargest) (eqb at (length line)) e in
+    record { exact = leb-true n exactLargest (u .0); ended = eqb-true at (length line) (u .1) }
+
+is-closed : (line : List ℕ) (at n : ℕ) → n ≤ exactLargest → at ≡ length line → closes line at n ≡ true
+unfolding closes
+is-closed line at n h e = rw (le-leb _ _ h, eq-eqb _ _ e)
+
+-- a number that ends the line, as a field with nothing past it
+nothing-past : (text : List ℕ) (n : ℕ) → text ++ showNumber n ≡ text ++ (showNumber n ++ [])
+nothing-past text n = rw append-nil
 
 -- ---- settings lines
 
@@ -76,15 +97,11 @@ settings-read line =
     (λ factor c r.
     each-number (SettingsRead line) (fieldAt line c cacheText) settings.Bad _ tt
     (λ cache d s.
-    each-test (SettingsRead line) (leb factor exactLargest && eqb d (length line)) (settings.Settings window bucket factor cache) settings.Bad tt
+    each-test (SettingsRead line) (closes line d factor) (settings.Settings window bucket factor cache) settings.Bad tt
     (λ t.
-    let u = both (leb factor exactLargest) (eqb d (length line)) t in
+    let u = closed-is line d factor t in
     settings-joined line window bucket factor cache a b c d (field-read line windowText 0 window a p) (field-read line bucketText a bucket b q) (field-read line factorText b factor c r)
-    (field-read line cacheText c cache d s) (leb-true factor exactLargest (u .0)) (eqb-true d (length line) (u .1)))))))
-
--- a number that ends the line, as a field with nothing past it
-nothing-past : (text : List ℕ) (n : ℕ) → text ++ showNumber n ≡ text ++ (showNumber n ++ [])
-nothing-past text n = rw append-nil
+    (field-read line cacheText c cache d s) (u .exact) (u .ended))))))
 
 settings-line : (line : List ℕ) (window bucket factor cache : ℕ) → SettingsFit window bucket factor cache → line ≡ showSettings window bucket factor cache →
     readSettings line ≡ settings.Settings window bucket factor cache
@@ -105,8 +122,7 @@ settings-line line window bucket factor cache f e =
       field-shown line bucketText r₂ a bucket p (f .buckets) (space-stops false),
       field-shown line factorText r₃ b factor q h (space-stops false),
       field-shown line cacheText [] c cache (r ∙ nothing-past cacheText cache) (f .caches) tt,
-      le-leb _ _ (f .factors),
-      eq-eqb _ _ (last-shown line cacheText c cache (omega arith) r),
+      is-closed line _ factor (f .factors) (last-shown line cacheText c cache (omega arith) r),
     )
 
 -- settings that are shown read as these settings
@@ -137,17 +153,64 @@ abbrev pub CallRead : List ℕ → CallLine → Type 0
 CallRead line (call.Call t op start end rate n draw) = ReadCall line t op start end rate n draw
 CallRead line call.Bad = Unit {0}
 
-call-joined : (line : List ℕ) (t : ℕ) (op : Op) (start end rate n draw a b c d e : ℕ) → Field line 0 tText t a → (b ≡ a + length (opText op)) × (drop a line ≡ opText op ++ drop b line) →
-    (start ≡ b + length keyText) × (drop b line ≡ keyText ++ drop start line) → KeyRead line start end (keyIn line start end) → Field line end rateText rate c → Field line c nText n d →
-    Field line d drawText draw e → rate ≤ exactLargest → e ≡ length line → ReadCall line t op start end rate n draw
-unfolding showCall
-call-joined line t op start end rate n draw a b c d e p q r k x y z h l =
+-- what is found of the numbers at `at`
+pub record Amounted (line : List ℕ) (at rate n draw : ℕ) : Type 0 where
+  pub rate-fits : rate ≤ exactLargest
+  pub n-fits : n ≤ largest
+  pub draw-fits : draw ≤ largest
+  pub shows : drop at line ≡ rateText ++ (showNumber rate ++ (nText ++ (showNumber n ++ (drawText ++ showNumber draw))))
+
+abbrev AmountsRead : List ℕ → ℕ → Amounts → Type 0
+AmountsRead line at (Are rate n draw) = Amounted line at rate n draw
+AmountsRead line at NoAmounts = Unit {0}
+
+amounts-joined : (line : List ℕ) (at rate n draw c d e : ℕ) → Field line at rateText rate c → Field line c nText n d → Field line d drawText draw e → Closed line e rate → Amounted line at rate n draw
+amounts-joined line at rate n draw c d e x y z l =
     record {
-      fits = record { times = p .fits; keys = k .good; rates = h; counts = y .fits; draws = z .fits };
+      rate-fits = l .exact;
+      n-fits = y .fits;
+      draw-fits = z .fits;
+      shows = x .shows ∙ ap (λ (m : List ℕ). rateText ++ (showNumber rate ++ m)) (y .shows ∙ ap (λ (m : List ℕ). nText ++ (showNumber n ++ m)) (last-read line drawText d draw e z (l .ended)));
+    }
+
+amounts-read : (line : List ℕ) (at : ℕ) → AmountsRead line at (amountsAt line at)
+unfolding amountsAt
+amounts-read line at =
+    each-number (AmountsRead line at) (fieldAt line at rateText) NoAmounts _ tt
+    (λ rate c x.
+    each-number (AmountsRead line at) (fieldAt line c nText) NoAmounts _ tt
+    (λ n d y.
+    each-number (AmountsRead line at) (fieldAt line d drawText) NoAmounts _ tt
+    (λ draw e z.
+    each-test (AmountsRead line at) (closes line e rate) (Are rate n draw) NoAmounts tt
+    (λ s. amounts-joined line at rate n draw c d e (field-read line rateText at rate c x) (field-read line nText c n d y) (field-read line drawText d draw e z) (closed-is line e rate s)))))
+
+amounts-shown : (line : List ℕ) (at rate n draw : ℕ) → Amounted line at rate n draw → amountsAt line at ≡ Are rate n draw
+unfolding amountsAt
+amounts-shown line at rate n draw f =
+    let r₂ : List ℕ = drawText ++ showNumber draw in
+    let r₁ : List ℕ = nText ++ (showNumber n ++ r₂) in
+    let c : ℕ = at + length rateText + length (showNumber rate) in
+    let d : ℕ = c + length nText + length (showNumber n) in
+    let p : drop c line ≡ r₁ = past-field line rateText r₁ at rate (f .shows) in
+    let q : drop d line ≡ r₂ = past-field line nText r₂ c n p in
+    let h : rate ≤ largest = omega (arith, f .rate-fits) in
+    rw (
+      field-shown line rateText r₁ at rate (f .shows) h (space-stops false),
+      field-shown line nText r₂ c n p (f .n-fits) (space-stops false),
+      field-shown line drawText [] d draw (q ∙ nothing-past drawText draw) (f .draw-fits) tt,
+      is-closed line _ rate (f .rate-fits) (last-shown line drawText d draw (omega arith) q),
+    )
+
+call-joined : (line : List ℕ) (t : ℕ) (op : Op) (start end rate n draw a b : ℕ) → Field line 0 tText t a → (b ≡ a + length (opText op)) × (drop a line ≡ opText op ++ drop b line) →
+    (start ≡ b + length keyText) × (drop b line ≡ keyText ++ drop start line) → KeyRead line start end (keyIn line start end) → Amounted line end rate n draw → ReadCall line t op start end rate n draw
+unfolding showCall
+call-joined line t op start end rate n draw a b p q r k x =
+    record {
+      fits = record { times = p .fits; keys = k .good; rates = x .rate-fits; counts = x .n-fits; draws = x .draw-fits };
       starts = omega (arith, p .past, q .0, r .0);
       ends = k .past;
-      shows = p .shows ∙ ap (λ (m : List ℕ). tText ++ (showNumber t ++ m)) (q .1 ∙ ap (λ (m : List ℕ). opText op ++ m) (r .1 ∙ ap (λ (m : List ℕ). keyText ++ m) (k .shows ∙ ap (λ (m : List ℕ). keyIn line start end ++ m)
-          (x .shows ∙ ap (λ (m : List ℕ). rateText ++ (showNumber rate ++ m)) (y .shows ∙ ap (λ (m : List ℕ). nText ++ (showNumber n ++ m)) (last-read line drawText d draw e z l))))));
+      shows = p .shows ∙ ap (λ (m : List ℕ). tText ++ (showNumber t ++ m)) (q .1 ∙ ap (λ (m : List ℕ). opText op ++ m) (r .1 ∙ ap (λ (m : List ℕ). keyText ++ m) (k .shows ∙ ap (λ (m : List ℕ). keyIn line start end ++ m) (x .shows))));
     }
 
 -- what reads as a call is this call shown, and its key stands where it says
@@ -162,25 +225,16 @@ call-read line =
     (λ start r.
     each-place (CallRead line) (keyAt line start) call.Bad _ tt
     (λ end k.
-    each-number (CallRead line) (fieldAt line end rateText) call.Bad _ tt
-    (λ rate c x.
-    each-number (CallRead line) (fieldAt line c nText) call.Bad _ tt
-    (λ n d y.
-    each-number (CallRead line) (fieldAt line d drawText) call.Bad _ tt
-    (λ draw e z.
-    each-test (CallRead line) (leb rate exactLargest && eqb e (length line)) (call.Call t op start end rate n draw) call.Bad tt
-    (λ s.
-    let u = both (leb rate exactLargest) (eqb e (length line)) s in
-    call-joined line t op start end rate n draw a b c d e (field-read line tText 0 t a p) (op-read line a op b q) (text-read line keyText b start r) (key-read line start end k)
-    (field-read line rateText end rate c x) (field-read line nText c n d y) (field-read line drawText d draw e z) (leb-true rate exactLargest (u .0)) (eqb-true e (length line) (u .1))))))))))
+    each-amounts (CallRead line) (amountsAt line end) call.Bad (λ rate n draw. call.Call t op start end rate n draw) tt
+    (λ rate n draw x.
+    call-joined line t op start end rate n draw a b (field-read line tText 0 t a p) (op-read line a op b q) (text-read line keyText b start r) (key-read line start end k)
+    (subst (AmountsRead line end) x (amounts-read line end)))))))
 
 call-line : (line : List ℕ) (t : ℕ) (op : Op) (key : List ℕ) (rate n draw : ℕ) → CallFits t key rate n draw → line ≡ showCall t op key rate n draw →
     readCall line ≡ call.Call t op (keyStart t op) (keyStart t op + length key) rate n draw
 unfolding readCall showCall
 call-line line t op key rate n draw f e =
-    let r₆ : List ℕ = drawText ++ showNumber draw in
-    let r₅ : List ℕ = nText ++ (showNumber n ++ r₆) in
-    let r₄ : List ℕ = rateText ++ (showNumber rate ++ r₅) in
+    let r₄ : List ℕ = rateText ++ (showNumber rate ++ (nText ++ (showNumber n ++ (drawText ++ showNumber draw)))) in
     let r₃ : List ℕ = key ++ r₄ in
     let r₂ : List ℕ = keyText ++ r₃ in
     let r₁ : List ℕ = opText op ++ r₂ in
@@ -188,26 +242,17 @@ call-line line t op key rate n draw f e =
     let b : ℕ = a + length (opText op) in
     let s : ℕ = b + length keyText in
     let z : ℕ = s + length key in
-    let c : ℕ = z + length rateText + length (showNumber rate) in
-    let d : ℕ = c + length nText + length (showNumber n) in
     let p₁ : drop a line ≡ r₁ = past-field line tText r₁ 0 t e in
     let p₂ : drop b line ≡ r₂ = past-part line (opText op) r₂ a p₁ in
     let p₃ : drop s line ≡ r₃ = past-part line keyText r₃ b p₂ in
     let p₄ : drop z line ≡ r₄ = past-part line key r₄ s p₃ in
-    let p₅ : drop c line ≡ r₅ = past-field line rateText r₅ z rate p₄ in
-    let p₆ : drop d line ≡ r₆ = past-field line nText r₆ c n p₅ in
-    let h : rate ≤ largest = omega (arith, f .rates) in
     let k : s ≡ keyStart t op = omega arith in
     rw (
       field-shown line tText r₁ 0 t e (f .times) (op-stops op r₂),
       op-shown line r₂ a op p₁,
       text-shown line keyText r₃ b p₂,
       key-shown line key r₄ s p₃ (f .keys) (space-stops true),
-      field-shown line rateText r₅ z rate p₄ h (space-stops false),
-      field-shown line nText r₆ c n p₅ (f .counts) (space-stops false),
-      field-shown line drawText [] d draw (p₆ ∙ nothing-past drawText draw) (f .draws) tt,
-      le-leb _ _ (f .rates),
-      eq-eqb _ _ (last-shown line drawText d draw (omega arith) p₆),
+      amounts-shown line z rate n draw (record { rate-fits = f .rates; n-fits = f .counts; draw-fits = f .draws; shows = p₄ }),
     )
     (ap (λ (i : ℕ). call.Call t op i (i + length key) rate n draw) k)
 

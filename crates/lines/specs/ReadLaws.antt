@@ -13,7 +13,7 @@ use borrow.Author.Tests.{le-leb, leb-true, lt-ltb, le-ltb, ltb-false, eq-eqb, ne
 use Rattle.lines.specs.Bytes.{counts, classOf}
 use Rattle.lines.specs.Numbers.{showNumber, value, Each, show-digits, value-show, show-value, show-length, show-first, show-small}
 use Rattle.lines.specs.Shown.{opText, Key, largest}
-use Rattle.lines.specs.Reading.{run, begins, textAt, numberOf, numberAt, numberIn, keyAt, fieldAt, opAt, onNumber, onPlace, onName}
+use Rattle.lines.specs.Reading.{run, begins, textAt, numberOf, numberAt, numberIn, keyAt, fieldAt, opAt, onNumber, onPlace, onName, onAmounts}
 use Rattle.lines.specs.Turns.{run-length}
 use Rattle.lines.specs.declared.Number.{Number}
 use Rattle.lines.specs.declared.Number.the-variants.{Found, NoNumber}
@@ -21,6 +21,8 @@ use Rattle.lines.specs.declared.Place.{Place}
 use Rattle.lines.specs.declared.Place.the-variants.{At, Missing}
 use Rattle.lines.specs.declared.Op.{Op}
 use Rattle.lines.specs.declared.Op.the-variants.{AbsoluteInc, AbsoluteGet, SuppressedInc, SuppressedGet}
+use Rattle.lines.specs.declared.Amounts.{Amounts}
+use Rattle.lines.specs.declared.Amounts.the-variants.{Are, NoAmounts}
 use Rattle.lines.specs.declared.Named.{Named}
 use Rattle.lines.specs.declared.Named.the-variants.{Is, NoName}
 
@@ -37,6 +39,10 @@ each-place P Missing bad k b f = b
 pub each-name : {A : Type 0} (P : A → Type 0) (m : Named) (bad : A) (k : Op → ℕ → A) → P bad → ((op : Op) (n : ℕ) → m ≡ Is op n → P (k op n)) → P (onName m bad k)
 each-name P (Is op n) bad k b f = f op n refl
 each-name P NoName bad k b f = b
+
+pub each-amounts : {A : Type 0} (P : A → Type 0) (m : Amounts) (bad : A) (k : ℕ → ℕ → ℕ → A) → P bad → ((rate n draw : ℕ) → m ≡ Are rate n draw → P (k rate n draw)) → P (onAmounts m bad k)
+each-amounts P (Are rate n draw) bad k b f = f rate n draw refl
+each-amounts P NoAmounts bad k b f = b
 
 pub each-test : {A : Type 0} (P : A → Type 0) (t : Bool) (good bad : A) → P bad → (t ≡ true → P good) → P (cond t good bad)
 each-test P true good bad b f = f refl

@@ -16,6 +16,8 @@ use Rattle.lines.specs.declared.Op.{Op}
 use Rattle.lines.specs.declared.Op.the-variants.{AbsoluteInc, AbsoluteGet, SuppressedInc, SuppressedGet}
 use Rattle.lines.specs.declared.Named.{Named}
 use Rattle.lines.specs.declared.Named.the-variants.{Is, NoName}
+use Rattle.lines.specs.declared.Amounts.{Amounts}
+use Rattle.lines.specs.declared.Amounts.the-variants.{Are, NoAmounts}
 use Rattle.lines.specs.declared.CallLine.{CallLine}
 use Rattle.lines.specs.declared.CallLine.the-variants as call
 use Rattle.lines.specs.declared.SettingsLine.{SettingsLine}
@@ -70,6 +72,10 @@ abbrev pub onName : {A : Type 0} → Named → A → (Op → ℕ → A) → A
 onName (Is op next) bad k = k op next
 onName NoName bad k = bad
 
+abbrev pub onAmounts : {A : Type 0} → Amounts → A → (ℕ → ℕ → ℕ → A) → A
+onAmounts (Are rate n draw) bad k = k rate n draw
+onAmounts NoAmounts bad k = bad
+
 -- the number after the text at `at`
 unfoldable pub fieldAt : List ℕ → ℕ → List ℕ → Number
 fieldAt line at text = onPlace (textAt line at text) NoNumber (λ next. numberAt line next)
@@ -83,6 +89,10 @@ opAt line at = opIf line at AbsoluteInc (opIf line at AbsoluteGet (opIf line at 
 
 -- ---- the lines
 
+-- the line ends at `at`, and n is "at most 2^53"
+unfoldable pub closes : List ℕ → ℕ → ℕ → Bool
+closes line at n = leb n exactLargest && eqb at (length line)
+
 unfoldable pub readSettings : List ℕ → SettingsLine
 readSettings line =
     onNumber (fieldAt line 0 windowText) settings.Bad
@@ -92,7 +102,17 @@ readSettings line =
     onNumber (fieldAt line b factorText) settings.Bad
     (λ factor c.
     onNumber (fieldAt line c cacheText) settings.Bad
-    (λ cache d. cond (leb factor exactLargest && eqb d (length line)) (settings.Settings window bucket factor cache) settings.Bad))))
+    (λ cache d. cond (closes line d factor) (settings.Settings window bucket factor cache) settings.Bad))))
+
+-- the numbers at `at` that end a call line
+unfoldable pub amountsAt : List ℕ → ℕ → Amounts
+amountsAt line at =
+    onNumber (fieldAt line at rateText) NoAmounts
+    (λ rate c.
+    onNumber (fieldAt line c nText) NoAmounts
+    (λ n d.
+    onNumber (fieldAt line d drawText) NoAmounts
+    (λ draw e. cond (closes line e rate) (Are rate n draw) NoAmounts)))
 
 unfoldable pub readCall : List ℕ → CallLine
 readCall line =
@@ -103,10 +123,4 @@ readCall line =
     onPlace (textAt line b keyText) call.Bad
     (λ start.
     onPlace (keyAt line start) call.Bad
-    (λ end.
-    onNumber (fieldAt line end rateText) call.Bad
-    (λ rate c.
-    onNumber (fieldAt line c nText) call.Bad
-    (λ n d.
-    onNumber (fieldAt line d drawText) call.Bad
-    (λ draw e. cond (leb rate exactLargest && eqb e (length line)) (call.Call t op start end rate n draw) call.Bad)))))))
+    (λ end. onAmounts (amountsAt line end) call.Bad (λ rate n draw. call.Call t op start end rate n draw)))))

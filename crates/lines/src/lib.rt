@@ -4,7 +4,7 @@ ghost use mathlib.Core.Path.{_≡_};
 ghost use Prim.Native.Nat.{_+_};
 ghost use lib.ListN.{drop};
 ghost use Rattle.lines.specs.Bytes.{classOf, digitOf, counts};
-ghost use Rattle.lines.specs.Reading.{run, numberIn, numberAt, textAt, fieldAt, keyAt, opAt, readSettings, readCall};
+ghost use Rattle.lines.specs.Reading.{run, numberIn, numberAt, textAt, fieldAt, keyAt, opAt, closes, amountsAt, readSettings, readCall};
 
 // ---- bytes
 
@@ -192,6 +192,16 @@ fn op_at(line: &[u8], at: usize) -> Named
     Named::NoName
 }
 
+// Whether a line ends at `at`, and n, its rate or factor, is at most 2^53.
+fn is_closed(line: &[u8], at: usize, n: u64) -> bool
+    ensures { λ r. ⌜ r ≡ closes (now (line .entry)) at n ⌝ }
+{
+    if 9007199254740992 < n {
+        return false;
+    }
+    at == line.len()
+}
+
 // A settings line: `window=10 bucket=100 factor=2 cache=100`.
 pub enum SettingsLine {
     Settings {
@@ -234,10 +244,7 @@ pub fn read_settings(line: &[u8]) -> SettingsLine
     else {
         return SettingsLine::Bad;
     };
-    if 9007199254740992 < factor {
-        return SettingsLine::Bad;
-    }
-    if d != line.len() {
+    if !is_closed(line, d, factor) {
         return SettingsLine::Bad;
     }
     SettingsLine::Settings {
@@ -246,6 +253,39 @@ pub fn read_settings(line: &[u8]) -> SettingsLine
         factor,
         cache,
     }
+}
+
+// The numbers that end a call line.
+pub enum Amounts {
+    Are { rate: u64, n: u64, draw: u64 },
+    NoAmounts,
+}
+
+// Those at `at`, up to the line's end.
+fn amounts_at(line: &[u8], at: usize) -> Amounts
+    ensures { λ r. ⌜ r ≡ amountsAt (now (line .entry)) at ⌝ }
+{
+    let Number::Found {
+        value: rate,
+        next: c,
+    } = field_at(line, at, b" rate=")
+    else {
+        return Amounts::NoAmounts;
+    };
+    let Number::Found { value: n, next: d } = field_at(line, c, b" n=") else {
+        return Amounts::NoAmounts;
+    };
+    let Number::Found {
+        value: draw,
+        next: e,
+    } = field_at(line, d, b" draw=")
+    else {
+        return Amounts::NoAmounts;
+    };
+    if !is_closed(line, e, rate) {
+        return Amounts::NoAmounts;
+    }
+    Amounts::Are { rate, n, draw }
 }
 
 // A call line: `t=0 op=sinc key=a rate=60 n=8 draw=0`. The key is the part of the line from `start` up to `end`.
@@ -277,29 +317,9 @@ pub fn read_call(line: &[u8]) -> CallLine
     let Place::At(end) = key_at(line, start) else {
         return CallLine::Bad;
     };
-    let Number::Found {
-        value: rate,
-        next: c,
-    } = field_at(line, end, b" rate=")
-    else {
+    let Amounts::Are { rate, n, draw } = amounts_at(line, end) else {
         return CallLine::Bad;
     };
-    let Number::Found { value: n, next: d } = field_at(line, c, b" n=") else {
-        return CallLine::Bad;
-    };
-    let Number::Found {
-        value: draw,
-        next: e,
-    } = field_at(line, d, b" draw=")
-    else {
-        return CallLine::Bad;
-    };
-    if 9007199254740992 < rate {
-        return CallLine::Bad;
-    }
-    if e != line.len() {
-        return CallLine::Bad;
-    }
     CallLine::Call {
         t,
         op,

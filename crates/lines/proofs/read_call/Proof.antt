@@ -2,7 +2,6 @@
 -- definition, which then computes to the answer.
 -- Assumes nothing.
 use mathlib.Core.Path.{sym, _∙_}
-use borrow.Author.Tests.{le-leb, lt-leb, eq-eqb, ne-eqb}
 use Rattle.lines.specs.Reading.{readCall}
 use borrow.Author.Needs.{needs}
 use Rattle.lines.proofs.read_call.Statement.{statement}
@@ -88,11 +87,8 @@ returns-4 c =
       sym (c .before .before .key-at .ensures) ∙ c .enum-told4 .given .1,
     )
 
-slice-aggregate-field-at-2 : tie.Need-slice-aggregate-field-at-2
-slice-aggregate-field-at-2 c = search needs
-
-field-at-requires-2 : tie.Need-field-at-requires-2
-field-at-requires-2 c κs = tt
+amounts-at-requires : tie.Need-amounts-at-requires
+amounts-at-requires c κs = tt
 
 enum-known-rate : tie.Need-enum-known-rate
 enum-known-rate c = c .match5 .keys1
@@ -103,7 +99,7 @@ enum-told-5 c = c .match5 .keys2
 returns-5 : tie.Need-returns-5
 unfolding readCall
 returns-5 c =
-    let s4 = c .before .before .before .before .before in
+    let s4 = c .before .before .before .before in
     let s3 = s4 .before .before .before .before in
     let s2 = s3 .before .before .before .before .before in
     let s1 = s2 .before .before .before .before in
@@ -112,26 +108,14 @@ returns-5 c =
       sym (s2 .before .before .op-at .ensures) ∙ s2 .op .given .1,
       sym (s3 .before .before .text-at .ensures) ∙ s3 .start .given .1,
       sym (s4 .before .before .key-at .ensures) ∙ s4 .end .given .1,
-      sym (c .before .before .field-at2 .ensures) ∙ c .enum-told5 .given .1,
+      sym (c .before .before .amounts-at .ensures) ∙ c .enum-told5 .given .1,
     )
-
-slice-aggregate-field-at-3 : tie.Need-slice-aggregate-field-at-3
-slice-aggregate-field-at-3 c = search needs
-
-field-at-requires-3 : tie.Need-field-at-requires-3
-field-at-requires-3 c κs = tt
-
-enum-known-n : tie.Need-enum-known-n
-enum-known-n c = c .match6 .keys1
-
-enum-told-6 : tie.Need-enum-told-6
-enum-told-6 c = c .match6 .keys2
 
 returns-6 : tie.Need-returns-6
 unfolding readCall
 returns-6 c =
-    let s5 = c .before .before .before .before .before in
-    let s4 = s5 .before .before .before .before .before in
+    let s5 = c .before in
+    let s4 = s5 .before .before .before .before in
     let s3 = s4 .before .before .before .before in
     let s2 = s3 .before .before .before .before .before in
     let s1 = s2 .before .before .before .before in
@@ -140,104 +124,7 @@ returns-6 c =
       sym (s2 .before .before .op-at .ensures) ∙ s2 .op .given .1,
       sym (s3 .before .before .text-at .ensures) ∙ s3 .start .given .1,
       sym (s4 .before .before .key-at .ensures) ∙ s4 .end .given .1,
-      sym (s5 .before .before .field-at2 .ensures) ∙ s5 .rate .given .1,
-      sym (c .before .before .field-at3 .ensures) ∙ c .enum-told6 .given .1,
-    )
-
-slice-aggregate-field-at-4 : tie.Need-slice-aggregate-field-at-4
-slice-aggregate-field-at-4 c = search needs
-
-field-at-requires-4 : tie.Need-field-at-requires-4
-field-at-requires-4 c κs = tt
-
-enum-known-draw : tie.Need-enum-known-draw
-enum-known-draw c = c .match7 .keys1
-
-enum-told-7 : tie.Need-enum-told-7
-enum-told-7 c = c .match7 .keys2
-
-returns-7 : tie.Need-returns-7
-unfolding readCall
-returns-7 c =
-    let s6 = c .before .before .before .before .before in
-    let s5 = s6 .before .before .before .before .before in
-    let s4 = s5 .before .before .before .before .before in
-    let s3 = s4 .before .before .before .before in
-    let s2 = s3 .before .before .before .before .before in
-    let s1 = s2 .before .before .before .before in
-    rw (
-      sym (s1 .before .before .field-at .ensures) ∙ s1 .t .given .1,
-      sym (s2 .before .before .op-at .ensures) ∙ s2 .op .given .1,
-      sym (s3 .before .before .text-at .ensures) ∙ s3 .start .given .1,
-      sym (s4 .before .before .key-at .ensures) ∙ s4 .end .given .1,
-      sym (s5 .before .before .field-at2 .ensures) ∙ s5 .rate .given .1,
-      sym (s6 .before .before .field-at3 .ensures) ∙ s6 .n .given .1,
-      sym (c .before .before .field-at4 .ensures) ∙ c .enum-told7 .given .1,
-    )
-
-returns-8 : tie.Need-returns-8
-unfolding readCall
-returns-8 c =
-    let s7 = c .before .before in
-    let s6 = s7 .before .before .before .before .before in
-    let s5 = s6 .before .before .before .before .before in
-    let s4 = s5 .before .before .before .before .before in
-    let s3 = s4 .before .before .before .before in
-    let s2 = s3 .before .before .before .before .before in
-    let s1 = s2 .before .before .before .before in
-    rw (
-      sym (s1 .before .before .field-at .ensures) ∙ s1 .t .given .1,
-      sym (s2 .before .before .op-at .ensures) ∙ s2 .op .given .1,
-      sym (s3 .before .before .text-at .ensures) ∙ s3 .start .given .1,
-      sym (s4 .before .before .key-at .ensures) ∙ s4 .end .given .1,
-      sym (s5 .before .before .field-at2 .ensures) ∙ s5 .rate .given .1,
-      sym (s6 .before .before .field-at3 .ensures) ∙ s6 .n .given .1,
-      sym (s7 .before .before .field-at4 .ensures) ∙ s7 .draw .given .1,
-      lt-leb _ _ (c .if1 .taken),
-    )
-
-returns-9 : tie.Need-returns-9
-unfolding readCall
-returns-9 c =
-    let s7 = c .before .before .before in
-    let s6 = s7 .before .before .before .before .before in
-    let s5 = s6 .before .before .before .before .before in
-    let s4 = s5 .before .before .before .before .before in
-    let s3 = s4 .before .before .before .before in
-    let s2 = s3 .before .before .before .before .before in
-    let s1 = s2 .before .before .before .before in
-    rw (
-      sym (s1 .before .before .field-at .ensures) ∙ s1 .t .given .1,
-      sym (s2 .before .before .op-at .ensures) ∙ s2 .op .given .1,
-      sym (s3 .before .before .text-at .ensures) ∙ s3 .start .given .1,
-      sym (s4 .before .before .key-at .ensures) ∙ s4 .end .given .1,
-      sym (s5 .before .before .field-at2 .ensures) ∙ s5 .rate .given .1,
-      sym (s6 .before .before .field-at3 .ensures) ∙ s6 .n .given .1,
-      sym (s7 .before .before .field-at4 .ensures) ∙ s7 .draw .given .1,
-      le-leb _ _ (c .before .if1 .left),
-      ne-eqb _ _ (c .if2 .taken),
-    )
-
-returns-10 : tie.Need-returns-10
-unfolding readCall
-returns-10 c =
-    let s7 = c .before .before .before in
-    let s6 = s7 .before .before .before .before .before in
-    let s5 = s6 .before .before .before .before .before in
-    let s4 = s5 .before .before .before .before .before in
-    let s3 = s4 .before .before .before .before in
-    let s2 = s3 .before .before .before .before .before in
-    let s1 = s2 .before .before .before .before in
-    rw (
-      sym (s1 .before .before .field-at .ensures) ∙ s1 .t .given .1,
-      sym (s2 .before .before .op-at .ensures) ∙ s2 .op .given .1,
-      sym (s3 .before .before .text-at .ensures) ∙ s3 .start .given .1,
-      sym (s4 .before .before .key-at .ensures) ∙ s4 .end .given .1,
-      sym (s5 .before .before .field-at2 .ensures) ∙ s5 .rate .given .1,
-      sym (s6 .before .before .field-at3 .ensures) ∙ s6 .n .given .1,
-      sym (s7 .before .before .field-at4 .ensures) ∙ s7 .draw .given .1,
-      le-leb _ _ (c .before .if1 .left),
-      eq-eqb _ _ (c .if2 .left),
+      sym (s5 .before .before .amounts-at .ensures) ∙ s5 .rate .given .1,
     )
 
 pub read-call-spec : {M : Type 1} → statement M
@@ -262,21 +149,8 @@ read-call-spec =
     enum-known-end
     enum-told-4
     returns-4
-    slice-aggregate-field-at-2
-    field-at-requires-2
+    amounts-at-requires
     enum-known-rate
     enum-told-5
     returns-5
-    slice-aggregate-field-at-3
-    field-at-requires-3
-    enum-known-n
-    enum-told-6
-    returns-6
-    slice-aggregate-field-at-4
-    field-at-requires-4
-    enum-known-draw
-    enum-told-7
-    returns-7
-    returns-8
-    returns-9
-    returns-10)
+    returns-6)

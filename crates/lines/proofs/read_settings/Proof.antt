@@ -2,7 +2,7 @@
 -- the definition, which then computes to the answer.
 -- Assumes nothing.
 use mathlib.Core.Path.{sym, _∙_}
-use borrow.Author.Tests.{le-leb, lt-leb, eq-eqb, ne-eqb}
+use borrow.Author.Tests.{not-true, not-false}
 use Rattle.lines.specs.Reading.{readSettings}
 use borrow.Author.Needs.{needs}
 use Rattle.lines.proofs.read_settings.Statement.{statement}
@@ -94,10 +94,13 @@ returns-4 c =
       sym (c .before .before .field-at4 .ensures) ∙ c .enum-told4 .given .1,
     )
 
+is-closed-requires : tie.Need-is-closed-requires
+is-closed-requires c κs = tt
+
 returns-5 : tie.Need-returns-5
 unfolding readSettings
 returns-5 c =
-    let s4 = c .before .before in
+    let s4 = c .before .before .before in
     let s3 = s4 .before .before .before .before .before in
     let s2 = s3 .before .before .before .before .before in
     let s1 = s2 .before .before .before .before .before in
@@ -106,7 +109,7 @@ returns-5 c =
       sym (s2 .before .before .field-at2 .ensures) ∙ s2 .bucket .given .1,
       sym (s3 .before .before .field-at3 .ensures) ∙ s3 .factor .given .1,
       sym (s4 .before .before .field-at4 .ensures) ∙ s4 .cache .given .1,
-      lt-leb _ _ (c .if1 .taken),
+      sym (c .before .is-closed .ensures) ∙ not-true _ (c .if1 .taken),
     )
 
 returns-6 : tie.Need-returns-6
@@ -121,24 +124,7 @@ returns-6 c =
       sym (s2 .before .before .field-at2 .ensures) ∙ s2 .bucket .given .1,
       sym (s3 .before .before .field-at3 .ensures) ∙ s3 .factor .given .1,
       sym (s4 .before .before .field-at4 .ensures) ∙ s4 .cache .given .1,
-      le-leb _ _ (c .before .if1 .left),
-      ne-eqb _ _ (c .if2 .taken),
-    )
-
-returns-7 : tie.Need-returns-7
-unfolding readSettings
-returns-7 c =
-    let s4 = c .before .before .before in
-    let s3 = s4 .before .before .before .before .before in
-    let s2 = s3 .before .before .before .before .before in
-    let s1 = s2 .before .before .before .before .before in
-    rw (
-      sym (s1 .before .before .field-at .ensures) ∙ s1 .window .given .1,
-      sym (s2 .before .before .field-at2 .ensures) ∙ s2 .bucket .given .1,
-      sym (s3 .before .before .field-at3 .ensures) ∙ s3 .factor .given .1,
-      sym (s4 .before .before .field-at4 .ensures) ∙ s4 .cache .given .1,
-      le-leb _ _ (c .before .if1 .left),
-      eq-eqb _ _ (c .if2 .left),
+      sym (c .before .is-closed .ensures) ∙ not-false _ (c .if1 .left),
     )
 
 pub read-settings-spec : {M : Type 1} → statement M
@@ -165,6 +151,6 @@ read-settings-spec =
     enum-known-cache
     enum-told-4
     returns-4
+    is-closed-requires
     returns-5
-    returns-6
-    returns-7)
+    returns-6)
