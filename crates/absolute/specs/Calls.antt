@@ -20,7 +20,7 @@ use Rattle.judge.specs.declared.Slot.{Slot}
 use Rattle.judge.specs.Sound.{addressed}
 use Rattle.judge.specs.Slot.{slotOf}
 use Rattle.judge.specs.Verdict.{Verdict, verdict, call}
-use Rattle.absolute.specs.Rules.{getChange, askChange, decided, clears, place, lacks, incRefusals, incChange}
+use Rattle.absolute_rules.specs.Rules.{getChange, askChange, decided, clears, place, lacks, incRefusals, incChange}
 
 -- the key's slot at the reading
 abbrev pub slotIn : Settings → List ℕ → ℕ → List ℕ → Slot

@@ -8,7 +8,7 @@ use native.Mathlib.Omega.{arith}
 use lib.ListN.{length, drop, length-drop}
 use lib.Dec.{leb, ltb}
 use borrow.Author.Tests.{ltb-true, ltb-false, leb-false, lt-ltb, le-ltb}
-use Rattle.base.specs.Decides.{and-true, both-ways}
+use Rattle.base.specs.Decides.{and-true}
 use Rattle.common.specs.Refusals.{first, all-false}
 use Rattle.common.specs.Settings.{windowIn, bucketIn}
 use Rattle.common.specs.declared.settings.Settings.{Settings}
@@ -31,7 +31,7 @@ use Rattle.judge.specs.Sound.{addressed}
 use Rattle.judge.specs.Judge.{Passed}
 use Rattle.plan.specs.Plan.{evicting, opening}
 use Rattle.plan.specs.Known.{Known, found, none, series-known, keeping-edits, evicting-edits, opening-edits}
-use Rattle.absolute.specs.Rules.{goneIf, totalIf, leaving, allowed, evicts, over, joinsAfter, full, place, lacks, inOrder, incRefusals, pickChange, getChange, askChange, incChange}
+use Rattle.absolute_rules.specs.Rules.{goneIf, totalIf, leaving, allowed, evicts, over, joinsAfter, full, place, lacks, inOrder, incRefusals, pickChange, getChange, askChange, incChange}
 use Rattle.absolute.specs.Calls.{slotIn, outIn, incOwn, incMakes}
 
 -- ---- an increment fits where it meets neither 10 nor 12
@@ -64,26 +64,6 @@ fits-after r b t c k x xs n e o f = record {
       let g : leb r (x .pass .buckets - k) ≡ false = rw y at f in
       omega (arith, leb-false r (x .pass .buckets - k) g, length-drop k xs);
 }
-
--- ---- the code's tests
-
--- 10 without a sum that could wrap
-pub over-is : (c total : ℕ) → c ≤ mostTotal → ltb (mostTotal - c) total ≡ over c total
-unfolding over
-over-is c total h =
-    both-ways (ltb (mostTotal - c) total) (ltb mostTotal (total + c)) (λ e. lt-ltb mostTotal (total + c) (omega (arith, ltb-true (mostTotal - c) total e)))
-    (λ e. lt-ltb (mostTotal - c) total (omega (arith, ltb-true mostTotal (total + c) e)))
-
-pub over-count : (c total : ℕ) → mostTotal < c → true ≡ over c total
-unfolding over
-over-count c total h = sym (lt-ltb mostTotal (total + c) (omega arith))
-
--- a known key that is allowed
-pub counts-change : (limit c : ℕ) (out : Bool) (x : Slot) → x .series ≡ true → allowed x ≡ true → incChange limit c out x ≡ Update (leaving out x (Increment c 0))
-unfolding incChange
-counts-change limit c out x e f =
-    ap (λ (y : Bool). pickChange y (pickChange (allowed x) (Update (leaving out x (Increment c 0))) (Update (evicting x Nothing))) (Take (opening limit (Increment c 0) 0 0 1))) e ∙
-    ap (λ (y : Bool). pickChange y (Update (leaving out x (Increment c 0))) (Update (evicting x Nothing))) f
 
 unknown-allowed : (x : Slot) → x .series ≡ false → allowed x ≡ true
 unfolding allowed

@@ -1,4 +1,3 @@
-pub mod Rules
 pub mod Calls
 pub mod Laws
 pub mod Told

@@ -23,7 +23,7 @@ use Rattle.judge.specs.declared.Slot.{Slot}
 use Rattle.judge.specs.Judge.{early, judged, Passed}
 use Rattle.judge.specs.Laws.{code-is, slot-is, passed}
 use Rattle.judge.specs.Verdict.{Told, verdict, call, call-early, call-own, call-done}
-use Rattle.absolute.specs.Rules.{getChange, askChange, incChange, decided, place, lacks, incRefusals}
+use Rattle.absolute_rules.specs.Rules.{getChange, askChange, incChange, decided, place, lacks, incRefusals}
 use Rattle.absolute.specs.Calls.{slotIn, outIn, incOwn, incMakes, get, isAllowed, inc}
 use Rattle.absolute.specs.Laws.{get-applies, ask-applies, inc-applies}
 
