@@ -25,12 +25,12 @@ use Rattle.judge.specs.Slot.{slotOf}
 use Rattle.judge.specs.Sound.{addressed}
 use Rattle.judge.specs.Verdict.{Verdict, verdict, call}
 use Rattle.change.specs.Words.{applied}
-use Rattle.suppressed.specs.declared.factor.Asked.{Asked}
-use Rattle.suppressed.specs.declared.forecast.Outcome.{Outcome}
-use Rattle.suppressed.specs.Factor.{asked}
-use Rattle.suppressed.specs.Forecast.{forecast, outcome}
-use Rattle.suppressed.specs.Edits.{getChange, factorChange, incChange}
-use Rattle.suppressed.specs.Refusals.{placeOf, incLate}
+use Rattle.suppressed_rules.specs.declared.factor.Asked.{Asked}
+use Rattle.suppressed_rules.specs.declared.forecast.Outcome.{Outcome}
+use Rattle.suppressed_rules.specs.Factor.{asked}
+use Rattle.suppressed_rules.specs.Forecast.{forecast, outcome}
+use Rattle.suppressed_edits.specs.Edits.{getChange, factorChange, incChange}
+use Rattle.suppressed_edits.specs.Refusals.{placeOf, incLate}
 
 abbrev pub slotIn : Settings → List ℕ → ℕ → List ℕ → Slot
 slotIn s w t key = slotOf (windowIn s) w t (addressed w key)

@@ -33,15 +33,15 @@ use Rattle.change.specs.declared.Then.the-variants.{Nothing, Increment}
 use Rattle.change.specs.Words.{Fits, EditsAt, Applies, applied}
 use Rattle.plan.specs.Known.{Known, evicting-edits, opening-edits}
 use Rattle.plan.specs.Plan.{evicting, opening}
-use Rattle.suppressed.specs.declared.factor.Asked.{Asked}
-use Rattle.suppressed.specs.declared.factor.Caching.{Caching}
-use Rattle.suppressed.specs.declared.factor.Caching.the-variants.{Left, Cached}
-use Rattle.suppressed.specs.declared.forecast.Outcome.{Outcome}
-use Rattle.suppressed.specs.Factor.{left, asked}
-use Rattle.suppressed.specs.Edits.{hasSlot, factorAfter, timeAfter, useAfter, recached, getChange, loneBy, loneChange, factorChange, incEdit, incChange}
-use Rattle.suppressed.specs.Refusals.{placeOf, joinsLeft, crowded, incLate}
+use Rattle.suppressed_rules.specs.declared.factor.Asked.{Asked}
+use Rattle.suppressed_rules.specs.declared.factor.Caching.{Caching}
+use Rattle.suppressed_rules.specs.declared.factor.Caching.the-variants.{Left, Cached}
+use Rattle.suppressed_rules.specs.declared.forecast.Outcome.{Outcome}
+use Rattle.suppressed_rules.specs.Factor.{left, asked}
+use Rattle.suppressed_edits.specs.Edits.{hasSlot, factorAfter, timeAfter, useAfter, recached, getChange, loneBy, loneChange, factorChange, incEdit, incChange}
+use Rattle.suppressed_edits.specs.Refusals.{placeOf, joinsLeft, crowded, incLate}
 use Rattle.suppressed.specs.Calls.{slotIn, unperceived, asking, snapshotOf, getOwn, getDoes, getOn, get, factorOwn, factorDoes, factorOn, getFactor, limitFor, incOwn, incDoes, incOn, incOutcome, inc}
-use Rattle.suppressed.specs.Forecast.{forecast, outcome, outcome-declined}
+use Rattle.suppressed_rules.specs.Forecast.{forecast, outcome, outcome-declined}
 use Rattle.suppressed.specs.Standing.{known, unperceived-is, left-length, joins-left}
 
 -- ---- lists of one more refusal

@@ -29,9 +29,9 @@ use Rattle.judge.specs.Slot.{noSlot, pickPass, opened}
 use Rattle.judge.specs.Sound.{addressed}
 use Rattle.plan.specs.Known.{Found, Known, found, none, series-known, series-is, at-as}
 use Rattle.suppressed.specs.Calls.{slotIn, unperceived}
-use Rattle.suppressed.specs.Edits.{hasSlot}
-use Rattle.suppressed.specs.Factor.{left}
-use Rattle.suppressed.specs.Refusals.{joinsLeft}
+use Rattle.suppressed_edits.specs.Edits.{hasSlot}
+use Rattle.suppressed_rules.specs.Factor.{left}
+use Rattle.suppressed_edits.specs.Refusals.{joinsLeft}
 
 -- ---- the counts of the last second are among the live ones
 

@@ -1,10 +1,5 @@
 // The suppressed limiter's own calls, over a lent room: `get`, `get_suppression_factor` and `inc`. Everything that is refused is
 // settled before the first word is written.
-mod edits;
-mod factor;
-mod forecast;
-mod refusals;
-
 ghost use mathlib.Core.Path.{_≡_};
 ghost use Rattle.judge.specs.Verdict.{Told};
 ghost use Rattle.calls.specs.Clear as Clear;
@@ -30,6 +25,10 @@ use common::SnapshotAnswer;
 use common::SuppressedRateLimitSnapshot;
 use judge::RoomKind;
 use judge::Slot;
+use suppressed_edits::edits;
+use suppressed_edits::refusals;
+use suppressed_rules::factor;
+use suppressed_rules::forecast;
 
 // Live total, live declined and the factor; zeros for an unknown key.
 fn snapshot_of(x: Slot, factor: f64) -> SuppressedRateLimitSnapshot

@@ -20,15 +20,15 @@ use Rattle.change.specs.declared.Change.the-variants.{Update, Take}
 use Rattle.change.specs.declared.Then.the-variants.{Nothing, Increment}
 use Rattle.change.specs.Words.{EditsAt, applied}
 use Rattle.plan.specs.Plan.{evicting, opening}
-use Rattle.suppressed.specs.declared.factor.Asked.{Asked}
-use Rattle.suppressed.specs.declared.factor.Caching.{Caching}
-use Rattle.suppressed.specs.declared.forecast.Outcome.{Outcome}
+use Rattle.suppressed_rules.specs.declared.factor.Asked.{Asked}
+use Rattle.suppressed_rules.specs.declared.factor.Caching.{Caching}
+use Rattle.suppressed_rules.specs.declared.forecast.Outcome.{Outcome}
 use Rattle.suppressed.specs.Calls.{slotIn, snapshotOf, get, getFactor, limitFor, incOutcome, inc}
-use Rattle.suppressed.specs.Edits.{recached, getChange, get-series, factorChange, factor-series, incEdit, incChange}
-use Rattle.suppressed.specs.Factor.{asked}
-use Rattle.suppressed.specs.Forecast.{forecast}
+use Rattle.suppressed_edits.specs.Edits.{recached, getChange, get-series, factorChange, factor-series, incEdit, incChange}
+use Rattle.suppressed_rules.specs.Factor.{asked}
+use Rattle.suppressed_rules.specs.Forecast.{forecast}
 use Rattle.suppressed.specs.Laws.{get-edits, get-done, factor-done, place-used, with-series, inc-done, inc-edit}
-use Rattle.suppressed.specs.Refusals.{placeOf, incLate}
+use Rattle.suppressed_edits.specs.Refusals.{placeOf, incLate}
 use Rattle.suppressed.specs.Standing.{known, sums}
 use Rattle.views.specs.Unit.{AskedOk, DecisionOk, CachingOk, asked-ok, outcome-ok}
 use Rattle.views.specs.Suppressed.{After, cached-there, evicted-after}

@@ -29,11 +29,11 @@ use Rattle.change.specs.Words.{edited, carried, applied, EditsAt}
 use Rattle.change.specs.Laws.{Edited, edited-is, update-change, take-change}
 use Rattle.plan.specs.Known.{cached-known}
 use Rattle.plan.specs.Plan.{evicting, opening}
-use Rattle.suppressed.specs.declared.factor.Caching.{Caching}
-use Rattle.suppressed.specs.declared.factor.Caching.the-variants.{Left, Cached}
+use Rattle.suppressed_rules.specs.declared.factor.Caching.{Caching}
+use Rattle.suppressed_rules.specs.declared.factor.Caching.the-variants.{Left, Cached}
 use Rattle.suppressed.specs.Calls.{slotIn}
-use Rattle.suppressed.specs.Edits.{hasSlot, useLeft, factorAfter, timeAfter, useAfter, recached, loneEdit}
-use Rattle.suppressed.specs.Factor.{stays}
+use Rattle.suppressed_edits.specs.Edits.{hasSlot, useLeft, factorAfter, timeAfter, useAfter, recached, loneEdit}
+use Rattle.suppressed_rules.specs.Factor.{stays}
 use Rattle.suppressed.specs.Standing.{used, known}
 use Rattle.views.specs.Unit.{CachingOk}
 

@@ -17,15 +17,15 @@ use Rattle.common.specs.declared.settings.Settings.{Settings}
 use Rattle.common.specs.declared.answers.RateLimitDecision.{RateLimitDecision}
 use Rattle.common.specs.declared.answers.RateLimitDecision.the-variants.{Allowed, Rejected, Suppressed, Refused}
 use Rattle.judge.specs.declared.Slot.{Slot}
-use Rattle.suppressed.specs.declared.factor.FactorRule.{FactorRule}
-use Rattle.suppressed.specs.declared.factor.FactorRule.the-variants.{Nil, One, Worked}
-use Rattle.suppressed.specs.declared.factor.Caching.{Caching}
-use Rattle.suppressed.specs.declared.factor.Caching.the-variants.{Left, Cached}
-use Rattle.suppressed.specs.declared.factor.Asked.{Asked}
-use Rattle.suppressed.specs.declared.forecast.Reach.{Reach}
-use Rattle.suppressed.specs.declared.forecast.Reach.the-variants.{Hard, Soft, Over, Between}
-use Rattle.suppressed.specs.Factor.{accepted, left, stays, usable, ruleOf, freshBy, blindBy, worked, asked}
-use Rattle.suppressed.specs.Forecast.{reachOf, drawn, outcomeOf, outcome}
+use Rattle.suppressed_rules.specs.declared.factor.FactorRule.{FactorRule}
+use Rattle.suppressed_rules.specs.declared.factor.FactorRule.the-variants.{Nil, One, Worked}
+use Rattle.suppressed_rules.specs.declared.factor.Caching.{Caching}
+use Rattle.suppressed_rules.specs.declared.factor.Caching.the-variants.{Left, Cached}
+use Rattle.suppressed_rules.specs.declared.factor.Asked.{Asked}
+use Rattle.suppressed_rules.specs.declared.forecast.Reach.{Reach}
+use Rattle.suppressed_rules.specs.declared.forecast.Reach.the-variants.{Hard, Soft, Over, Between}
+use Rattle.suppressed_rules.specs.Factor.{accepted, left, stays, usable, ruleOf, freshBy, blindBy, worked, asked}
+use Rattle.suppressed_rules.specs.Forecast.{reachOf, drawn, outcomeOf, outcome}
 use Rattle.suppressed.specs.Standing.{Sums}
 
 -- ---- 0 and 1
