@@ -1,0 +1,26 @@
+-- The set of this limiter's room, its numbers read.
+use borrow.Author.Needs.{needs}
+use Rattle.abi.proofs.frostaxle_absolute_set_if.Statement.{statement}
+use Rattle.abi.proofs.frostaxle_absolute_set_if.Tie as tie
+
+settings-requires : tie.Need-settings-requires
+settings-requires c κs = search needs
+
+comparison-of-requires : tie.Need-comparison-of-requires
+comparison-of-requires c κs = search needs
+
+set-requires : tie.Need-set-requires
+set-requires c κs = search needs
+
+same-length : tie.Need-same-length
+same-length c = search needs
+
+returns : tie.Need-returns
+returns c =
+    let set = c .before .before in
+    let compared = set .before .before .before in
+    rw (compared .before .settings .ensures, compared .comparison-of .ensures) at (set .set .ensures)
+
+pub frostaxle-absolute-set-if-spec : {M : Type 1} → statement M
+frostaxle-absolute-set-if-spec =
+    tie.close (tie.spec settings-requires comparison-of-requires set-requires same-length returns)

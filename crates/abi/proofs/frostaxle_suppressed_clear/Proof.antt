@@ -1,0 +1,31 @@
+-- The limiter's answer for these settings, handed over as its row.
+use Rattle.common.specs.Answers.{doneRow}
+use Rattle.abi.specs.Laws.{faced}
+use borrow.Author.Needs.{needs}
+use Rattle.abi.proofs.frostaxle_suppressed_clear.Statement.{statement}
+use Rattle.abi.proofs.frostaxle_suppressed_clear.Tie as tie
+
+settings-requires : tie.Need-settings-requires
+settings-requires c κs = search needs
+
+clear-requires : tie.Need-clear-requires
+clear-requires c κs = search needs
+
+done-row-requires : tie.Need-done-row-requires
+done-row-requires c κs = search needs
+
+give-requires : tie.Need-give-requires
+give-requires c κs = search needs
+
+same-length : tie.Need-same-length
+same-length c = search needs
+
+returns : tie.Need-returns
+returns c =
+    let answered = c .before .before .before .before .before in
+    faced doneRow _ _ _ _ _ _ (rw (answered .before .before .settings .ensures) at (answered .clear .ensures)) (c .before .before .done-row .ensures) (c .give .ensures)
+
+pub frostaxle-suppressed-clear-spec : {M : Type 1} → statement M
+frostaxle-suppressed-clear-spec =
+    tie.close
+    (tie.spec settings-requires clear-requires done-row-requires give-requires same-length returns)

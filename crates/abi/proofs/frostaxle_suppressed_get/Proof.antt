@@ -1,0 +1,37 @@
+-- The limiter's answer for these settings, handed over as its row.
+use Rattle.common.specs.Answers.{snapshotRow}
+use Rattle.abi.specs.Laws.{faced}
+use borrow.Author.Needs.{needs}
+use Rattle.abi.proofs.frostaxle_suppressed_get.Statement.{statement}
+use Rattle.abi.proofs.frostaxle_suppressed_get.Tie as tie
+
+settings-requires : tie.Need-settings-requires
+settings-requires c κs = search needs
+
+get-requires : tie.Need-get-requires
+get-requires c κs = search needs
+
+snapshot-row-requires : tie.Need-snapshot-row-requires
+snapshot-row-requires c κs = search needs
+
+give-requires : tie.Need-give-requires
+give-requires c κs = search needs
+
+same-length : tie.Need-same-length
+same-length c = search needs
+
+returns : tie.Need-returns
+returns c =
+    let answered = c .before .before .before .before .before in
+    faced snapshotRow _ _ _ _ _ _ (rw (answered .before .before .settings .ensures) at (answered .get .ensures)) (c .before .before .snapshot-row .ensures) (c .give .ensures)
+
+pub frostaxle-suppressed-get-spec : {M : Type 1} → statement M
+frostaxle-suppressed-get-spec =
+    tie.close
+    (tie.spec
+    settings-requires
+    get-requires
+    snapshot-row-requires
+    give-requires
+    same-length
+    returns)

@@ -1,0 +1,37 @@
+-- The limiter's answer for these settings, handed over as its row.
+use Rattle.common.specs.Answers.{decisionRow}
+use Rattle.abi.specs.Laws.{faced}
+use borrow.Author.Needs.{needs}
+use Rattle.abi.proofs.frostaxle_suppressed_inc.Statement.{statement}
+use Rattle.abi.proofs.frostaxle_suppressed_inc.Tie as tie
+
+settings-requires : tie.Need-settings-requires
+settings-requires c κs = search needs
+
+inc-requires : tie.Need-inc-requires
+inc-requires c κs = search needs
+
+decision-row-requires : tie.Need-decision-row-requires
+decision-row-requires c κs = search needs
+
+give-requires : tie.Need-give-requires
+give-requires c κs = search needs
+
+same-length : tie.Need-same-length
+same-length c = search needs
+
+returns : tie.Need-returns
+returns c =
+    let answered = c .before .before .before .before .before in
+    faced decisionRow _ _ _ _ _ _ (rw (answered .before .before .settings .ensures) at (answered .inc .ensures)) (c .before .before .decision-row .ensures) (c .give .ensures)
+
+pub frostaxle-suppressed-inc-spec : {M : Type 1} → statement M
+frostaxle-suppressed-inc-spec =
+    tie.close
+    (tie.spec
+    settings-requires
+    inc-requires
+    decision-row-requires
+    give-requires
+    same-length
+    returns)

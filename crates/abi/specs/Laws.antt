@@ -1,0 +1,43 @@
+-- From what a limiter was told and the row that was handed over to the whole face; that a face leaves nothing open; a room's words are those that fit.
+-- Assumes nothing.
+use mathlib.Core.Path.{_≡_, refl, sym, ap, _∙_}
+use mathlib.Core.Bool.{Bool, true, false, cond}
+use mathlib.Core.List.{List}
+use Prim.Native.Nat.{ℕ}
+use Rattle.common.specs.Answers.{doneRow}
+use Rattle.common.specs.declared.answers.DoneAnswer.{DoneAnswer}
+use Rattle.room.specs.Room.{lengthOf, fits, Lengths}
+use Rattle.room.specs.Laws.{lengths-fit, fit-lengths}
+use Rattle.judge.specs.Verdict.{Verdict, Told}
+use Rattle.provider.specs.Provider as Provider
+use Rattle.abi.specs.Faces.{Face, Faced, Given, numberOf, shown, shownBoth, roomWords}
+
+-- two results that a face allows are one
+pub faced-once : {W : Type 0} (f : Face W) (n n′ : ℕ) (a a′ : List ℕ) (w w′ : W) → Faced f n a w → Faced f n′ a′ w′ → (n ≡ n′) × (a ≡ a′) × (w ≡ w′)
+faced-once f n n′ a a′ w w′ x y = (x .number ∙ sym (y .number), x .answer ∙ sym (y .answer), x .left ∙ sym (y .left))
+
+-- a row that was handed over is the face's
+pub given-faced : {W : Type 0} (f : Face W) (row : List ℕ) (n : ℕ) (a : List ℕ) (w : W) → row ≡ f .row → Given row n a → w ≡ f .words → Faced f n a w
+given-faced f row n a w e g l = record { number = g .number ∙ ap numberOf e; answer = g .answer ∙ e; left = l }
+
+-- a limiter's answer
+pub faced : {A : Type 0} (rowOf : A → List ℕ) (v : Verdict A) (r : A) (row : List ℕ) (n : ℕ) (a w : List ℕ) → Told v r w → row ≡ rowOf r → Given row n a → Faced (shown rowOf v) n a w
+faced rowOf v r row n a w t e g = given-faced (shown rowOf v) row n a w (e ∙ ap rowOf (t .answer)) g (t .words)
+
+-- the provider's
+pub faced-both : (v : Provider.Verdict) (r : DoneAnswer) (row : List ℕ) (n : ℕ) (a x y : List ℕ) → Provider.Told v r x y → row ≡ doneRow r → Given row n a → Faced (shownBoth v) n a (x, y)
+faced-both v r row n a x y t e g = given-faced (shownBoth v) row n a (x, y) (e ∙ ap doneRow (t .answer)) g (ap (λ z. (z, y)) (t .absolute) ∙ ap (λ z. (v .absolute, z)) (t .suppressed))
+
+-- ---- a room's words
+
+pub words-some : (n r : ℕ) → Lengths n r (lengthOf n r) → lengthOf n r ≡ roomWords n r
+unfolding roomWords
+words-some n r o = sym (rw (lengths-fit n r (lengthOf n r) o))
+
+pub words-none : (n r : ℕ) → (Lengths n r (lengthOf n r) → ⊥) → 0 ≡ roomWords n r
+unfolding roomWords
+words-none n r never = go (fits n r (lengthOf n r)) refl
+  where
+    go : (b : Bool) → fits n r (lengthOf n r) ≡ b → 0 ≡ cond b (lengthOf n r) 0
+    go true e = absurd (never (fit-lengths n r (lengthOf n r) e))
+    go false e = refl

@@ -1,0 +1,532 @@
+// The faces for C and Rust: every call over numbers and lent words. The answer goes out as a row of five words, and each face returns the row's first, the
+// refusal's number or 0. include/frostaxle.h says it to C programmers.
+mod inputs;
+mod rows;
+
+ghost use mathlib.Core.Path.{_≡_};
+ghost use mathlib.Core.Bool.{cond};
+ghost use lib.ListN.{length};
+ghost use Rattle.common.specs.Answers.{decisionRow, totalRow, snapshotRow, factorRow, oldRateRow, deleteRow, doneRow};
+ghost use Rattle.room.specs.Room.{fits, empty};
+ghost use Rattle.judge.specs.declared.RoomKind.the-variants.{Absolute, Suppressed};
+ghost use Rattle.calls.specs.Clear as Clear;
+ghost use Rattle.calls.specs.Delete as Delete;
+ghost use Rattle.calls.specs.Rate.{setRateLimit};
+ghost use Rattle.calls.specs.Set as Set;
+ghost use Rattle.cleanup.specs.Cleanup as Cleanup;
+ghost use Rattle.absolute.specs.Calls as AbsoluteCalls;
+ghost use Rattle.suppressed.specs.Calls as SuppressedCalls;
+ghost use Rattle.provider.specs.Provider as Provider;
+ghost use Rattle.abi.specs.Faces.{Faced, shown, shownBoth, shownSet, settings, rated, comparisonOf, replacing, preserving, roomWords, makeNumber};
+use common::HistoryUpdateMode;
+use common::RateLimit;
+use common::Settings;
+use inputs::Comparison;
+use inputs::Mode;
+use judge::RoomKind;
+
+// What is no call.
+const BAD_CALL: u64 = 14;
+
+// The room's lengths are wrong.
+const WRONG_LENGTHS: u64 = 5;
+
+// ---- rooms
+
+// How many words a room needs, 0 where there is no such room.
+#[no_mangle]
+pub extern "C" fn frostaxle_room_words(slots: u64, ring: u64) -> usize
+    ensures { λ n. ⌜ n ≡ roomWords slots ring ⌝ }
+{
+    if slots < 1 {
+        return 0;
+    }
+    if 64 < slots {
+        return 0;
+    }
+    if ring < 1 {
+        return 0;
+    }
+    if 512 < ring {
+        return 0;
+    }
+    let n = slots as usize;
+    let r = ring as usize;
+    room::HEADER + room::ENTRY * n + n * (room::FIXED + room::CELL * r)
+}
+
+// Makes an empty room.
+#[no_mangle]
+pub extern "C" fn frostaxle_make(room: &mut [u64], slots: u64, ring: u64) -> u64
+    ensures { λ n. ⌜ n ≡ makeNumber (fits slots ring (length (now (room .entry)))) ⌝ }
+    ensures { λ _. ⌜ now (room .exit) ≡ cond (fits slots ring (length (now (room .entry)))) (empty slots ring) (now (room .entry)) ⌝ }
+{
+    if room::make(room, slots, ring) {
+        return 0;
+    }
+    WRONG_LENGTHS
+}
+
+// A set of either limiter, once its numbers are read.
+fn set(
+    kind: RoomKind,
+    settings: Settings,
+    room: &mut [u64],
+    reading: u64,
+    key: &[u8],
+    rate: f64,
+    count: u64,
+    comparison: Comparison,
+    mode: Mode,
+    row: &mut [u64; 5],
+) -> u64
+    ensures { λ n. ⌜ Faced (shownSet (now (room .entry)) comparison mode (λ c m. Set.set kind settings (now (room .entry)) reading (now (key .entry)) (rated rate) c count m)) n (now (row .exit)) (now (room .exit)) ⌝ }
+{
+    let Comparison::Named(c) = comparison else {
+        return rows::give(rows::refused_row(BAD_CALL), row);
+    };
+    let Mode::Named(m) = mode else {
+        return rows::give(rows::refused_row(BAD_CALL), row);
+    };
+    let answer = calls::set(
+        kind,
+        settings,
+        room,
+        reading,
+        key,
+        RateLimit(rate),
+        c,
+        count,
+        m,
+    );
+    rows::give(rows::set_row(answer), row)
+}
+
+// ---- the absolute limiter
+
+// Counts `count` for a key, where it is allowed.
+#[no_mangle]
+pub extern "C" fn frostaxle_absolute_inc(
+    window: u64,
+    bucket: u64,
+    cache: u64,
+    factor: f64,
+    room: &mut [u64],
+    reading: u64,
+    key: &[u8],
+    rate: f64,
+    count: u64,
+    row: &mut [u64; 5],
+) -> u64
+    ensures { λ n. ⌜ Faced (shown decisionRow (AbsoluteCalls.inc (settings window bucket cache factor) (now (room .entry)) reading (now (key .entry)) (rated rate) count)) n (now (row .exit)) (now (room .exit)) ⌝ }
+{
+    let settings = inputs::settings(window, bucket, cache, factor);
+    let answer = absolute::inc(settings, room, reading, key, RateLimit(rate), count);
+    rows::give(rows::decision_row(answer), row)
+}
+
+// Whether a key is allowed, without counting.
+#[no_mangle]
+pub extern "C" fn frostaxle_absolute_is_allowed(
+    window: u64,
+    bucket: u64,
+    cache: u64,
+    factor: f64,
+    room: &mut [u64],
+    reading: u64,
+    key: &[u8],
+    row: &mut [u64; 5],
+) -> u64
+    ensures { λ n. ⌜ Faced (shown decisionRow (AbsoluteCalls.isAllowed (settings window bucket cache factor) (now (room .entry)) reading (now (key .entry)))) n (now (row .exit)) (now (room .exit)) ⌝ }
+{
+    let settings = inputs::settings(window, bucket, cache, factor);
+    let answer = absolute::is_allowed(settings, room, reading, key);
+    rows::give(rows::decision_row(answer), row)
+}
+
+// A key's live total.
+#[no_mangle]
+pub extern "C" fn frostaxle_absolute_get(
+    window: u64,
+    bucket: u64,
+    cache: u64,
+    factor: f64,
+    room: &mut [u64],
+    reading: u64,
+    key: &[u8],
+    row: &mut [u64; 5],
+) -> u64
+    ensures { λ n. ⌜ Faced (shown totalRow (AbsoluteCalls.get (settings window bucket cache factor) (now (room .entry)) reading (now (key .entry)))) n (now (row .exit)) (now (room .exit)) ⌝ }
+{
+    let settings = inputs::settings(window, bucket, cache, factor);
+    let answer = absolute::get(settings, room, reading, key);
+    rows::give(rows::total_row(answer), row)
+}
+
+#[no_mangle]
+pub extern "C" fn frostaxle_absolute_set_rate_limit(
+    window: u64,
+    bucket: u64,
+    cache: u64,
+    factor: f64,
+    room: &mut [u64],
+    reading: u64,
+    key: &[u8],
+    rate: f64,
+    row: &mut [u64; 5],
+) -> u64
+    ensures { λ n. ⌜ Faced (shown oldRateRow (setRateLimit Absolute (settings window bucket cache factor) (now (room .entry)) reading (now (key .entry)) (rated rate))) n (now (row .exit)) (now (room .exit)) ⌝ }
+{
+    let settings = inputs::settings(window, bucket, cache, factor);
+    let answer = absolute::set_rate_limit(settings, room, reading, key, RateLimit(rate));
+    rows::give(rows::old_rate_row(answer), row)
+}
+
+#[no_mangle]
+pub extern "C" fn frostaxle_absolute_delete(
+    window: u64,
+    bucket: u64,
+    cache: u64,
+    factor: f64,
+    room: &mut [u64],
+    reading: u64,
+    key: &[u8],
+    row: &mut [u64; 5],
+) -> u64
+    ensures { λ n. ⌜ Faced (shown deleteRow (Delete.delete Absolute (settings window bucket cache factor) (now (room .entry)) reading (now (key .entry)))) n (now (row .exit)) (now (room .exit)) ⌝ }
+{
+    let settings = inputs::settings(window, bucket, cache, factor);
+    let answer = absolute::delete(settings, room, reading, key);
+    rows::give(rows::delete_row(answer), row)
+}
+
+#[no_mangle]
+pub extern "C" fn frostaxle_absolute_clear(
+    window: u64,
+    bucket: u64,
+    cache: u64,
+    factor: f64,
+    room: &mut [u64],
+    reading: u64,
+    row: &mut [u64; 5],
+) -> u64
+    ensures { λ n. ⌜ Faced (shown doneRow (Clear.clear (settings window bucket cache factor) (now (room .entry)) reading)) n (now (row .exit)) (now (room .exit)) ⌝ }
+{
+    let settings = inputs::settings(window, bucket, cache, factor);
+    let answer = absolute::clear(settings, room, reading);
+    rows::give(rows::done_row(answer), row)
+}
+
+#[no_mangle]
+pub extern "C" fn frostaxle_absolute_set_if(
+    window: u64,
+    bucket: u64,
+    cache: u64,
+    factor: f64,
+    room: &mut [u64],
+    reading: u64,
+    key: &[u8],
+    rate: f64,
+    count: u64,
+    comparator: u64,
+    operand: u64,
+    row: &mut [u64; 5],
+) -> u64
+    ensures { λ n. ⌜ Faced (shownSet (now (room .entry)) (comparisonOf comparator operand) replacing (λ c m. Set.set Absolute (settings window bucket cache factor) (now (room .entry)) reading (now (key .entry)) (rated rate) c count m)) n (now (row .exit)) (now (room .exit)) ⌝ }
+{
+    let settings = inputs::settings(window, bucket, cache, factor);
+    let comparison = inputs::comparison_of(comparator, operand);
+    let mode = Mode::Named(HistoryUpdateMode::Replace);
+    set(
+        RoomKind::Absolute,
+        settings,
+        room,
+        reading,
+        key,
+        rate,
+        count,
+        comparison,
+        mode,
+        row,
+    )
+}
+
+#[no_mangle]
+pub extern "C" fn frostaxle_absolute_set_if_preserve_history(
+    window: u64,
+    bucket: u64,
+    cache: u64,
+    factor: f64,
+    room: &mut [u64],
+    reading: u64,
+    key: &[u8],
+    rate: f64,
+    count: u64,
+    comparator: u64,
+    operand: u64,
+    preservation: u64,
+    row: &mut [u64; 5],
+) -> u64
+    ensures { λ n. ⌜ Faced (shownSet (now (room .entry)) (comparisonOf comparator operand) (preserving preservation) (λ c m. Set.set Absolute (settings window bucket cache factor) (now (room .entry)) reading (now (key .entry)) (rated rate) c count m)) n (now (row .exit)) (now (room .exit)) ⌝ }
+{
+    let settings = inputs::settings(window, bucket, cache, factor);
+    let comparison = inputs::comparison_of(comparator, operand);
+    let mode = inputs::preserving(preservation);
+    set(
+        RoomKind::Absolute,
+        settings,
+        room,
+        reading,
+        key,
+        rate,
+        count,
+        comparison,
+        mode,
+        row,
+    )
+}
+
+// Drops what is stale: `stale` is in milliseconds.
+#[no_mangle]
+pub extern "C" fn frostaxle_absolute_cleanup(
+    window: u64,
+    bucket: u64,
+    cache: u64,
+    factor: f64,
+    room: &mut [u64],
+    reading: u64,
+    stale: u64,
+    row: &mut [u64; 5],
+) -> u64
+    ensures { λ n. ⌜ Faced (shown doneRow (Cleanup.cleanup Absolute (settings window bucket cache factor) (now (room .entry)) reading stale)) n (now (row .exit)) (now (room .exit)) ⌝ }
+{
+    let settings = inputs::settings(window, bucket, cache, factor);
+    let answer = absolute::cleanup(settings, room, reading, stale);
+    rows::give(rows::done_row(answer), row)
+}
+
+// ---- the suppressed limiter
+
+// Counts, and decides by the forecast and the draw.
+#[no_mangle]
+pub extern "C" fn frostaxle_suppressed_inc(
+    window: u64,
+    bucket: u64,
+    cache: u64,
+    factor: f64,
+    room: &mut [u64],
+    reading: u64,
+    key: &[u8],
+    rate: f64,
+    count: u64,
+    draw: u64,
+    row: &mut [u64; 5],
+) -> u64
+    ensures { λ n. ⌜ Faced (shown decisionRow (SuppressedCalls.inc (settings window bucket cache factor) (now (room .entry)) reading (now (key .entry)) (rated rate) count draw)) n (now (row .exit)) (now (room .exit)) ⌝ }
+{
+    let settings = inputs::settings(window, bucket, cache, factor);
+    let answer = suppressed::inc(settings, room, reading, key, RateLimit(rate), count, draw);
+    rows::give(rows::decision_row(answer), row)
+}
+
+// A key's live totals and its factor.
+#[no_mangle]
+pub extern "C" fn frostaxle_suppressed_get(
+    window: u64,
+    bucket: u64,
+    cache: u64,
+    factor: f64,
+    room: &mut [u64],
+    reading: u64,
+    key: &[u8],
+    row: &mut [u64; 5],
+) -> u64
+    ensures { λ n. ⌜ Faced (shown snapshotRow (SuppressedCalls.get (settings window bucket cache factor) (now (room .entry)) reading (now (key .entry)))) n (now (row .exit)) (now (room .exit)) ⌝ }
+{
+    let settings = inputs::settings(window, bucket, cache, factor);
+    let answer = suppressed::get(settings, room, reading, key);
+    rows::give(rows::snapshot_row(answer), row)
+}
+
+// A key's factor, which is cached.
+#[no_mangle]
+pub extern "C" fn frostaxle_suppressed_get_suppression_factor(
+    window: u64,
+    bucket: u64,
+    cache: u64,
+    factor: f64,
+    room: &mut [u64],
+    reading: u64,
+    key: &[u8],
+    row: &mut [u64; 5],
+) -> u64
+    ensures { λ n. ⌜ Faced (shown factorRow (SuppressedCalls.getFactor (settings window bucket cache factor) (now (room .entry)) reading (now (key .entry)))) n (now (row .exit)) (now (room .exit)) ⌝ }
+{
+    let settings = inputs::settings(window, bucket, cache, factor);
+    let answer = suppressed::get_suppression_factor(settings, room, reading, key);
+    rows::give(rows::factor_row(answer), row)
+}
+
+#[no_mangle]
+pub extern "C" fn frostaxle_suppressed_set_rate_limit(
+    window: u64,
+    bucket: u64,
+    cache: u64,
+    factor: f64,
+    room: &mut [u64],
+    reading: u64,
+    key: &[u8],
+    rate: f64,
+    row: &mut [u64; 5],
+) -> u64
+    ensures { λ n. ⌜ Faced (shown oldRateRow (setRateLimit Suppressed (settings window bucket cache factor) (now (room .entry)) reading (now (key .entry)) (rated rate))) n (now (row .exit)) (now (room .exit)) ⌝ }
+{
+    let settings = inputs::settings(window, bucket, cache, factor);
+    let answer = suppressed::set_rate_limit(settings, room, reading, key, RateLimit(rate));
+    rows::give(rows::old_rate_row(answer), row)
+}
+
+#[no_mangle]
+pub extern "C" fn frostaxle_suppressed_delete(
+    window: u64,
+    bucket: u64,
+    cache: u64,
+    factor: f64,
+    room: &mut [u64],
+    reading: u64,
+    key: &[u8],
+    row: &mut [u64; 5],
+) -> u64
+    ensures { λ n. ⌜ Faced (shown deleteRow (Delete.delete Suppressed (settings window bucket cache factor) (now (room .entry)) reading (now (key .entry)))) n (now (row .exit)) (now (room .exit)) ⌝ }
+{
+    let settings = inputs::settings(window, bucket, cache, factor);
+    let answer = suppressed::delete(settings, room, reading, key);
+    rows::give(rows::delete_row(answer), row)
+}
+
+#[no_mangle]
+pub extern "C" fn frostaxle_suppressed_clear(
+    window: u64,
+    bucket: u64,
+    cache: u64,
+    factor: f64,
+    room: &mut [u64],
+    reading: u64,
+    row: &mut [u64; 5],
+) -> u64
+    ensures { λ n. ⌜ Faced (shown doneRow (Clear.clear (settings window bucket cache factor) (now (room .entry)) reading)) n (now (row .exit)) (now (room .exit)) ⌝ }
+{
+    let settings = inputs::settings(window, bucket, cache, factor);
+    let answer = suppressed::clear(settings, room, reading);
+    rows::give(rows::done_row(answer), row)
+}
+
+#[no_mangle]
+pub extern "C" fn frostaxle_suppressed_set_if(
+    window: u64,
+    bucket: u64,
+    cache: u64,
+    factor: f64,
+    room: &mut [u64],
+    reading: u64,
+    key: &[u8],
+    rate: f64,
+    count: u64,
+    comparator: u64,
+    operand: u64,
+    row: &mut [u64; 5],
+) -> u64
+    ensures { λ n. ⌜ Faced (shownSet (now (room .entry)) (comparisonOf comparator operand) replacing (λ c m. Set.set Suppressed (settings window bucket cache factor) (now (room .entry)) reading (now (key .entry)) (rated rate) c count m)) n (now (row .exit)) (now (room .exit)) ⌝ }
+{
+    let settings = inputs::settings(window, bucket, cache, factor);
+    let comparison = inputs::comparison_of(comparator, operand);
+    let mode = Mode::Named(HistoryUpdateMode::Replace);
+    set(
+        RoomKind::Suppressed,
+        settings,
+        room,
+        reading,
+        key,
+        rate,
+        count,
+        comparison,
+        mode,
+        row,
+    )
+}
+
+#[no_mangle]
+pub extern "C" fn frostaxle_suppressed_set_if_preserve_history(
+    window: u64,
+    bucket: u64,
+    cache: u64,
+    factor: f64,
+    room: &mut [u64],
+    reading: u64,
+    key: &[u8],
+    rate: f64,
+    count: u64,
+    comparator: u64,
+    operand: u64,
+    preservation: u64,
+    row: &mut [u64; 5],
+) -> u64
+    ensures { λ n. ⌜ Faced (shownSet (now (room .entry)) (comparisonOf comparator operand) (preserving preservation) (λ c m. Set.set Suppressed (settings window bucket cache factor) (now (room .entry)) reading (now (key .entry)) (rated rate) c count m)) n (now (row .exit)) (now (room .exit)) ⌝ }
+{
+    let settings = inputs::settings(window, bucket, cache, factor);
+    let comparison = inputs::comparison_of(comparator, operand);
+    let mode = inputs::preserving(preservation);
+    set(
+        RoomKind::Suppressed,
+        settings,
+        room,
+        reading,
+        key,
+        rate,
+        count,
+        comparison,
+        mode,
+        row,
+    )
+}
+
+// Drops what is stale: `stale` is in milliseconds.
+#[no_mangle]
+pub extern "C" fn frostaxle_suppressed_cleanup(
+    window: u64,
+    bucket: u64,
+    cache: u64,
+    factor: f64,
+    room: &mut [u64],
+    reading: u64,
+    stale: u64,
+    row: &mut [u64; 5],
+) -> u64
+    ensures { λ n. ⌜ Faced (shown doneRow (Cleanup.cleanup Suppressed (settings window bucket cache factor) (now (room .entry)) reading stale)) n (now (row .exit)) (now (room .exit)) ⌝ }
+{
+    let settings = inputs::settings(window, bucket, cache, factor);
+    let answer = suppressed::cleanup(settings, room, reading, stale);
+    rows::give(rows::done_row(answer), row)
+}
+
+// ---- both rooms
+
+// Cleans both rooms or neither.
+#[no_mangle]
+pub extern "C" fn frostaxle_provider_cleanup(
+    window: u64,
+    bucket: u64,
+    cache: u64,
+    factor: f64,
+    absolute: &mut [u64],
+    suppressed: &mut [u64],
+    reading: u64,
+    stale: u64,
+    row: &mut [u64; 5],
+) -> u64
+    ensures { λ n. ⌜ Faced (shownBoth (Provider.cleanup (settings window bucket cache factor) (now (absolute .entry)) (now (suppressed .entry)) reading stale)) n (now (row .exit)) (now (absolute .exit), now (suppressed .exit)) ⌝ }
+{
+    let settings = inputs::settings(window, bucket, cache, factor);
+    let answer = provider::cleanup(settings, absolute, suppressed, reading, stale);
+    rows::give(rows::done_row(answer), row)
+}
