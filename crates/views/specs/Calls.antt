@@ -95,11 +95,12 @@ module _ (kind : RoomKind) (s : Settings) (w v : List ℕ) (at b t : ℕ) (k : K
       ap₂ (λ (x y : ℕ). factorWordOk x && leb y (lastOf v)) edited-factor edited-time ∙
       ap (λ (n : ℕ). factorWordOk (e .factor) && leb (e .«factor_time») n) (c .last) ∙ f (sym (ap (λ (n : ℕ). hasCached n) (c .used)) ∙ h)
 
-  pub stands : (ys : List Bucket) → editedView b t e (buckets (ringOf w) (bodyOf w at)) ≡ ys → keyFits k ≡ true → rightUse kind (e .used) ≡ true → declinedRight kind (declineds ys) ≡ true →
-      limitOk (windowIn s) (divisor kind (factorIn s)) (e .limit) ≡ true → (hasCached (e .used) ≡ true → factorWordOk (e .factor) && leb (e .«factor_time») t ≡ true) →
+  -- where there is no series, the limit is not judged
+  pub stands-so : (ys : List Bucket) → editedView b t e (buckets (ringOf w) (bodyOf w at)) ≡ ys → keyFits k ≡ true → rightUse kind (e .used) ≡ true → declinedRight kind (declineds ys) ≡ true →
+      (hasSeries (e .used) ≡ true → limitOk (windowIn s) (divisor kind (factorIn s)) (e .limit) ≡ true) → (hasCached (e .used) ≡ true → factorWordOk (e .factor) && leb (e .«factor_time») t ≡ true) →
       Stands kind s w v at t k (e .limit) (e .factor) (e .«factor_time») (e .used) ys
   unfolding soundSlot
-  stands ys y kf u d l f =
+  stands-so ys y kf u d l f =
       let x : buckets (ringOf v) (bodyOf v at) ≡ ys = ap₂ buckets (c .ring) (c .body) ∙ edited-is (ringOf w) b t (bodyOf w at) e (o .edits) .view ∙ y in
       record {
         changed = subst (λ (z : List ℕ). Changed w v at (e .used) k z t) (sym (c .body)) c;
@@ -111,9 +112,14 @@ module _ (kind : RoomKind) (s : Settings) (w v : List ℕ) (at b t : ℕ) (k : K
             true-and (keySound v at) _ (ap keyFits (c .key) ∙ kf)
             (true-and (rightUse kind (useOf v at)) _ (ap (rightUse kind) (c .used) ∙ u)
             (true-and (not (hasSeries (useOf v at)) || soundSeries kind s (ringOf v) (lastOf v) (bodyOf v at)) _
-            (implied (hasSeries (useOf v at)) _ (λ z. edited-series (ap (λ (zs : List Bucket). declinedRight kind (declineds zs)) x ∙ d) l))
+            (implied (hasSeries (useOf v at)) _ (λ z. edited-series (ap (λ (zs : List Bucket). declinedRight kind (declineds zs)) x ∙ d) (l (sym (ap (λ (n : ℕ). hasSeries n) (c .used)) ∙ z))))
             (implied (hasCached (useOf v at)) _ (edited-cached f))));
       }
+
+  pub stands : (ys : List Bucket) → editedView b t e (buckets (ringOf w) (bodyOf w at)) ≡ ys → keyFits k ≡ true → rightUse kind (e .used) ≡ true → declinedRight kind (declineds ys) ≡ true →
+      limitOk (windowIn s) (divisor kind (factorIn s)) (e .limit) ≡ true → (hasCached (e .used) ≡ true → factorWordOk (e .factor) && leb (e .«factor_time») t ≡ true) →
+      Stands kind s w v at t k (e .limit) (e .factor) (e .«factor_time») (e .used) ys
+  stands ys y kf u d l f = stands-so ys y kf u d (λ z. l) f
 
 -- ---- the words after a change
 

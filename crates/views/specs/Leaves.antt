@@ -1,47 +1,101 @@
--- What a call that is not refused answers and leaves: its factor lies in 0 to 1, and a known key's slot is the one before without its expired buckets, with the count joined
--- where there is one; every other slot stands, and the slot is sound again (`After`).
+-- What a call of the suppressed limiter that is not refused leaves, in the rules' own terms (`Stands`): x is the key's slot, a the factor that is asked for, o what an
+-- increment decides. The cached factor's words and the use are those of `factorAfter`, `timeAfter` and `useAfter`.
 -- Assumes nothing.
-use mathlib.Core.Path.{_≡_, refl, sym, ap, subst, _∙_}
-use mathlib.Core.Bool.{Bool, true, false, _||_, cond}
-use mathlib.Core.List.{List}
-use Prim.Native.Nat.{ℕ}
-use lib.Dec.{leb, eqb}
-use Rattle.common.specs.Refusals.{first}
-use Rattle.common.specs.Settings.{bucketIn}
+use mathlib.Core.Path.{_≡_, refl, sym, ap, ap₂, subst, _∙_}
+use mathlib.Core.Bool.{Bool, true, false, not, _&&_, _||_, cond, false≢true}
+use mathlib.Core.List.{List, []}
+use Prim.Native.Nat.{ℕ, _-_, _<_}
+use native.Mathlib.Omega.{arith}
+use lib.Dec.{leb, ltb, eqb}
+use lib.Ieee.{binary64, ofBits}
+use lib.ListN.{length, drop}
+use borrow.Author.Tests.{not-false, ltb-false}
+use Rattle.common.specs.Limits.{cutWord, softWord, hardWord}
+use Rattle.common.specs.Ranges.{nil, rateOk}
+use Rattle.common.specs.Refusals.{first, AllFalse, all-false}
+use Rattle.common.specs.Settings.{windowIn, bucketIn, factorIn, cacheIn}
 use Rattle.common.specs.declared.settings.Settings.{Settings}
 use Rattle.common.specs.declared.units.RateLimit.{RateLimit}
-use Rattle.room.specs.Room.{slotsOf, ringOf, keyAt}
+use Rattle.history.specs.Rules.{joined}
+use Rattle.history.specs.declared.tally.Pass.{Pass}
+use Rattle.ring.specs.declared.Bucket.{Bucket}
+use Rattle.ring.specs.Ring.{buckets}
+use Rattle.room.specs.declared.Key.{Key}
+use Rattle.room.specs.Room.{slotsOf, ringOf, bodyOf, keyAt, keyOf, keyFits, find, withReading}
+use Rattle.frame.specs.Distinct.{find-key}
+use Rattle.frame.specs.Frame.{Changed}
+use Rattle.frame.specs.Keys.{Bytes, key-fits}
 use Rattle.judge.specs.declared.RoomKind.the-variants as kind
 use Rattle.judge.specs.declared.Slot.{Slot}
 use Rattle.judge.specs.Judge.{early, Passed}
 use Rattle.judge.specs.Laws.{passed}
+use Rattle.judge.specs.Right.{addressed-at}
+use Rattle.judge.specs.Sound.{addressed}
 use Rattle.change.specs.declared.Change.{Change}
-use Rattle.change.specs.declared.Change.the-variants.{Update, Take}
+use Rattle.change.specs.declared.Change.the-variants.{Keep, Update, Take}
+use Rattle.change.specs.declared.Edit.{Edit}
 use Rattle.change.specs.declared.Then.the-variants.{Nothing, Increment}
-use Rattle.change.specs.Words.{EditsAt, applied}
+use Rattle.change.specs.Words.{EditsAt, Applies, applied, edited, startedView, actedView, editedView}
 use Rattle.plan.specs.Plan.{evicting, opening}
 use Rattle.suppressed_rules.specs.declared.factor.Asked.{Asked}
 use Rattle.suppressed_rules.specs.declared.factor.Caching.{Caching}
+use Rattle.suppressed_rules.specs.declared.factor.Caching.the-variants.{Left, Cached}
+use Rattle.suppressed_rules.specs.declared.factor.FactorRule.{FactorRule}
+use Rattle.suppressed_rules.specs.declared.factor.FactorRule.the-variants.{Nil, One, Worked}
 use Rattle.suppressed_rules.specs.declared.forecast.Outcome.{Outcome}
-use Rattle.suppressed.specs.Calls.{slotIn, snapshotOf, get, getFactor, limitFor, incOutcome, inc}
-use Rattle.suppressed_edits.specs.Edits.{recached, getChange, get-series, factorChange, factor-series, incEdit, incChange}
-use Rattle.suppressed_rules.specs.Factor.{asked}
-use Rattle.suppressed_rules.specs.Forecast.{forecast}
-use Rattle.suppressed.specs.Laws.{get-edits, get-done, factor-done, place-used, with-series, inc-done, inc-edit}
+use Rattle.suppressed_rules.specs.Factor.{left, accepted, stays, usable, cachedAt, ruleOf, freshBy, blindBy, worked, asked}
+use Rattle.suppressed_rules.specs.Forecast.{forecast, outcome}
+use Rattle.suppressed_edits.specs.Edits.{hasSlot, factorAfter, timeAfter, useAfter, recached, getChange, get-series, loneEdit, loneBy, loneChange, factorChange, factor-series, factor-lone, incEdit, incChange}
 use Rattle.suppressed_edits.specs.Refusals.{placeOf, incLate}
-use Rattle.suppressed.specs.Standing.{known, sums}
+use Rattle.suppressed.specs.Calls.{slotIn, snapshotOf, get, getFactor, limitFor, incOutcome, inc}
+use Rattle.suppressed.specs.Laws.{get-edits, get-done, factor-done, factor-applies, place-used, with-series, inc-done, inc-applies}
+use Rattle.suppressed.specs.Standing.{used, known, unknown, sums}
+use Rattle.views.specs.Calls.{Stands, keep-words, update-changed, take-changed}
 use Rattle.views.specs.Unit.{AskedOk, DecisionOk, CachingOk, asked-ok, outcome-ok}
-use Rattle.views.specs.Suppressed.{After, cached-there, evicted-after}
+use Rattle.views.specs.Suppressed.{stood, cached-there, evicted-right, inc-right, lone-right}
+use Rattle.views.specs.OnBuckets.{liveBy, live-known, live-unknown}
 
--- an increment of a known key
-inc-series : (x : Slot) (limit c d : ℕ) (k : Caching) → x .series ≡ true → incChange x limit c d k ≡ Update (recached x k (evicting x (Increment c d)))
-unfolding incChange incEdit
-inc-series x limit c d k e =
-    ap
-    (λ (z : Bool).
-    cond (z || x .cached) (Update (recached x k (cond z (evicting x (Increment c d)) (opening limit (Increment c d) (x .factor) (x .«factor_time») (x .used)))))
-    (Take (recached x k (cond z (evicting x (Increment c d)) (opening limit (Increment c d) (x .factor) (x .«factor_time») (x .used))))))
-    e
+-- ---- the slot that a key addresses has the key
+
+addressed-has : (w key : List ℕ) → addressed w key < slotsOf w → keyAt w (addressed w key) ≡ keyOf key
+unfolding addressed
+addressed-has w key h = go (ltb 32 (length key)) h
+  where
+    go : (z : Bool) → cond z (slotsOf w) (find w (keyOf key)) < slotsOf w → keyAt w (cond z (slotsOf w) (find w (keyOf key))) ≡ keyOf key
+    go true l = absurd (omega arith)
+    go false l = find-key w (keyOf key) l
+
+-- ---- a lone cached factor, or none
+
+and-yes : (a b : Bool) → b ≡ true → a && b ≡ a
+and-yes true b e = e
+and-yes false b e = refl
+
+-- the fresh factor without a series is 0
+rule-lone : (S H : ℕ) (x : Slot) → x .series ≡ false → ruleOf S H x ≡ Nil
+unfolding ruleOf
+rule-lone S H x e =
+    ap (λ (z : Bool). cond (not z || eqb (left x) 0) Nil (cond (leb H (x .pass .«live_total»)) One (cond (ltb (accepted x) S) Nil (cond (eqb (accepted x) S && eqb S H) One Worked)))) e
+
+abbrev anew : ℕ → Asked
+anew t = record { blind = false; factor = nil; caching = Cached (cachedAt nil t) }
+
+abbrev again : Slot → Asked
+again x = record { blind = false; factor = ofBits binary64 (x .factor); caching = Left }
+
+module _ (s : Settings) (t : ℕ) (x : Slot) (limit : ℕ) (z : Bool) where
+  pub asked-again : usable (cacheIn s) t x ≡ true → asked s t x limit z ≡ again x
+  unfolding asked
+  asked-again u = ap (λ (y : Bool). cond y (again x) (worked (factorIn s) (windowIn s) t x limit z)) u
+
+  pub asked-anew : x .series ≡ false → usable (cacheIn s) t x ≡ false → asked s t x limit z ≡ anew t
+  unfolding asked worked
+  asked-anew e u =
+      let S = softWord (factorIn s) limit in
+      ap (λ (y : Bool). cond y (again x) (worked (factorIn s) (windowIn s) t x limit z)) u ∙
+      ap (λ (r : FactorRule). record { blind = blindBy r z; factor = freshBy r S (x .pass .«live_total») (windowIn s) (x .pass .«last_second»); caching = Cached (cachedAt (freshBy r S (x .pass .«live_total») (windowIn s) (x .pass .«last_second»)) t) }) (rule-lone S (cutWord limit) x e)
+
+-- ---- the calls
 
 module _ (s : Settings) (w : List ℕ) (t : ℕ) (key : List ℕ) (e : early kind.Suppressed s w t key ≡ 0) (x : Slot) (p : x ≡ slotIn s w t key) where
   q : Passed kind.Suppressed s w t key
@@ -51,27 +105,101 @@ module _ (s : Settings) (w : List ℕ) (t : ℕ) (key : List ℕ) (e : early kin
   pub factor-ok : asked s t x (x .limit) (eqb (x .pass .«live_total») 0) .blind ≡ false → AskedOk t (asked s t x (x .limit) (eqb (x .pass .«live_total») 0))
   factor-ok b = asked-ok s (q .settings) t x (sums s w t key q x p) (λ c. cached-there s w t key q x p c .word) (x .limit) b
 
-  pub get-leaves : x .series ≡ true → (a : Asked) → a ≡ asked s t x (x .limit) (eqb (x .pass .«live_total») 0) → a .blind ≡ false →
-      After s w (get s w t key .words) (x .at) t (keyAt w (x .at)) (recached x (a .caching) (evicting x Nothing))
-  get-leaves h a i b =
-      let k : AskedOk t a = subst (λ (y : Asked). AskedOk t y) (sym i) (factor-ok (sym (ap (λ (y : Asked). y .blind) i) ∙ b)) in
-      let v = get-done s w t key e x p a i b (snapshotOf x (a .factor)) (getChange x (a .caching)) (applied w (x .at) key (bucketIn s) t (getChange x (a .caching))) refl refl refl .words in
-      subst (λ (y : List ℕ). After s w y (x .at) t (keyAt w (x .at)) (recached x (a .caching) (evicting x Nothing)))
-      (ap (applied w (x .at) key (bucketIn s) t) (get-series x (a .caching) h) ∙ v)
-      (evicted-after s w t key q x p Nothing (a .caching) h (k .caching) (get-edits s w t (x .at) x (q .room) (known s w t key q x p h) (a .caching)))
+  caching-ok : (a : Asked) → a ≡ asked s t x (x .limit) (eqb (x .pass .«live_total») 0) → a .blind ≡ false → CachingOk t (a .caching)
+  caching-ok a i b = subst (λ (y : Asked). AskedOk t y) (sym i) (factor-ok (sym (ap (λ (y : Asked). y .blind) i) ∙ b)) .caching
 
-  pub factor-leaves : x .series ≡ true → (a : Asked) → a ≡ asked s t x (x .limit) (eqb (x .pass .«live_total») 0) → a .blind ≡ false → leb (slotsOf w) (placeOf w x) ≡ false →
-      After s w (getFactor s w t key .words) (x .at) t (keyAt w (x .at)) (recached x (a .caching) (evicting x Nothing))
-  factor-leaves h a i b f =
-      let k : AskedOk t a = subst (λ (y : Asked). AskedOk t y) (sym i) (factor-ok (sym (ap (λ (y : Asked). y .blind) i) ∙ b)) in
-      let n = place-used s w t key e x p (with-series s w t key e x p h) in
-      let ch : Change = factorChange x (a .caching) t in
-      let v = factor-done s w t key e x p (placeOf w x) refl (leb (slotsOf w) (placeOf w x)) refl f a i b ch (applied w (placeOf w x) key (bucketIn s) t ch) refl refl .words in
-      subst (λ (y : List ℕ). After s w y (x .at) t (keyAt w (x .at)) (recached x (a .caching) (evicting x Nothing)))
-      (ap (λ (y : ℕ). applied w y key (bucketIn s) t (Update (recached x (a .caching) (evicting x Nothing)))) (sym n) ∙
-      ap (applied w (placeOf w x) key (bucketIn s) t) (get-series x (a .caching) h ∙ factor-series x (a .caching) t h) ∙ v)
-      (evicted-after s w t key q x p Nothing (a .caching) h (k .caching) (get-edits s w t (x .at) x (q .room) (known s w t key q x p h) (a .caching)))
+  -- its slot has the key
+  key-has : hasSlot x ≡ true → keyAt w (x .at) ≡ keyOf key
+  key-has h =
+      let a : x .at ≡ addressed w key = addressed-at w key s x (record { room = q .room; reading = t; is = p }) in
+      ap (keyAt w) a ∙ addressed-has w key (omega (arith, used s w t key q x p h .inside))
 
+  pub stays-lone : x .series ≡ false → stays x ≡ x .cached
+  unfolding stays
+  stays-lone h = and-yes (x .cached) (eqb (x .pass .expired) 0) (ap (λ (y : Pass). eqb (y .expired) 0) (unknown s w t key q x p h))
+
+  either : (d : Edit) (z : Bool) → Applies w (placeOf w x) (bucketIn s) t (cond z (Update d) (Take d)) → EditsAt w (placeOf w x) (bucketIn s) t d
+  either d true o = o
+  either d false o = o
+
+  -- a change of the key's slot, which has a series or a lone cached factor, or is the one that is taken
+  changed-by : (d : Edit) (z : Bool) → hasSlot x ≡ z → EditsAt w (placeOf w x) (bucketIn s) t d →
+      Changed w (applied w (placeOf w x) key (bucketIn s) t (cond z (Update d) (Take d))) (placeOf w x) (d .used) (keyOf key) (edited (ringOf w) (bucketIn s) t (bodyOf w (placeOf w x)) d) t
+  changed-by d true h o =
+      let at = placeOf w x in
+      subst (λ (k : Key). Changed w (applied w at key (bucketIn s) t (Update d)) at (d .used) k (edited (ringOf w) (bucketIn s) t (bodyOf w at) d) t)
+      (ap (keyAt w) (place-used s w t key e x p h) ∙ key-has h) (update-changed w at key (bucketIn s) t d o)
+  changed-by d false h o = take-changed w (placeOf w x) key (bucketIn s) t d o
+
+  -- ---- the live buckets of a known key, at its place
+  evicted-stands : (k : Caching) → Bytes key → x .series ≡ true → CachingOk t k →
+      Stands kind.Suppressed s w (applied w (x .at) key (bucketIn s) t (Update (recached x k (evicting x Nothing)))) (x .at) t (keyOf key)
+      (x .limit) (factorAfter k (x .factor)) (timeAfter k (x .«factor_time»)) (useAfter k x) (liveBy s w t x)
+  unfolding recached editedView actedView startedView
+  evicted-stands k y h o =
+      let at = x .at in
+      let d : Edit = recached x k (evicting x Nothing) in
+      let g : EditsAt w at (bucketIn s) t d = get-edits s w t at x (q .room) (known s w t key q x p h) k in
+      stood s w (applied w at key (bucketIn s) t (Update d)) at t (keyOf key) d (liveBy s w t x) g
+      (subst (λ (j : Key). Changed w (applied w at key (bucketIn s) t (Update d)) at (d .used) j (edited (ringOf w) (bucketIn s) t (bodyOf w at) d) t) (key-has (with-series s w t key e x p h)) (update-changed w at key (bucketIn s) t d g))
+      (key-fits key y (q .short)) (evicted-right s w t key q x p k o h) (live-known s w t key q x p h)
+
+  module _ (a : Asked) (i : a ≡ asked s t x (x .limit) (eqb (x .pass .«live_total») 0)) (b : a .blind ≡ false) where
+    -- ---- get
+    get-words : applied w (x .at) key (bucketIn s) t (getChange x (a .caching)) ≡ get s w t key .words
+    get-words = get-done s w t key e x p a i b (snapshotOf x (a .factor)) (getChange x (a .caching)) (applied w (x .at) key (bucketIn s) t (getChange x (a .caching))) refl refl refl .words
+
+    -- a known key is rid of its expired buckets
+    pub get-stands : Bytes key → x .series ≡ true →
+        Stands kind.Suppressed s w (get s w t key .words) (x .at) t (keyOf key) (x .limit) (factorAfter (a .caching) (x .factor)) (timeAfter (a .caching) (x .«factor_time»)) (useAfter (a .caching) x) (liveBy s w t x)
+    get-stands y h =
+        subst (λ (v : List ℕ). Stands kind.Suppressed s w v (x .at) t (keyOf key) (x .limit) (factorAfter (a .caching) (x .factor)) (timeAfter (a .caching) (x .«factor_time»)) (useAfter (a .caching) x) (liveBy s w t x))
+        (ap (applied w (x .at) key (bucketIn s) t) (get-series x (a .caching) h) ∙ get-words) (evicted-stands (a .caching) y h (caching-ok a i b))
+
+    -- "`get` on an unknown key .. takes no slot": the reading alone is stored
+    pub get-keeps : x .series ≡ false → get s w t key .words ≡ withReading w t
+    unfolding getChange
+    get-keeps h =
+        sym get-words ∙ ap (λ (z : Bool). applied w (x .at) key (bucketIn s) t (cond z (Update (recached x (a .caching) (evicting x Nothing))) Keep)) h ∙ keep-words w (x .at) key (bucketIn s) t
+
+    -- ---- get_suppression_factor
+    module _ (f : leb (slotsOf w) (placeOf w x) ≡ false) where
+      factor-words : applied w (placeOf w x) key (bucketIn s) t (factorChange x (a .caching) t) ≡ getFactor s w t key .words
+      factor-words =
+          factor-done s w t key e x p (placeOf w x) refl (leb (slotsOf w) (placeOf w x)) refl f a i b (factorChange x (a .caching) t) (applied w (placeOf w x) key (bucketIn s) t (factorChange x (a .caching) t)) refl refl .words
+
+      pub factor-stands : Bytes key → x .series ≡ true →
+          Stands kind.Suppressed s w (getFactor s w t key .words) (x .at) t (keyOf key) (x .limit) (factorAfter (a .caching) (x .factor)) (timeAfter (a .caching) (x .«factor_time»)) (useAfter (a .caching) x) (liveBy s w t x)
+      factor-stands y h =
+          let n = place-used s w t key e x p (with-series s w t key e x p h) in
+          subst (λ (v : List ℕ). Stands kind.Suppressed s w v (x .at) t (keyOf key) (x .limit) (factorAfter (a .caching) (x .factor)) (timeAfter (a .caching) (x .«factor_time»)) (useAfter (a .caching) x) (liveBy s w t x))
+          (ap (λ (j : ℕ). applied w j key (bucketIn s) t (Update (recached x (a .caching) (evicting x Nothing)))) (sym n) ∙
+          ap (applied w (placeOf w x) key (bucketIn s) t) (get-series x (a .caching) h ∙ factor-series x (a .caching) t h) ∙ factor-words)
+          (evicted-stands (a .caching) y h (caching-ok a i b))
+
+      -- "but gives a lone cached factor at age below C": the reading alone is stored
+      pub factor-keeps : x .series ≡ false → usable (cacheIn s) t x ≡ true → getFactor s w t key .words ≡ withReading w t
+      factor-keeps h u =
+          let k : a .caching ≡ Left = ap (λ (y : Asked). y .caching) (i ∙ asked-again s t x (x .limit) (eqb (x .pass .«live_total») 0) u) in
+          sym factor-words ∙
+          ap (applied w (placeOf w x) key (bucketIn s) t) (sym (factor-lone x (a .caching) t h) ∙ ap (λ (j : Caching). loneChange (x .cached) j t) k) ∙
+          keep-words w (placeOf w x) key (bucketIn s) t
+
+      -- "does take one and caches 0": a lone cached factor 0, in the slot of the one that is too old, or in the lowest free one
+      pub factor-lone-stands : Bytes key → x .series ≡ false → usable (cacheIn s) t x ≡ false →
+          Stands kind.Suppressed s w (getFactor s w t key .words) (placeOf w x) t (keyOf key) 0 0 t 2 []
+      unfolding editedView actedView startedView
+      factor-lone-stands y h u =
+          let at = placeOf w x in
+          let k : a .caching ≡ Cached (cachedAt nil t) = ap (λ (j : Asked). j .caching) (i ∙ asked-anew s t x (x .limit) (eqb (x .pass .«live_total») 0) h u) in
+          let c : loneBy (x .cached) t ≡ factorChange x (a .caching) t = sym (ap (λ (j : Caching). loneChange (x .cached) j t) k) ∙ factor-lone x (a .caching) t h in
+          let g : EditsAt w at (bucketIn s) t (loneEdit t) = either (loneEdit t) (x .cached) (factor-applies s w t key e x p at refl (leb (slotsOf w) at) refl f (a .caching) (loneBy (x .cached) t) c) in
+          let z : hasSlot x ≡ x .cached = ap (λ (j : Bool). j || x .cached) h in
+          stood s w (getFactor s w t key .words) at t (keyOf key) (loneEdit t) [] g
+          (subst (λ (v : List ℕ). Changed w v at 2 (keyOf key) (edited (ringOf w) (bucketIn s) t (bodyOf w at) (loneEdit t)) t) (ap (applied w at key (bucketIn s) t) c ∙ factor-words) (changed-by (loneEdit t) (x .cached) z g))
+          (key-fits key y (q .short)) (lone-right s w t key q x p) refl
+
+  -- ---- inc
   module _ (rate : RateLimit) (c draw : ℕ) (f : first (incLate s x (leb (slotsOf w) (placeOf w x)) (ringOf w) t rate c draw) ≡ 0) (o : Outcome) (i : o ≡ incOutcome s t rate c draw x (eqb (x .pass .«live_total») 0)) (b : o .blind ≡ false) where
     -- the decision's factor, and what is cached
     pub decision-ok : DecisionOk (o .decision) × CachingOk t (o .caching)
@@ -79,13 +207,54 @@ module _ (s : Settings) (w : List ℕ) (t : ℕ) (key : List ℕ) (e : early kin
         subst (λ (y : Outcome). DecisionOk (y .decision) × CachingOk t (y .caching)) (sym i)
         (outcome-ok s (q .settings) t x (sums s w t key q x p) (λ y. cached-there s w t key q x p y .word) (limitFor s x rate) (forecast x c) c draw (sym (ap (λ (y : Outcome). y .blind) i) ∙ b))
 
-    pub inc-leaves : x .series ≡ true → After s w (inc s w t key rate c draw .words) (x .at) t (keyAt w (x .at)) (recached x (o .caching) (evicting x (Increment c (o .declined))))
-    inc-leaves h =
-        let ch : Change = incChange x (limitFor s x rate) c (o .declined) (o .caching) in
+    rate-ok : rateOk (rate .0) ≡ true
+    rate-ok =
+        not-false (rateOk (rate .0)) (all-false (incLate s x (leb (slotsOf w) (placeOf w x)) (ringOf w) t rate c draw) (omega arith) f .0)
+
+    -- of the live buckets, or of a series that begins
+    abbrev edit : Bool → Edit
+    edit z = recached x (o .caching) (cond z (evicting x (Increment c (o .declined))) (opening (limitFor s x rate) (Increment c (o .declined)) (x .factor) (x .«factor_time») (x .used)))
+
+    inc-words : applied w (placeOf w x) key (bucketIn s) t (incChange x (limitFor s x rate) c (o .declined) (o .caching)) ≡ inc s w t key rate c draw .words
+    inc-words =
+        inc-done s w t key e x p (placeOf w x) refl (leb (slotsOf w) (placeOf w x)) refl rate c draw (ringOf w) (first (incLate s x (leb (slotsOf w) (placeOf w x)) (ringOf w) t rate c draw)) refl refl f o
+        (limitFor s x rate) (forecast x c) refl refl i b (incChange x (limitFor s x rate) c (o .declined) (o .caching))
+        (applied w (placeOf w x) key (bucketIn s) t (incChange x (limitFor s x rate) c (o .declined) (o .caching))) refl refl .words
+
+    inc-edits : EditsAt w (placeOf w x) (bucketIn s) t (edit (x .series))
+    unfolding incChange incEdit
+    inc-edits =
+        either (edit (x .series)) (hasSlot x)
+        (inc-applies s w t key e x p (placeOf w x) refl (leb (slotsOf w) (placeOf w x)) refl rate c draw (ringOf w) (first (incLate s x (leb (slotsOf w) (placeOf w x)) (ringOf w) t rate c draw)) refl refl f o
+        (limitFor s x rate) (forecast x c) refl refl i (incChange x (limitFor s x rate) c (o .declined) (o .caching)) refl)
+
+    inc-changed :
+        Changed w (applied w (placeOf w x) key (bucketIn s) t (incChange x (limitFor s x rate) c (o .declined) (o .caching))) (placeOf w x) (useAfter (o .caching) x) (keyOf key)
+        (edited (ringOf w) (bucketIn s) t (bodyOf w (placeOf w x)) (edit (x .series))) t
+    unfolding incChange incEdit recached
+    inc-changed = changed-by (edit (x .series)) (hasSlot x) refl inc-edits
+
+    -- the count goes to the live buckets, or to a series that begins: in the slot of a lone cached factor, or in the lowest free one
+    by-series : (z : Bool) → x .series ≡ z → (v : List ℕ) → Bytes key → EditsAt w (placeOf w x) (bucketIn s) t (edit z) →
+        Changed w v (placeOf w x) (useAfter (o .caching) x) (keyOf key) (edited (ringOf w) (bucketIn s) t (bodyOf w (placeOf w x)) (edit z)) t →
+        Stands kind.Suppressed s w v (placeOf w x) t (keyOf key) (limitFor s x rate) (factorAfter (o .caching) (x .factor)) (timeAfter (o .caching) (x .«factor_time»)) (useAfter (o .caching) x)
+        (joined (bucketIn s) t c (o .declined) (liveBy s w t x))
+    unfolding recached editedView actedView startedView limitFor
+    by-series true h v y g d =
+        let at = placeOf w x in
         let n = place-used s w t key e x p (with-series s w t key e x p h) in
-        let g : EditsAt w (x .at) (bucketIn s) t (recached x (o .caching) (evicting x (Increment c (o .declined)))) = inc-edit s w t key e x p (placeOf w x) refl (leb (slotsOf w) (placeOf w x)) refl rate c draw (ringOf w) (first (incLate s x (leb (slotsOf w) (placeOf w x)) (ringOf w) t rate c draw)) refl refl f o (limitFor s x rate) (forecast x c) refl refl i h in
-        let v = inc-done s w t key e x p (placeOf w x) refl (leb (slotsOf w) (placeOf w x)) refl rate c draw (ringOf w) (first (incLate s x (leb (slotsOf w) (placeOf w x)) (ringOf w) t rate c draw)) refl refl f o (limitFor s x rate) (forecast x c) refl refl i b ch (applied w (placeOf w x) key (bucketIn s) t ch) refl refl .words in
-        subst (λ (y : List ℕ). After s w y (x .at) t (keyAt w (x .at)) (recached x (o .caching) (evicting x (Increment c (o .declined)))))
-        (ap (λ (y : ℕ). applied w y key (bucketIn s) t (Update (recached x (o .caching) (evicting x (Increment c (o .declined)))))) (sym n) ∙
-        ap (applied w (placeOf w x) key (bucketIn s) t) (sym (inc-series x (limitFor s x rate) c (o .declined) (o .caching) h)) ∙ v)
-        (evicted-after s w t key q x p (Increment c (o .declined)) (o .caching) h (decision-ok .1) g)
+        subst (λ (l : ℕ). Stands kind.Suppressed s w v at t (keyOf key) l (factorAfter (o .caching) (x .factor)) (timeAfter (o .caching) (x .«factor_time»)) (useAfter (o .caching) x) (joined (bucketIn s) t c (o .declined) (liveBy s w t x)))
+        (sym (ap (λ (z : Bool). cond z (x .limit) (hardWord (rate .0) (factorIn s) (windowIn s))) h))
+        (stood s w v at t (keyOf key) (edit true) (joined (bucketIn s) t c (o .declined) (liveBy s w t x)) g d (key-fits key y (q .short))
+        (inc-right s w t key q x p rate c (o .declined) (o .caching) (decision-ok .1) rate-ok true h)
+        (ap (λ (j : ℕ). joined (bucketIn s) t c (o .declined) (drop (x .pass .expired) (buckets (ringOf w) (bodyOf w j)))) n ∙ ap (joined (bucketIn s) t c (o .declined)) (live-known s w t key q x p h)))
+    by-series false h v y g d =
+        stood s w v (placeOf w x) t (keyOf key) (edit false) (joined (bucketIn s) t c (o .declined) (liveBy s w t x)) g d (key-fits key y (q .short))
+        (inc-right s w t key q x p rate c (o .declined) (o .caching) (decision-ok .1) rate-ok false h) (ap (joined (bucketIn s) t c (o .declined)) (live-unknown s w t key q x p h))
+
+    pub inc-stands : Bytes key →
+        Stands kind.Suppressed s w (inc s w t key rate c draw .words) (placeOf w x) t (keyOf key) (limitFor s x rate) (factorAfter (o .caching) (x .factor)) (timeAfter (o .caching) (x .«factor_time»)) (useAfter (o .caching) x)
+        (joined (bucketIn s) t c (o .declined) (liveBy s w t x))
+    inc-stands y =
+        subst (λ (v : List ℕ). Stands kind.Suppressed s w v (placeOf w x) t (keyOf key) (limitFor s x rate) (factorAfter (o .caching) (x .factor)) (timeAfter (o .caching) (x .«factor_time»)) (useAfter (o .caching) x) (joined (bucketIn s) t c (o .declined) (liveBy s w t x)))
+        inc-words (by-series (x .series) refl (applied w (placeOf w x) key (bucketIn s) t (incChange x (limitFor s x rate) c (o .declined) (o .caching))) y inc-edits inc-changed)
