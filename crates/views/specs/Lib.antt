@@ -4,3 +4,4 @@ pub mod Unit
 pub mod Suppressed
 pub mod OnBuckets
 pub mod Leaves
+pub mod Follows
