@@ -1,0 +1,122 @@
+-- Document 01's boundary values, its lines marked P, in a single table. Every line is computed by the checker from the definitions that the contracts
+-- name; a line that speaks of calls is computed by the calls, one after the other, on the words of an empty room (`Cases.antt`).
+-- Assumes nothing.
+use mathlib.Core.Path.{_≡_, refl}
+use mathlib.Core.Bool.{Bool, true, false}
+use mathlib.Core.List.{List, [], _∷_}
+use Prim.Native.Nat.{ℕ, _^_, _+_}
+use lib.Ieee as Ieee
+use Rattle.base.specs.Seek as Seek
+use Rattle.base.specs.Splice as Splice
+use Rattle.base.specs.Tab as Tab
+use Rattle.common.specs.Factor as Factor
+use Rattle.common.specs.Limits as Limits
+use Rattle.common.specs.Ranges as Ranges
+use Rattle.common.specs.Ranges.{nil, one}
+use Rattle.common.specs.Refusals as Refusals
+use Rattle.common.specs.Settings as Settings
+use Rattle.common.specs.Settings.{defaults}
+use Rattle.common.specs.Share as Share
+use Rattle.common.specs.declared.answers.FactorAnswer.the-variants as factor
+use Rattle.common.specs.declared.answers.RateLimitDecision.the-variants.{Allowed, Rejected, Suppressed, Refused}
+use Rattle.common.specs.declared.answers.TotalAnswer.the-variants as total
+use Rattle.ring.specs.Order as Order
+use Rattle.ring.specs.Ring as Ring
+use Rattle.ring.specs.Ring.{bucket}
+use Rattle.ring.specs.Sound as RingSound
+use Rattle.history.specs.Rules as Rules
+use Rattle.history.specs.Sweep as Sweep
+use Rattle.history.specs.Words as HistoryWords
+use Rattle.room.specs.Room as Room
+use Rattle.room.specs.Room.{useOf}
+use Rattle.judge.specs.Judge as Judge
+use Rattle.judge.specs.Slot as Slot
+use Rattle.judge.specs.Sound as Sound
+use Rattle.judge.specs.Verdict as Verdicts
+use Rattle.change.specs.Words as Words
+use Rattle.calls.specs.Set as Sets
+use Rattle.cleanup.specs.Cleanup as Cleanup
+use Rattle.cleanup.specs.Every as Every
+use Rattle.absolute.specs.Calls as Absolute
+use Rattle.absolute.specs.Rules as AbsoluteRules
+use Rattle.suppressed.specs.Calls as SuppressedCalls
+use Rattle.suppressed.specs.Edits as Edits
+use Rattle.suppressed.specs.Factor as FactorRules
+use Rattle.suppressed.specs.Forecast as Forecast
+use Rattle.suppressed.specs.Refusals as SuppressedRefusals
+use Rattle.readout.specs.ReadOut as ReadOut
+use Rattle.readout.specs.ReadOut.{bucketsOf}
+use Rattle.promises.specs.Cases.{half, key, room, ainc, aget, ten, sinc, factorAt, eightAndTwo, twenty, clean, sevenFive, preserve, twentieth}
+
+pub record Boundary : Type 0 where
+  -- "age 10,000 live; 10,001 expired"
+  pub live-10000 : aget 10000 ten .answer ≡ total.Total 10
+  pub expired-10001 : aget 10001 ten .answer ≡ total.Total 0
+  -- "age 100 joins; 101 adds"
+  pub joins-100 : bucketsOf (ainc 100 2 (ainc 0 3 room .words) .words) key ≡ bucket 5 0 0 ∷ []
+  pub adds-101 : bucketsOf (ainc 101 2 (ainc 0 3 room .words) .words) key ≡ bucket 3 0 0 ∷ bucket 2 0 101 ∷ []
+  -- "cached age 99 used; 100 worked out afresh": 0.5 is cached at 2450, a fresh one is 0
+  pub cached-2450 : factorAt 2450 eightAndTwo .answer ≡ factor.Factor half
+  pub used-99 : factorAt 2549 (factorAt 2450 eightAndTwo .words) .answer ≡ factor.Factor half
+  pub afresh-100 : factorAt 2550 (factorAt 2450 eightAndTwo .words) .answer ≡ factor.Factor nil
+  -- "age 1,000 in the last second; 1,001 not": of the 2 at 1500
+  pub second-1000 : factorAt 2500 eightAndTwo .answer ≡ factor.Factor half
+  pub second-1001 : factorAt 2501 eightAndTwo .answer ≡ factor.Factor nil
+  -- "H = 20, S = 10: forecast 20 Allowed, 21 not admitted, 19 asks the factor", which is 0 for a new key
+  pub forecast-20 : sinc 0 20 0 room .answer ≡ Allowed
+  pub forecast-21 : sinc 0 21 0 room .answer ≡ Suppressed one false
+  pub forecast-19 : sinc 0 19 0 room .answer ≡ Suppressed nil true
+  -- "7 counted, 5 declined, 4 taken: 3 and 2 stay"
+  pub seven-five : bucketsOf sevenFive key ≡ bucket 7 5 0 ∷ []
+  pub three-two : bucketsOf (preserve 3 sevenFive .words) key ≡ bucket 3 2 0 ∷ []
+  -- "absolute limit 10, total 9, count 100: Allowed, total 109"
+  pub nine-allowed : ainc 1 100 (ainc 0 9 room .words) .answer ≡ Allowed
+  pub nine-total : aget 1 (ainc 1 100 (ainc 0 9 room .words) .words) .answer ≡ total.Total 109
+  -- "absolute limit 10, 10 at reading 0: at 50 Rejected 9950, 10; at 10,000 Rejected 0, 10; at 10,001 Allowed"
+  pub rejected-50 : ainc 50 1 ten .answer ≡ Rejected (record { 0 = 10 }) 9950 10
+  pub rejected-10000 : ainc 10000 1 ten .answer ≡ Rejected (record { 0 = 10 }) 0 10
+  pub allowed-10001 : ainc 10001 1 ten .answer ≡ Allowed
+  -- "rate 0.05, F = 4: counts 0 then 1 at readings 0 and 1 give Allowed, then 13"
+  pub nothing-allowed : twentieth 0 0 room .answer ≡ Allowed
+  pub nothing-13 : twentieth 1 1 (twentieth 0 0 room .words) .answer ≡ Refused 13
+  -- "factor 0.5: draw 4503599627370495 admits, 4503599627370496 does not"
+  pub draw-admits : sinc 1700 5 4503599627370495 eightAndTwo .answer ≡ Suppressed half true
+  pub draw-declines : sinc 1700 5 4503599627370496 eightAndTwo .answer ≡ Suppressed half false
+  -- "total 2^53 taken; 2^53 + 1 gives 10"
+  pub most-taken : aget 1 (ainc 1 (2 ^ 53) (ainc 0 0 room .words) .words) .answer ≡ total.Total (2 ^ 53)
+  pub most-passed : ainc 1 (2 ^ 53 + 1) (ainc 0 0 room .words) .answer ≡ Refused 10
+  -- "cleanup 500: newest bucket and cached factor both aged 500: series stays, factor goes": the slot's use, 3 for both and 1 for a series
+  pub both-before : useOf twenty 0 ≡ 3
+  pub series-after : useOf (clean 500 500 twenty .words) 0 ≡ 1
+
+pub boundary : Boundary
+unfolding Seek.seek Splice.splice Tab.tab Factor.freshFactor Factor.perceivesNothing Factor.factorWordOk Factor.admitted Limits.absoluteWord Limits.hardWord Limits.cutWord Limits.softWord Limits.limitOk Ranges.rateOk Ranges.factorOk Refusals.first Settings.faults Share.mulDiv Order.fine Ring.sumOf Ring.wrap Ring.bucketAt Ring.buckets Ring.shaped Ring.pushed Ring.rewritten Ring.without RingSound.soundBuckets Rules.over Rules.within Rules.ahead Rules.joins Rules.partial Sweep.passOf HistoryWords.incremented HistoryWords.wholes HistoryWords.partWords HistoryWords.shrunkWords HistoryWords.preservedWords Room.fits Room.empty Room.keyOf Room.sameKey Room.within Room.keyFits Room.keyAt Room.free Room.has Room.bodyFrom Room.entered Room.withUse Room.withReading Judge.misfits Slot.opened Slot.slotOf Sound.rightUse Sound.soundSeries Sound.soundCached Sound.soundSlot Sound.addressed Sound.soundAt Verdicts.judge Words.begun Words.started Words.acted Words.fixed Words.edited Words.withEdit Words.updated Words.taken Words.carried Words.applied Sets.already Sets.idle Sets.outcome Sets.stored Sets.setting Sets.placeIn Sets.full Sets.setOwn Every.every Cleanup.seriesStays Cleanup.factorStays Cleanup.useAfter Cleanup.swept Cleanup.cleaned Cleanup.slotPasses Cleanup.misfits Cleanup.cleanup Absolute.get Absolute.inc AbsoluteRules.below AbsoluteRules.evicts AbsoluteRules.allowed AbsoluteRules.rejected AbsoluteRules.decided AbsoluteRules.over AbsoluteRules.joinsAfter AbsoluteRules.full AbsoluteRules.clears AbsoluteRules.place AbsoluteRules.lacks AbsoluteRules.incRefusals AbsoluteRules.getChange AbsoluteRules.incChange SuppressedCalls.factorOn SuppressedCalls.getFactor SuppressedCalls.limitFor SuppressedCalls.incOn SuppressedCalls.inc Edits.recached Edits.getChange Edits.factorChange Edits.incEdit Edits.incChange FactorRules.stays FactorRules.usable FactorRules.ruleOf FactorRules.worked FactorRules.asked Forecast.reachOf Forecast.drawn Forecast.outcome SuppressedRefusals.placeOf SuppressedRefusals.joinsLeft SuppressedRefusals.crowded ReadOut.bucketsOf Ieee.le Ieee.lt Ieee.eq Ieee.mul Ieee.div Ieee.sub Ieee.add Ieee.ofInt Ieee.ofBits Ieee.ofFields Ieee.toBits Ieee.toUnsigned Ieee.fits
+boundary = record {
+  live-10000 = refl;
+  expired-10001 = refl;
+  joins-100 = refl;
+  adds-101 = refl;
+  cached-2450 = refl;
+  used-99 = refl;
+  afresh-100 = refl;
+  second-1000 = refl;
+  second-1001 = refl;
+  forecast-20 = refl;
+  forecast-21 = refl;
+  forecast-19 = refl;
+  seven-five = refl;
+  three-two = refl;
+  nine-allowed = refl;
+  nine-total = refl;
+  rejected-50 = refl;
+  rejected-10000 = refl;
+  allowed-10001 = refl;
+  nothing-allowed = refl;
+  nothing-13 = refl;
+  draw-admits = refl;
+  draw-declines = refl;
+  most-taken = refl;
+  most-passed = refl;
+  both-before = refl;
+  series-after = refl;
+}

@@ -1,0 +1,99 @@
+-- Small rooms and short calls on them, for promises that are told by an example: one slot with a ring of three, W = 10, b = C = 100.
+-- Assumes nothing.
+use mathlib.Core.Bool.{false}
+use mathlib.Core.List.{List, [], _∷_}
+use Prim.Native.Nat.{ℕ}
+use lib.IntN.{pos, negsuc}
+use lib.Ieee.{Float, fin, binary64, div, ofInt}
+use Rattle.common.specs.Ranges.{one}
+use Rattle.common.specs.Settings.{defaults, withFactor}
+use Rattle.common.specs.declared.answers.DoneAnswer.{DoneAnswer}
+use Rattle.common.specs.declared.answers.FactorAnswer.{FactorAnswer}
+use Rattle.common.specs.declared.answers.RateLimitDecision.{RateLimitDecision}
+use Rattle.common.specs.declared.answers.SetAnswer.{SetAnswer}
+use Rattle.common.specs.declared.answers.TotalAnswer.{TotalAnswer}
+use Rattle.common.specs.declared.comparator.RateLimitComparator.the-variants as comparator
+use Rattle.common.specs.declared.history_mode.HistoryPreservation.the-variants.{PreserveNewest}
+use Rattle.common.specs.declared.history_mode.HistoryUpdateMode.the-variants as mode
+use Rattle.common.specs.declared.settings.Settings.{Settings}
+use Rattle.common.specs.declared.units.RateLimit.{RateLimit}
+use Rattle.room.specs.Room.{empty}
+use Rattle.judge.specs.declared.RoomKind.the-variants as kind
+use Rattle.judge.specs.Verdict.{Verdict}
+use Rattle.calls.specs.Set as Sets
+use Rattle.cleanup.specs.Cleanup as Cleanup
+use Rattle.absolute.specs.Calls as Absolute
+use Rattle.suppressed.specs.Calls as Suppressed
+
+-- ---- settings, rates, the room and the key
+
+-- a quotient of two whole numbers, as a double
+abbrev pub whole : ℕ → Float
+whole n = ofInt binary64 (pos n)
+
+abbrev pub ratio : ℕ → ℕ → Float
+ratio m n = div binary64 (whole m) (whole n)
+
+abbrev pub half : Float
+half = fin false 1 (negsuc 0)
+
+-- the defaults, W = 10 and b = C = 100, with hard limit factor n
+abbrev pub hardBy : ℕ → Settings
+hardBy n = withFactor defaults (whole n)
+
+abbrev pub perSecond : Float → RateLimit
+perSecond x = record { 0 = x }
+
+abbrev pub room : List ℕ
+room = empty 1 3
+
+abbrev pub key : List ℕ
+key = 97 ∷ []
+
+-- ---- the absolute limiter at rate 1: the limit is 10
+
+abbrev pub ainc : ℕ → ℕ → List ℕ → Verdict RateLimitDecision
+ainc t count w = Absolute.inc defaults w t key (perSecond one) count
+
+abbrev pub aget : ℕ → List ℕ → Verdict TotalAnswer
+aget t w = Absolute.get defaults w t key
+
+-- 10 at reading 0
+abbrev pub ten : List ℕ
+ten = ainc 0 10 room .words
+
+-- ---- the suppressed limiter at rate 1 and F = 2: H = 20, S = 10
+
+abbrev pub sinc : ℕ → ℕ → ℕ → List ℕ → Verdict RateLimitDecision
+sinc t count draw w = Suppressed.inc (hardBy 2) w t key (perSecond one) count draw
+
+abbrev pub factorAt : ℕ → List ℕ → Verdict FactorAnswer
+factorAt t w = Suppressed.getFactor (hardBy 2) w t key
+
+-- 8 at reading 0 and 2 at 1500: while the 2 are in the last second the fresh factor is 0.5, and later 0
+abbrev pub eightAndTwo : List ℕ
+eightAndTwo = sinc 1500 2 0 (sinc 0 8 0 room .words) .words
+
+-- 20 at reading 0: equal to H, so that factor 1 is cached at 0
+abbrev pub twenty : List ℕ
+twenty = sinc 0 20 0 room .words
+
+abbrev pub clean : ℕ → ℕ → List ℕ → Verdict DoneAnswer
+clean t stale w = Cleanup.cleanup kind.Suppressed (hardBy 2) w t stale
+
+-- ---- the suppressed limiter at rate 1/4 and F = 1: H = S = 2, so that 2 are admitted and 5 more declined
+
+abbrev pub quarter : ℕ → List ℕ → Verdict RateLimitDecision
+quarter count w = Suppressed.inc defaults w 0 key (perSecond (ratio 1 4)) count 0
+
+abbrev pub sevenFive : List ℕ
+sevenFive = quarter 5 (quarter 2 room .words) .words
+
+-- a set that makes the total n and preserves the newest
+abbrev pub preserve : ℕ → List ℕ → Verdict SetAnswer
+preserve n w = Sets.set kind.Suppressed defaults w 0 key (perSecond (ratio 1 4)) comparator.Always n (mode.Preserve PreserveNewest)
+
+-- ---- the suppressed limiter at rate 1/20 and F = 4: H = 2, S = 0
+
+abbrev pub twentieth : ℕ → ℕ → List ℕ → Verdict RateLimitDecision
+twentieth t count w = Suppressed.inc (hardBy 4) w t key (perSecond (ratio 1 20)) count 0
