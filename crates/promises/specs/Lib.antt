@@ -1,2 +1,4 @@
+pub mod Lowest
+pub mod Refusals
 pub mod Cases
 pub mod Boundary
