@@ -1,4 +1,5 @@
 pub mod Lowest
 pub mod Refusals
+pub mod Determined
 pub mod Cases
 pub mod Boundary

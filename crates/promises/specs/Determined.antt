@@ -1,0 +1,121 @@
+-- Each public contract leaves one result: whatever two results it allows, answers and everything lent, are equal. Demand 1 says what a refusal is, and
+-- this that there is nothing else a caller could be told, refusals included.
+-- Assumes nothing.
+use mathlib.Core.Path.{_≡_, refl, sym, _∙_}
+use mathlib.Core.Bool.{Bool, true, false}
+use mathlib.Core.List.{List}
+use Prim.Native.Nat.{ℕ}
+use lib.Ieee.{Float}
+use Rattle.base.specs.Decides.{Decides}
+use Rattle.common.specs.Limits.{rateBack}
+use Rattle.common.specs.declared.answers.DeleteAnswer.{DeleteAnswer}
+use Rattle.common.specs.declared.answers.DoneAnswer.{DoneAnswer}
+use Rattle.common.specs.declared.answers.FactorAnswer.{FactorAnswer}
+use Rattle.common.specs.declared.answers.OldRateAnswer.{OldRateAnswer}
+use Rattle.common.specs.declared.answers.RateLimitDecision.{RateLimitDecision}
+use Rattle.common.specs.declared.answers.SetAnswer.{SetAnswer}
+use Rattle.common.specs.declared.answers.SnapshotAnswer.{SnapshotAnswer}
+use Rattle.common.specs.declared.answers.TotalAnswer.{TotalAnswer}
+use Rattle.common.specs.declared.comparator.RateLimitComparator.{RateLimitComparator}
+use Rattle.common.specs.declared.history_mode.HistoryUpdateMode.{HistoryUpdateMode}
+use Rattle.common.specs.declared.settings.Settings.{Settings}
+use Rattle.common.specs.declared.units.RateLimit.{RateLimit}
+use Rattle.ring.specs.declared.Bucket.{Bucket}
+use Rattle.ring.specs.Ring.{Shape}
+use Rattle.room.specs.Room.{Room, Made, Starts}
+use Rattle.judge.specs.declared.RoomKind.{RoomKind}
+use Rattle.judge.specs.Verdict.{Verdict, Told}
+use Rattle.calls.specs.Clear as Clear
+use Rattle.calls.specs.Delete as Delete
+use Rattle.calls.specs.Rate as Rate
+use Rattle.calls.specs.Set as Set
+use Rattle.cleanup.specs.Cleanup as Cleanup
+use Rattle.absolute.specs.Calls as Absolute
+use Rattle.suppressed.specs.Calls as Suppressed
+use Rattle.provider.specs.Provider as Provider
+use Rattle.readout.specs.ReadOut as ReadOut
+use Rattle.answers.specs.Printing.{Printed}
+use Rattle.answers.specs.declared.AnswerLine.{AnswerLine}
+
+-- what a contract C allows is one result
+abbrev pub Once : {R : Type 0} → (R → Type 0) → Type 0
+Once {R} C = (x y : R) → C x → C y → x ≡ y
+
+-- a call on one room allows one answer with one room
+abbrev pub TellsOne : {A : Type 0} → Verdict A → Type 0
+TellsOne {A} v = Once {R = Verdict A} (λ x. Told v (x .answer) (x .words))
+
+-- ---- by the form of the contract
+
+-- `Told v r exit`
+pub told-one : {A : Type 0} (v : Verdict A) → TellsOne v
+told-one v x y p q = λ i. record { answer = (p .answer ∙ sym (q .answer)) i; words = (p .words ∙ sym (q .words)) i }
+
+-- `r ≡ v`, and `exit ≡ v`
+pub same-one : {A : Type 0} (v : A) → Once {R = A} (λ r. r ≡ v)
+same-one v x y p q = p ∙ sym q
+
+-- `Decides r P`
+pub decides-one : (P : Type 0) → Once {R = Bool} (λ r. Decides r P)
+decides-one P true true p q = refl
+decides-one P true false p q = absurd (q p)
+decides-one P false true p q = absurd (p q)
+decides-one P false false p q = refl
+
+-- ---- by function
+
+pub record Determined : Type 1 where
+  -- the absolute limiter
+  pub absolute-inc : (s : Settings) (w : List ℕ) (t : ℕ) (key : List ℕ) (rate : RateLimit) (count : ℕ) → TellsOne (Absolute.inc s w t key rate count)
+  pub absolute-is-allowed : (s : Settings) (w : List ℕ) (t : ℕ) (key : List ℕ) → TellsOne (Absolute.isAllowed s w t key)
+  pub absolute-get : (s : Settings) (w : List ℕ) (t : ℕ) (key : List ℕ) → TellsOne (Absolute.get s w t key)
+  -- the suppressed limiter
+  pub suppressed-inc : (s : Settings) (w : List ℕ) (t : ℕ) (key : List ℕ) (rate : RateLimit) (count draw : ℕ) → TellsOne (Suppressed.inc s w t key rate count draw)
+  pub suppressed-get : (s : Settings) (w : List ℕ) (t : ℕ) (key : List ℕ) → TellsOne (Suppressed.get s w t key)
+  pub suppressed-factor : (s : Settings) (w : List ℕ) (t : ℕ) (key : List ℕ) → TellsOne (Suppressed.getFactor s w t key)
+  -- the calls that both have; `set_if` has mode Replace, `set_if_preserve_history` Preserve
+  pub set-rate-limit : (kind : RoomKind) (s : Settings) (w : List ℕ) (t : ℕ) (key : List ℕ) (rate : RateLimit) → TellsOne (Rate.setRateLimit kind s w t key rate)
+  pub delete : (kind : RoomKind) (s : Settings) (w : List ℕ) (t : ℕ) (key : List ℕ) → TellsOne (Delete.delete kind s w t key)
+  pub set-if : (kind : RoomKind) (s : Settings) (w : List ℕ) (t : ℕ) (key : List ℕ) (rate : RateLimit) (comparator : RateLimitComparator) (count : ℕ) (mode : HistoryUpdateMode) → TellsOne (Set.set kind s w t key rate comparator count mode)
+  pub clear : (s : Settings) (w : List ℕ) (t : ℕ) → TellsOne (Clear.clear s w t)
+  pub cleanup : (kind : RoomKind) (s : Settings) (w : List ℕ) (t stale : ℕ) → TellsOne (Cleanup.cleanup kind s w t stale)
+  -- both rooms
+  pub provider-cleanup : (s : Settings) (a b : List ℕ) (t stale : ℕ) → Once {R = Provider.Verdict} (λ x. Provider.Told (Provider.cleanup s a b t stale) (x .answer) (x .absolute) (x .suppressed))
+  -- the row
+  pub read-out : (kind : RoomKind) (s : Settings) (w key : List ℕ) (row : List Bucket) → Once {R = ReadOut.Filled} (λ x. ReadOut.Shown (ReadOut.readOut kind s w key row) (x .answer) (x .row))
+  -- making a room: yes or no, and the words
+  pub make : (slots ring : ℕ) (w : List ℕ) → Once {R = Bool × List ℕ} (λ x. Made slots ring w (x .0) (x .1))
+  -- printing an answer: how long, and the bytes
+  pub print : (line : AnswerLine) (out : List ℕ) → Once {R = ℕ × List ℕ} (λ x. Printed line out (x .1) (x .0))
+  -- whether words are a room's, and a body a ring's; where a body starts
+  pub sized : (w : List ℕ) → Once {R = Bool} (λ x. Decides x (Room w))
+  pub fit : (r : ℕ) (b : List ℕ) → Once {R = Bool} (λ x. Decides x (Shape r b))
+  pub start : (w : List ℕ) (s : ℕ) → Once {R = ℕ} (λ x. Starts w s x)
+  -- a rate that is told by its number
+  pub from-stored-window-limit : (W : ℕ) (F : Float) (limit : ℕ) → Once {R = RateLimit} (λ r. r .0 ≡ rateBack W F limit)
+  -- every other public function says `r ≡ ..`, or `exit ≡ ..` where it answers nothing
+  pub others : {A : Type 0} (v : A) → Once {R = A} (λ r. r ≡ v)
+
+pub determined : Determined
+determined = record {
+  absolute-inc = λ s w t key rate count. told-one (Absolute.inc s w t key rate count);
+  absolute-is-allowed = λ s w t key. told-one (Absolute.isAllowed s w t key);
+  absolute-get = λ s w t key. told-one (Absolute.get s w t key);
+  suppressed-inc = λ s w t key rate count draw. told-one (Suppressed.inc s w t key rate count draw);
+  suppressed-get = λ s w t key. told-one (Suppressed.get s w t key);
+  suppressed-factor = λ s w t key. told-one (Suppressed.getFactor s w t key);
+  set-rate-limit = λ kind s w t key rate. told-one (Rate.setRateLimit kind s w t key rate);
+  delete = λ kind s w t key. told-one (Delete.delete kind s w t key);
+  set-if = λ kind s w t key rate comparator count mode. told-one (Set.set kind s w t key rate comparator count mode);
+  clear = λ s w t. told-one (Clear.clear s w t);
+  cleanup = λ kind s w t stale. told-one (Cleanup.cleanup kind s w t stale);
+  provider-cleanup = λ s a b t stale x y p q i. record { answer = (p .answer ∙ sym (q .answer)) i; absolute = (p .absolute ∙ sym (q .absolute)) i; suppressed = (p .suppressed ∙ sym (q .suppressed)) i };
+  read-out = λ kind s w key row x y p q i. record { answer = (p .answer ∙ sym (q .answer)) i; row = (p .row ∙ sym (q .row)) i };
+  make = λ slots ring w x y p q i. ((p .answer ∙ sym (q .answer)) i, (p .words ∙ sym (q .words)) i);
+  print = λ line out x y p q i. ((p .long ∙ sym (q .long)) i, (p .bytes ∙ sym (q .bytes)) i);
+  sized = λ w. decides-one (Room w);
+  fit = λ r b. decides-one (Shape r b);
+  start = λ w s x y p q. p .at ∙ sym (q .at);
+  from-stored-window-limit = λ W F limit x y p q i. record { 0 = (p ∙ sym q) i };
+  others = same-one;
+}
