@@ -4,8 +4,11 @@
 use mathlib.Core.Path.{_≡_, refl}
 use mathlib.Core.Bool.{Bool, true, false}
 use mathlib.Core.List.{List, [], _∷_}
+use mathlib.Core.Logic.{_≢_}
 use Prim.Native.Nat.{ℕ, _^_, _+_}
 use lib.Ieee as Ieee
+use lib.ListN.{set}
+use borrow.Author.Tests.{ne-eqb}
 use Rattle.base.specs.Seek as Seek
 use Rattle.base.specs.Splice as Splice
 use Rattle.base.specs.Tab as Tab
@@ -14,21 +17,23 @@ use Rattle.common.specs.Limits as Limits
 use Rattle.common.specs.Ranges as Ranges
 use Rattle.common.specs.Ranges.{nil, one}
 use Rattle.common.specs.Refusals as Refusals
+use Rattle.common.specs.Refusals.{first}
 use Rattle.common.specs.Settings as Settings
-use Rattle.common.specs.Settings.{defaults}
+use Rattle.common.specs.Settings.{defaults, withWindow}
 use Rattle.common.specs.Share as Share
 use Rattle.common.specs.declared.answers.FactorAnswer.the-variants as factor
 use Rattle.common.specs.declared.answers.RateLimitDecision.the-variants.{Allowed, Rejected, Suppressed, Refused}
+use Rattle.common.specs.declared.answers.SnapshotAnswer.the-variants as snapshot
 use Rattle.common.specs.declared.answers.TotalAnswer.the-variants as total
 use Rattle.ring.specs.Order as Order
 use Rattle.ring.specs.Ring as Ring
-use Rattle.ring.specs.Ring.{bucket}
+use Rattle.ring.specs.Ring.{bucket, totalOf}
 use Rattle.ring.specs.Sound as RingSound
 use Rattle.history.specs.Rules as Rules
 use Rattle.history.specs.Sweep as Sweep
 use Rattle.history.specs.Words as HistoryWords
 use Rattle.room.specs.Room as Room
-use Rattle.room.specs.Room.{useOf}
+use Rattle.room.specs.Room.{useOf, bodyOf}
 use Rattle.judge.specs.Judge as Judge
 use Rattle.judge.specs.Slot as Slot
 use Rattle.judge.specs.Sound as Sound
@@ -46,7 +51,8 @@ use Rattle.suppressed.specs.Forecast as Forecast
 use Rattle.suppressed.specs.Refusals as SuppressedRefusals
 use Rattle.readout.specs.ReadOut as ReadOut
 use Rattle.readout.specs.ReadOut.{bucketsOf}
-use Rattle.promises.specs.Cases.{half, key, room, ainc, aget, ten, sinc, factorAt, eightAndTwo, twenty, clean, sevenFive, preserve, twentieth}
+use Rattle.promises.specs.Refusals.{suppressedInc}
+use Rattle.promises.specs.Cases.{half, hardBy, perSecond, key, room, ainc, aget, ten, sinc, factorAt, sget, eightAndTwo, single, twenty, clean, sevenFive, preserve, twentieth}
 
 pub record Boundary : Type 0 where
   -- "age 10,000 live; 10,001 expired"
@@ -89,34 +95,77 @@ pub record Boundary : Type 0 where
   pub both-before : useOf twenty 0 ≡ 3
   pub series-after : useOf (clean 500 500 twenty .words) 0 ≡ 1
 
-pub boundary : Boundary
-unfolding Seek.seek Splice.splice Tab.tab Factor.freshFactor Factor.perceivesNothing Factor.factorWordOk Factor.admitted Limits.absoluteWord Limits.hardWord Limits.cutWord Limits.softWord Limits.limitOk Ranges.rateOk Ranges.factorOk Refusals.first Settings.faults Share.mulDiv Order.fine Ring.sumOf Ring.wrap Ring.bucketAt Ring.buckets Ring.shaped Ring.pushed Ring.rewritten Ring.without RingSound.soundBuckets Rules.over Rules.within Rules.ahead Rules.joins Rules.partial Sweep.passOf HistoryWords.incremented HistoryWords.wholes HistoryWords.partWords HistoryWords.shrunkWords HistoryWords.preservedWords Room.fits Room.empty Room.keyOf Room.sameKey Room.within Room.keyFits Room.keyAt Room.free Room.has Room.bodyFrom Room.entered Room.withUse Room.withReading Judge.misfits Slot.opened Slot.slotOf Sound.rightUse Sound.soundSeries Sound.soundCached Sound.soundSlot Sound.addressed Sound.soundAt Verdicts.judge Words.begun Words.started Words.acted Words.fixed Words.edited Words.withEdit Words.updated Words.taken Words.carried Words.applied Sets.already Sets.idle Sets.outcome Sets.stored Sets.setting Sets.placeIn Sets.full Sets.setOwn Every.every Cleanup.seriesStays Cleanup.factorStays Cleanup.useAfter Cleanup.swept Cleanup.cleaned Cleanup.slotPasses Cleanup.misfits Cleanup.cleanup Absolute.get Absolute.inc AbsoluteRules.below AbsoluteRules.evicts AbsoluteRules.allowed AbsoluteRules.rejected AbsoluteRules.decided AbsoluteRules.over AbsoluteRules.joinsAfter AbsoluteRules.full AbsoluteRules.clears AbsoluteRules.place AbsoluteRules.lacks AbsoluteRules.incRefusals AbsoluteRules.getChange AbsoluteRules.incChange SuppressedCalls.factorOn SuppressedCalls.getFactor SuppressedCalls.limitFor SuppressedCalls.incOn SuppressedCalls.inc Edits.recached Edits.getChange Edits.factorChange Edits.incEdit Edits.incChange FactorRules.stays FactorRules.usable FactorRules.ruleOf FactorRules.worked FactorRules.asked Forecast.reachOf Forecast.drawn Forecast.outcome SuppressedRefusals.placeOf SuppressedRefusals.joinsLeft SuppressedRefusals.crowded ReadOut.bucketsOf Ieee.le Ieee.lt Ieee.eq Ieee.mul Ieee.div Ieee.sub Ieee.add Ieee.ofInt Ieee.ofBits Ieee.ofFields Ieee.toBits Ieee.toUnsigned Ieee.fits
-boundary = record {
-  live-10000 = refl;
-  expired-10001 = refl;
-  joins-100 = refl;
-  adds-101 = refl;
-  cached-2450 = refl;
-  used-99 = refl;
-  afresh-100 = refl;
-  second-1000 = refl;
-  second-1001 = refl;
-  forecast-20 = refl;
-  forecast-21 = refl;
-  forecast-19 = refl;
-  seven-five = refl;
-  three-two = refl;
-  nine-allowed = refl;
-  nine-total = refl;
-  rejected-50 = refl;
-  rejected-10000 = refl;
-  allowed-10001 = refl;
-  nothing-allowed = refl;
-  nothing-13 = refl;
-  draw-admits = refl;
-  draw-declines = refl;
-  most-taken = refl;
-  most-passed = refl;
-  both-before = refl;
-  series-after = refl;
+-- further cases that other promises are told by, computed beside these
+pub record Further : Type 0 where
+  -- nothing is turned away: 20 on an empty room; and 1 is the first number: a window of 0
+  pub passes : first (suppressedInc (hardBy 2) room 0 key (perSecond one) 20 0) ≡ 0
+  pub faulty : first (suppressedInc (withWindow defaults (record { 0 = 0 })) room 0 key (perSecond one) 20 0) ≡ 1
+  -- an empty room, and one with a series of one bucket
+  pub empty-use : useOf room 0 ≡ 0
+  pub empty-buckets : bucketsOf room key ≡ []
+  pub single-allowed : sinc 0 1 0 room .answer ≡ Allowed
+  pub single-buckets : bucketsOf single key ≡ bucket 1 0 0 ∷ []
+  -- 9 more are within S, and join
+  pub more-allowed : sinc 0 9 0 single .answer ≡ Allowed
+  pub more-buckets : bucketsOf (sinc 0 9 0 single .words) key ≡ bucket 10 0 0 ∷ []
+  -- the totals that `get` gives; and a total that is not the sum, which is unsound
+  pub twenty-given : sget 0 twenty .answer ≡ snapshot.Snapshot (record { total = 20; «total_declined» = 0; «suppression_factor» = one })
+  pub twenty-total : totalOf (bodyOf twenty 0) ≡ 20
+  pub made-up : (n : ℕ) → n ≢ 20 → sget 0 (set twenty 10 n) .answer ≡ snapshot.Refused 5
+
+pub record Computed : Type 0 where
+  pub table : Boundary
+  pub further : Further
+
+pub computed : Computed
+unfolding Seek.seek Splice.splice Tab.tab Factor.freshFactor Factor.perceivesNothing Factor.factorWordOk Factor.admitted Limits.absoluteWord Limits.hardWord Limits.cutWord Limits.softWord Limits.limitOk Ranges.rateOk Ranges.factorOk Refusals.first Settings.faults Share.mulDiv Order.fine Ring.sumOf Ring.wrap Ring.bucketAt Ring.buckets Ring.shaped Ring.pushed Ring.rewritten Ring.without RingSound.soundBuckets Rules.over Rules.within Rules.ahead Rules.joins Rules.partial Sweep.passOf HistoryWords.incremented HistoryWords.wholes HistoryWords.partWords HistoryWords.shrunkWords HistoryWords.preservedWords Room.fits Room.empty Room.keyOf Room.sameKey Room.within Room.keyFits Room.keyAt Room.free Room.has Room.bodyFrom Room.entered Room.withUse Room.withReading Judge.misfits Slot.opened Slot.slotOf Sound.rightUse Sound.soundSeries Sound.soundCached Sound.soundSlot Sound.addressed Sound.soundAt Verdicts.judge Words.begun Words.started Words.acted Words.fixed Words.edited Words.withEdit Words.updated Words.taken Words.carried Words.applied Sets.already Sets.idle Sets.outcome Sets.stored Sets.setting Sets.placeIn Sets.full Sets.setOwn Every.every Cleanup.seriesStays Cleanup.factorStays Cleanup.useAfter Cleanup.swept Cleanup.cleaned Cleanup.slotPasses Cleanup.misfits Cleanup.cleanup Absolute.get Absolute.inc AbsoluteRules.below AbsoluteRules.evicts AbsoluteRules.allowed AbsoluteRules.rejected AbsoluteRules.decided AbsoluteRules.over AbsoluteRules.joinsAfter AbsoluteRules.full AbsoluteRules.clears AbsoluteRules.place AbsoluteRules.lacks AbsoluteRules.incRefusals AbsoluteRules.getChange AbsoluteRules.incChange SuppressedCalls.getOn SuppressedCalls.get SuppressedCalls.factorOn SuppressedCalls.getFactor SuppressedCalls.limitFor SuppressedCalls.incOn SuppressedCalls.inc Edits.recached Edits.getChange Edits.factorChange Edits.incEdit Edits.incChange FactorRules.stays FactorRules.usable FactorRules.ruleOf FactorRules.worked FactorRules.asked Forecast.reachOf Forecast.drawn Forecast.outcome SuppressedRefusals.placeOf SuppressedRefusals.joinsLeft SuppressedRefusals.crowded ReadOut.bucketsOf Ieee.le Ieee.lt Ieee.eq Ieee.mul Ieee.div Ieee.sub Ieee.add Ieee.ofInt Ieee.ofBits Ieee.ofFields Ieee.toBits Ieee.toUnsigned Ieee.fits
+computed = record {
+  table = record {
+    live-10000 = refl;
+    expired-10001 = refl;
+    joins-100 = refl;
+    adds-101 = refl;
+    cached-2450 = refl;
+    used-99 = refl;
+    afresh-100 = refl;
+    second-1000 = refl;
+    second-1001 = refl;
+    forecast-20 = refl;
+    forecast-21 = refl;
+    forecast-19 = refl;
+    seven-five = refl;
+    three-two = refl;
+    nine-allowed = refl;
+    nine-total = refl;
+    rejected-50 = refl;
+    rejected-10000 = refl;
+    allowed-10001 = refl;
+    nothing-allowed = refl;
+    nothing-13 = refl;
+    draw-admits = refl;
+    draw-declines = refl;
+    most-taken = refl;
+    most-passed = refl;
+    both-before = refl;
+    series-after = refl;
+  };
+  further = record {
+    passes = refl;
+    faulty = refl;
+    empty-use = refl;
+    empty-buckets = refl;
+    single-allowed = refl;
+    single-buckets = refl;
+    more-allowed = refl;
+    more-buckets = refl;
+    twenty-given = refl;
+    twenty-total = refl;
+    made-up = λ n h. rw (ne-eqb n 20 h);
+  };
 }
+
+pub boundary : Boundary
+boundary = computed .table
+
+pub further : Further
+further = computed .further

@@ -11,6 +11,7 @@ use Rattle.common.specs.declared.answers.DoneAnswer.{DoneAnswer}
 use Rattle.common.specs.declared.answers.FactorAnswer.{FactorAnswer}
 use Rattle.common.specs.declared.answers.RateLimitDecision.{RateLimitDecision}
 use Rattle.common.specs.declared.answers.SetAnswer.{SetAnswer}
+use Rattle.common.specs.declared.answers.SnapshotAnswer.{SnapshotAnswer}
 use Rattle.common.specs.declared.answers.TotalAnswer.{TotalAnswer}
 use Rattle.common.specs.declared.comparator.RateLimitComparator.the-variants as comparator
 use Rattle.common.specs.declared.history_mode.HistoryPreservation.the-variants.{PreserveNewest}
@@ -70,9 +71,16 @@ sinc t count draw w = Suppressed.inc (hardBy 2) w t key (perSecond one) count dr
 abbrev pub factorAt : ℕ → List ℕ → Verdict FactorAnswer
 factorAt t w = Suppressed.getFactor (hardBy 2) w t key
 
+abbrev pub sget : ℕ → List ℕ → Verdict SnapshotAnswer
+sget t w = Suppressed.get (hardBy 2) w t key
+
 -- 8 at reading 0 and 2 at 1500: while the 2 are in the last second the fresh factor is 0.5, and later 0
 abbrev pub eightAndTwo : List ℕ
 eightAndTwo = sinc 1500 2 0 (sinc 0 8 0 room .words) .words
+
+-- 1 at reading 0, and then 9 more
+abbrev pub single : List ℕ
+single = sinc 0 1 0 room .words
 
 -- 20 at reading 0: equal to H, so that factor 1 is cached at 0
 abbrev pub twenty : List ℕ

@@ -3,3 +3,4 @@ pub mod Refusals
 pub mod Determined
 pub mod Cases
 pub mod Boundary
+pub mod Wrong

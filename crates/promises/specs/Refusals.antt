@@ -197,13 +197,18 @@ read-turned kind s w key cells =
 
 -- ---- the proof
 
+-- the numbers of a table rise
+pub rises : (s : Settings) (w : List ℕ) (t : ℕ) (key : List ℕ) (rate : RateLimit) (count draw : ℕ) → Rises 0 (suppressedInc s w t key rate count draw)
+unfolding faults misfits
+rises s w t key rate count draw = omega arith
+
 pub demand1 : Demand1
 unfolding faults misfits Clear.unclear Cleanup.misfits Cleanup.cleanup Rate.rateOwn Set.setOwn AbsoluteRules.incRefusals Absolute.inc Absolute.isAllowed Absolute.get Suppressed.inc Suppressed.incOn Suppressed.get Suppressed.getOn Suppressed.getFactor Suppressed.factorOn decisionRow totalRow snapshotRow factorRow oldRateRow deleteRow setRow doneRow
 demand1 = record {
   absolute-inc = λ s w t key rate count. judge-turned decisionRow decision.Refused (absoluteInc s w t key rate count) w _ (λ n. refl) (omega arith) (decided-0 (s .«window_size») t (Absolute.slotIn s w t key));
   absolute-is-allowed = λ s w t key. judge-turned decisionRow decision.Refused (plain kind.Absolute s w t key) w _ (λ n. refl) (omega arith) (decided-0 (s .«window_size») t (Absolute.slotIn s w t key));
   absolute-get = λ s w t key. judge-turned totalRow total.Refused (plain kind.Absolute s w t key) w _ (λ n. refl) (omega arith) refl;
-  suppressed-inc = λ s w t key rate count draw. judge-turned decisionRow decision.Refused (suppressedInc s w t key rate count draw) w _ (λ n. refl) (omega arith) (outcome-0 s t rate count draw (Suppressed.slotIn s w t key));
+  suppressed-inc = λ s w t key rate count draw. judge-turned decisionRow decision.Refused (suppressedInc s w t key rate count draw) w _ (λ n. refl) (rises s w t key rate count draw) (outcome-0 s t rate count draw (Suppressed.slotIn s w t key));
   suppressed-get = λ s w t key. judge-turned snapshotRow snapshot.Refused (suppressedGet s w t key) w _ (λ n. refl) (omega arith) refl;
   suppressed-factor = λ s w t key. judge-turned factorRow factor.Refused (suppressedFactor s w t key) w _ (λ n. refl) (omega arith) refl;
   set-rate-limit = λ kind s w t key rate. judge-turned oldRateRow oldRate.Refused (setRate kind s w t key rate) w _ (λ n. refl) (omega arith) (old-0 kind s (slotIn s w t key));

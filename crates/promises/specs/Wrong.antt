@@ -1,0 +1,170 @@
+-- What wrong limiters break. A limiter is here any function with the inputs and results of a call; each theorem says which promise one of a wrong kind cannot
+-- keep, by a case that the definitions decide (`Boundary.antt`). The cases are the suppressed limiter's at H = 20, S = 10.
+-- Assumes nothing.
+use mathlib.Core.Path.{_≡_, refl, sym, ap, ap₂, subst, _∙_}
+use mathlib.Core.Bool.{Bool, true, false, _&&_, _||_, cond}
+use mathlib.Core.List.{List, [], _∷_}
+use mathlib.Core.Logic.{_≢_}
+use Prim.Native.Nat.{ℕ, _+_, _≤_}
+use native.Mathlib.Omega.{arith}
+use lib.Dec.{eqb}
+use lib.ListN.{length, getD, set}
+use Rattle.common.specs.Answers.{refusedRow, decisionRow, snapshotRow}
+use Rattle.common.specs.Ranges.{one}
+use Rattle.common.specs.Refusals.{first}
+use Rattle.common.specs.Settings.{defaults, withWindow}
+use Rattle.common.specs.declared.answers.RateLimitDecision.{RateLimitDecision}
+use Rattle.common.specs.declared.answers.RateLimitDecision.the-variants.{Allowed, Suppressed}
+use Rattle.common.specs.declared.answers.SnapshotAnswer.{SnapshotAnswer}
+use Rattle.common.specs.declared.answers.SnapshotAnswer.the-variants as snapshot
+use Rattle.common.specs.declared.settings.Settings.{Settings}
+use Rattle.common.specs.declared.units.RateLimit.{RateLimit}
+use Rattle.ring.specs.declared.Bucket.{Bucket}
+use Rattle.ring.specs.Ring.{sumOf, counts}
+use Rattle.room.specs.Room.{useOf}
+use Rattle.judge.specs.Verdict.{Verdict, Told}
+use Rattle.suppressed.specs.Calls as Own
+use Rattle.readout.specs.ReadOut.{bucketsOf}
+use Rattle.promises.specs.Lowest.{Lowest, TurnedBy, numberOf, lowest-first, lowest-positive, first-lowest}
+use Rattle.promises.specs.Refusals.{suppressedInc, rises}
+use Rattle.promises.specs.Cases.{hardBy, perSecond, key, room, sinc, sget, single, twenty}
+use Rattle.promises.specs.Boundary.{boundary, further}
+
+-- ---- limiters, and what they are to keep
+
+-- an increment: what it answers and what it leaves, by settings, words, reading, key, rate, count and draw
+abbrev pub Inc : Type 0
+Inc = Settings → List ℕ → ℕ → List ℕ → RateLimit → ℕ → ℕ → Verdict RateLimitDecision
+
+abbrev pub Get : Type 0
+Get = Settings → List ℕ → ℕ → List ℕ → Verdict SnapshotAnswer
+
+-- the contract, and with it demand 2: answers and words are those of the rules
+abbrev pub ByRules : Inc → Type 0
+ByRules f =
+    (s : Settings) (w : List ℕ) (t : ℕ) (k : List ℕ) (rate : RateLimit) (count draw : ℕ) →
+    Told (Own.inc s w t k rate count draw) (f s w t k rate count draw .answer) (f s w t k rate count draw .words)
+
+-- demand 1
+abbrev pub ByTable : Inc → Type 0
+ByTable f =
+    (s : Settings) (w : List ℕ) (t : ℕ) (k : List ℕ) (rate : RateLimit) (count draw : ℕ) →
+    TurnedBy (suppressedInc s w t k rate count draw) (decisionRow (f s w t k rate count draw .answer)) w (f s w t k rate count draw .words)
+
+-- counts at reading 0 on the words w, at H = 20: the increment, and what is admitted of it by its answer
+abbrev pub at0 : Inc → List ℕ → ℕ → Verdict RateLimitDecision
+at0 f w count = f (hardBy 2) w 0 key (perSecond one) count 0
+
+abbrev pub admits : RateLimitDecision → Bool
+admits d = eqb (getD (decisionRow d) 1 0) 1 || (eqb (getD (decisionRow d) 1 0) 3 && eqb (getD (decisionRow d) 3 0) 1)
+
+-- what is admitted of increments with these counts, one after the other, counted from the answers given
+abbrev pub spent : Inc → List ℕ → List ℕ → ℕ
+spent f w [] = 0
+spent f w (c ∷ cs) = cond (admits (at0 f w c .answer)) c 0 + spent f (at0 f w c .words) cs
+
+-- demand 3's ceiling over the shortest of spans, a single reading: at most H of whatever counts come
+abbrev pub Ceiling : Inc → Type 0
+Ceiling f = (counts : List ℕ) → spent f room counts ≤ 20
+
+-- ---- refuses every call
+
+module _ (f : Inc) (refuses : (s : Settings) (w : List ℕ) (t : ℕ) (k : List ℕ) (rate : RateLimit) (count draw : ℕ) → numberOf (decisionRow (f s w t k rate count draw .answer)) ≢ 0) where
+  -- the table has no condition that holds for 20 on an empty room
+  pub refusing-breaks-the-table : ByTable f → ⊥
+  refusing-breaks-the-table p =
+      let s = hardBy 2 in
+      let l = p s room 0 key (perSecond one) 20 0 .only (refuses s room 0 key (perSecond one) 20 0) in
+      let a = rises s room 0 key (perSecond one) 20 0 in
+      lowest-positive (suppressedInc s room 0 key (perSecond one) 20 0) _ a l (sym (lowest-first (suppressedInc s room 0 key (perSecond one) 20 0) _ a l) ∙ further .passes)
+
+  pub refusing-breaks-the-rules : ByRules f → ⊥
+  unfolding decisionRow
+  refusing-breaks-the-rules p =
+      refuses (hardBy 2) room 0 key (perSecond one) 20 0 (ap (λ (d : RateLimitDecision). numberOf (decisionRow d)) (p (hardBy 2) room 0 key (perSecond one) 20 0 .answer ∙ boundary .forecast-20))
+
+-- ---- always says Allowed
+
+module _ (f : Inc) (allows : (s : Settings) (w : List ℕ) (t : ℕ) (k : List ℕ) (rate : RateLimit) (count draw : ℕ) → f s w t k rate count draw .answer ≡ Allowed) where
+  -- a window of 0 is number 1
+  pub allowing-breaks-the-table : ByTable f → ⊥
+  unfolding decisionRow
+  allowing-breaks-the-table p =
+      let s = withWindow defaults (record { 0 = 0 }) in
+      let table = suppressedInc s room 0 key (perSecond one) 20 0 in
+      let l : Lowest table 1 = subst (Lowest table) (further .faulty) (first-lowest table (rises s room 0 key (perSecond one) 20 0) (λ z. absurd (omega (arith, further .faulty, z)))) in
+      let e : _≡_ {A = ℕ} 0 1 = ap numberOf (ap decisionRow (sym (allows s room 0 key (perSecond one) 20 0)) ∙ p s room 0 key (perSecond one) 20 0 .given 1 l) in
+      omega (arith, e)
+
+  -- a forecast of 21 is not admitted
+  pub allowing-breaks-the-rules : ByRules f → ⊥
+  unfolding decisionRow
+  allowing-breaks-the-rules p =
+      let e : _≡_ {A = ℕ} 1 3 =
+      ap (λ (d : RateLimitDecision). getD (decisionRow d) 1 0) (sym (allows (hardBy 2) room 0 key (perSecond one) 21 0) ∙ p (hardBy 2) room 0 key (perSecond one) 21 0 .answer ∙ boundary .forecast-21) in
+      omega (arith, e)
+
+  -- 20 and 20 again
+  pub allowing-breaks-the-ceiling : Ceiling f → ⊥
+  unfolding decisionRow
+  allowing-breaks-the-ceiling p =
+      let w = at0 f room 20 .words in
+      let e : spent f room (20 ∷ 20 ∷ []) ≡ 40 = rw (allows (hardBy 2) room 0 key (perSecond one) 20 0, allows (hardBy 2) w 0 key (perSecond one) 20 0) in
+      omega (arith, p (20 ∷ 20 ∷ []), e)
+
+-- ---- changes nothing
+
+module _ (f : Inc) (leaves : (s : Settings) (w : List ℕ) (t : ℕ) (k : List ℕ) (rate : RateLimit) (count draw : ℕ) → f s w t k rate count draw .words ≡ w) where
+  -- 20 on an empty room take its slot
+  pub idling-breaks-the-rules : ByRules f → ⊥
+  idling-breaks-the-rules p =
+      let e : room ≡ twenty = sym (leaves (hardBy 2) room 0 key (perSecond one) 20 0) ∙ p (hardBy 2) room 0 key (perSecond one) 20 0 .words in
+      omega (arith, further .empty-use, boundary .both-before, ap (λ (w : List ℕ). useOf w 0) e)
+
+  -- with the rules' answers to the words that it has: 20 and 20 again
+  pub idling-breaks-the-ceiling : ((s : Settings) (w : List ℕ) (t : ℕ) (k : List ℕ) (rate : RateLimit) (count draw : ℕ) → f s w t k rate count draw .answer ≡ Own.inc s w t k rate count draw .answer) → Ceiling f → ⊥
+  unfolding decisionRow
+  idling-breaks-the-ceiling q p =
+      let a : at0 f room 20 .answer ≡ Allowed = q (hardBy 2) room 0 key (perSecond one) 20 0 ∙ boundary .forecast-20 in
+      let e : spent f room (20 ∷ 20 ∷ []) ≡ 40 = rw (leaves (hardBy 2) room 0 key (perSecond one) 20 0, a) in
+      omega (arith, p (20 ∷ 20 ∷ []), e)
+
+-- ---- counts the first increment only: the rules' answers, and words that change while the key has no bucket
+
+module _ (f : Inc)
+    (answers : (s : Settings) (w : List ℕ) (t : ℕ) (k : List ℕ) (rate : RateLimit) (count draw : ℕ) → f s w t k rate count draw .answer ≡ Own.inc s w t k rate count draw .answer)
+    (begins : (s : Settings) (w : List ℕ) (t : ℕ) (k : List ℕ) (rate : RateLimit) (count draw : ℕ) → bucketsOf w k ≡ [] → f s w t k rate count draw .words ≡ Own.inc s w t k rate count draw .words)
+    (ends : (s : Settings) (w : List ℕ) (t : ℕ) (k : List ℕ) (rate : RateLimit) (count draw : ℕ) → bucketsOf w k ≢ [] → f s w t k rate count draw .words ≡ w) where
+  some-held : bucketsOf single key ≢ []
+  some-held e = let n : _≡_ {A = ℕ} 1 0 = ap length (sym (further .single-buckets) ∙ e) in omega (arith, n)
+
+  -- 1 and then 9
+  pub once-breaks-the-rules : ByRules f → ⊥
+  unfolding sumOf
+  once-breaks-the-rules p =
+      let e : single ≡ sinc 0 9 0 single .words = sym (ends (hardBy 2) single 0 key (perSecond one) 9 0 some-held) ∙ p (hardBy 2) single 0 key (perSecond one) 9 0 .words in
+      let c : _≡_ {A = ℕ} 1 10 = ap (λ (xs : List Bucket). counts xs) (sym (further .single-buckets) ∙ ap (λ (w : List ℕ). bucketsOf w key) e ∙ further .more-buckets) in
+      omega (arith, c)
+
+  -- 1, and 9 three times
+  pub once-breaks-the-ceiling : Ceiling f → ⊥
+  unfolding decisionRow
+  once-breaks-the-ceiling p =
+      let w : at0 f room 1 .words ≡ single = begins (hardBy 2) room 0 key (perSecond one) 1 0 (further .empty-buckets) in
+      let v : at0 f single 9 .words ≡ single = ends (hardBy 2) single 0 key (perSecond one) 9 0 some-held in
+      let a : at0 f room 1 .answer ≡ Allowed = answers (hardBy 2) room 0 key (perSecond one) 1 0 ∙ further .single-allowed in
+      let b : at0 f single 9 .answer ≡ Allowed = answers (hardBy 2) single 0 key (perSecond one) 9 0 ∙ further .more-allowed in
+      let e : spent f room (1 ∷ 9 ∷ 9 ∷ 9 ∷ []) ≡ 28 = rw (w, v, v, a, b) in
+      omega (arith, p (1 ∷ 9 ∷ 9 ∷ 9 ∷ []), e)
+
+-- ---- made-up totals
+
+-- a total given that is not the sum: of 20 at reading 0, at the same reading
+pub telling-breaks-the-sums : (g : Get) → getD (snapshotRow (g (hardBy 2) twenty 0 key .answer)) 2 0 ≢ 20 → Told (Own.get (hardBy 2) twenty 0 key) (g (hardBy 2) twenty 0 key .answer) (g (hardBy 2) twenty 0 key .words) → ⊥
+unfolding snapshotRow
+telling-breaks-the-sums g h p = h (ap (λ (a : SnapshotAnswer). getD (snapshotRow a) 2 0) (p .answer ∙ further .twenty-given))
+
+-- a total stored that is not the sum: whatever it is, the slot is unsound and the next call is turned away with 5
+pub storing-breaks-the-sums : (n : ℕ) → n ≢ 20 → snapshotRow (sget 0 (set twenty 10 n) .answer) ≡ refusedRow 5
+unfolding snapshotRow
+storing-breaks-the-sums n h = rw (further .made-up n h)
