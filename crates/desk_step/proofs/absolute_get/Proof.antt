@@ -1,0 +1,26 @@
+-- The line is that of the answer.
+-- Assumes nothing.
+use mathlib.Core.Path.{ap, _∙_}
+use Rattle.desk_step.specs.Desk.{totalLine, absoluteGet}
+use borrow.Author.Needs.{needs}
+use Rattle.desk_step.proofs.absolute_get.Statement.{statement}
+use Rattle.desk_step.proofs.absolute_get.Tie as tie
+
+get-requires : tie.Need-get-requires
+get-requires c κs = search needs
+
+total-line-requires : tie.Need-total-line-requires
+total-line-requires c κs = search needs
+
+same-length : tie.Need-same-length
+same-length c = search needs
+
+returns : tie.Need-returns
+unfolding absoluteGet
+returns c =
+    let a = c .before .before .before .before .before .before .before .args in
+    let g = c .before .before .before .get in
+    record { answer = c .total-line .ensures ∙ ap (totalLine (a .t)) (g .ensures .answer); words = g .ensures .words }
+
+pub absolute-get-spec : {M : Type 1} → statement M
+absolute-get-spec = tie.close (tie.spec get-requires total-line-requires same-length returns)

@@ -1,0 +1,42 @@
+-- The line is that of the decision and of what the room then holds.
+-- Assumes nothing.
+use Rattle.absolute.specs.Calls as Absolute
+use Rattle.desk_step.specs.Desk.{decisionLine, perMinute, absoluteInc}
+use Rattle.desk_step.specs.Laws.{line-told}
+use borrow.Author.Needs.{needs}
+use Rattle.desk_step.proofs.absolute_inc.Statement.{statement}
+use Rattle.desk_step.proofs.absolute_inc.Tie as tie
+
+per-minute-requires : tie.Need-per-minute-requires
+per-minute-requires c κs = search needs
+
+inc-requires : tie.Need-inc-requires
+inc-requires c κs = search needs
+
+stored-of-requires : tie.Need-stored-of-requires
+stored-of-requires c κs = search needs
+
+decision-line-requires : tie.Need-decision-line-requires
+decision-line-requires c κs = search needs
+
+same-length : tie.Need-same-length
+same-length c = search needs
+
+returns : tie.Need-returns
+unfolding absoluteInc
+returns c =
+    let a = c .before .before .before .before .before .before .before .before .before .before .args in
+    let g = c .before .before .before .before .before .inc in
+    let told = rw (c .before .before .before .before .before .before .per-minute .ensures) at (g .ensures) in
+    line-told (decisionLine (a .t)) (a .key .now) (Absolute.inc (a .settings) (a .room .now) (a .t) (a .key .now) (perMinute (a .rate)) (a .n)) (g .result) (g .last .1 .0) (c .before .stored-of .result) (c .decision-line .result) told (c .before .stored-of .ensures) (c .decision-line .ensures)
+
+pub absolute-inc-spec : {M : Type 1} → statement M
+absolute-inc-spec =
+    tie.close
+    (tie.spec
+    per-minute-requires
+    inc-requires
+    stored-of-requires
+    decision-line-requires
+    same-length
+    returns)

@@ -1,0 +1,86 @@
+-- What the code of a step knows at each return, joined to the definitions; and two results that a step allows are one.
+-- Assumes nothing.
+use mathlib.Core.Path.{_≡_, refl, sym, ap, _∙_}
+use mathlib.Core.Bool.{Bool, true, false, cond, _&&_}
+use mathlib.Core.List.{List}
+use Prim.Native.Nat.{ℕ, _+_, _-_, _≤_, _<_}
+use native.Mathlib.Omega.{arith}
+use lib.ListN.{length, getD, take, drop, length-take, length-drop}
+use lib.Seq.{getD-take, getD-drop}
+use lib.Dec.{ltb}
+use borrow.Author.Tests.{lt-ltb, le-ltb}
+use Rattle.room.specs.Room.{Room, Starts, sized, slotsOf, ringOf, useOf, keyOf, find, startOf, size, bodyOf, bodyFrom}
+use Rattle.room.specs.Laws.{room-sized}
+use Rattle.judge.specs.Sound.{hasSeries}
+use Rattle.judge.specs.Verdict.{Verdict, Told}
+use Rattle.answers.specs.declared.AnswerLine.{AnswerLine}
+use Rattle.lines.specs.Laws.{keyIn, CallRead, ReadCall, call-read}
+use Rattle.lines.specs.Reading.{readCall}
+use Rattle.lines.specs.declared.CallLine.{CallLine}
+use Rattle.lines.specs.declared.CallLine.the-variants as call
+use Rattle.lines.specs.declared.Op.{Op}
+use Rattle.desk_step.specs.declared.Stored.{Stored}
+use Rattle.desk_step.specs.Desk.{Step, Answered, noStored, storedOf, pickStored, lined}
+
+-- two results that a step allows are one
+pub answered-once : (v : Step) (r r′ : AnswerLine) (a a′ b b′ : List ℕ) → Answered v r a b → Answered v r′ a′ b′ → (r ≡ r′) × (a ≡ a′) × (b ≡ b′)
+answered-once v r r′ a a′ b b′ p q = (p .answer ∙ sym (q .answer), p .absolute ∙ sym (q .absolute), p .suppressed ∙ sym (q .suppressed))
+
+-- ---- what is stored
+
+stored-path : {m m′ n n′ : ℕ} → m ≡ m′ → n ≡ n′ → _≡_ {A = Stored} (record { total = m; declined = n }) (record { total = m′; declined = n′ })
+stored-path p q = λ i. record { total = p i; declined = q i }
+
+body-word : (w : List ℕ) (at j : ℕ) → j < 7 → getD (bodyOf w at) j 0 ≡ getD w (startOf w at + j) 0
+unfolding bodyFrom
+body-word w at j h = getD-take (size (ringOf w)) (drop (startOf w at) w) j 0 (omega arith) ∙ getD-drop (startOf w at) w j 0
+
+module _ (w key : List ℕ) where
+  -- words of the wrong lengths are no room
+  pub stored-unsized : sized w ≡ false → noStored ≡ storedOf w key
+  unfolding storedOf
+  stored-unsized e = rw e
+
+  -- the key has no slot
+  pub stored-none : (at : ℕ) → Room w → at ≡ find w (keyOf key) → slotsOf w ≤ at → noStored ≡ storedOf w key
+  unfolding storedOf
+  stored-none at o e h = rw (room-sized w o, ← e, le-ltb at (slotsOf w) h)
+
+  -- or no series
+  pub stored-lone : (at : ℕ) → Room w → at ≡ find w (keyOf key) → at < slotsOf w → hasSeries (useOf w at) ≡ false → noStored ≡ storedOf w key
+  unfolding storedOf
+  stored-lone at o e h f = rw (room-sized w o, ← e, lt-ltb at (slotsOf w) h, f)
+
+  pub stored-is : (at start : ℕ) → Room w → at ≡ find w (keyOf key) → at < slotsOf w → hasSeries (useOf w at) ≡ true → start ≡ startOf w at →
+      record { total = getD w (start + 1) 0; declined = getD w (start + 2) 0 } ≡ storedOf w key
+  unfolding storedOf
+  stored-is at start o e h f g =
+      rw (room-sized w o, ← e, lt-ltb at (slotsOf w) h, f, g)
+      (stored-path (sym (body-word w at 1 (omega arith))) (sym (body-word w at 2 (omega arith))))
+
+-- ---- a call's line
+
+pub line-told : {A : Type 0} (f : A → Stored → AnswerLine) (key : List ℕ) (v : Verdict A) (d : A) (x : List ℕ) (y : Stored) (r : AnswerLine) →
+    Told v d x → y ≡ storedOf x key → r ≡ f d y → Told (lined f key v) r x
+line-told f key v d x y r o p q =
+    record { answer = q ∙ ap (f d) p ∙ ap (λ e. f e (storedOf x key)) (o .answer) ∙ ap (λ w. f (v .answer) (storedOf w key)) (o .words); words = o .words }
+
+-- ---- the key's part of a line
+
+pub record KeyInside (line : List ℕ) (start end : ℕ) : Type 0 where
+  pub starts : start ≤ end
+  pub ends : end ≤ length line
+
+abbrev Inside : List ℕ → CallLine → Type 0
+Inside line (call.Call t op start end rate n draw) = KeyInside line start end
+Inside line call.Bad = Unit {0}
+
+key-inside : (line : List ℕ) (c : CallLine) → CallRead line c → Inside line c
+key-inside line call.Bad p = tt
+key-inside line (call.Call t op start end rate n draw) p =
+    let l : length (keyIn line start end) ≤ length line - start = simp (length-take, length-drop) (omega arith) in
+    let k = p .fits .keys .some in
+    record { starts = omega (arith, p .ends); ends = omega (arith, p .ends, l, k) }
+
+pub read-inside : (line : List ℕ) (t : ℕ) (op : Op) (start end rate n draw : ℕ) → readCall line ≡ call.Call t op start end rate n draw → KeyInside line start end
+read-inside line t op start end rate n draw e = rw e at (key-inside line (readCall line) (call-read line))
