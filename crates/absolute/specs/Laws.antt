@@ -1,8 +1,8 @@
 -- What a call that passes refusals 1 to 7 knows of its key's slot in an absolute room, and that each call's change can be carried out.
 -- Assumes nothing.
 use mathlib.Core.Path.{_≡_, refl, sym, ap, subst, _∙_}
-use mathlib.Core.Bool.{Bool, true, false, not, _&&_, _||_, cond, false≢true}
-use mathlib.Core.List.{List, [], _∷_}
+use mathlib.Core.Bool.{Bool, true, false, not, _&&_, cond, false≢true}
+use mathlib.Core.List.{List}
 use Prim.Native.Nat.{ℕ, _+_, _-_, _≤_, _<_}
 use native.Mathlib.Omega.{arith}
 use lib.ListN.{length, drop, length-drop}
@@ -10,19 +10,15 @@ use lib.Dec.{leb, ltb}
 use borrow.Author.Tests.{ltb-true, ltb-false, leb-false, lt-ltb, le-ltb}
 use Rattle.base.specs.Decides.{and-true}
 use Rattle.common.specs.Refusals.{first, all-false}
-use Rattle.common.specs.Settings.{windowIn, bucketIn}
+use Rattle.common.specs.Settings.{bucketIn}
 use Rattle.common.specs.declared.settings.Settings.{Settings}
-use Rattle.common.specs.declared.units.RateLimit.{RateLimit}
 use Rattle.history.specs.Rules.{newest, joins}
 use Rattle.history.specs.Measured.{newest-drop}
 use Rattle.ring.specs.declared.Bucket.{Bucket}
 use Rattle.ring.specs.Ring.{mostTotal, counts, sumOf, buckets}
 use Rattle.ring.specs.View.{view-length}
-use Rattle.room.specs.Room.{Room, slotsOf, ringOf, bodyOf, vacant}
-use Rattle.change.specs.declared.Change.{Change}
+use Rattle.room.specs.Room.{slotsOf, ringOf, bodyOf, vacant}
 use Rattle.change.specs.declared.Change.the-variants.{Keep, Update, Take}
-use Rattle.change.specs.declared.Edit.{Edit}
-use Rattle.change.specs.declared.Then.{Then}
 use Rattle.change.specs.declared.Then.the-variants.{Nothing, Increment}
 use Rattle.change.specs.Words.{Fits, EditsAt, Applies}
 use Rattle.judge.specs.declared.RoomKind.the-variants.{Absolute}
@@ -31,12 +27,12 @@ use Rattle.judge.specs.Sound.{addressed}
 use Rattle.judge.specs.Judge.{Passed}
 use Rattle.plan.specs.Plan.{evicting, opening}
 use Rattle.plan.specs.Known.{Known, found, none, series-known, keeping-edits, evicting-edits, opening-edits}
-use Rattle.absolute_rules.specs.Rules.{goneIf, totalIf, leaving, allowed, evicts, over, joinsAfter, full, place, lacks, inOrder, incRefusals, pickChange, getChange, askChange, incChange}
-use Rattle.absolute.specs.Calls.{slotIn, outIn, incOwn, incMakes}
+use Rattle.absolute_rules.specs.Rules.{goneIf, totalIf, leaving, allowed, evicts, over, joinsAfter, full, place, lacks, incRefusals, pickChange, getChange, askChange, incChange}
+use Rattle.absolute.specs.Calls.{slotIn}
 
 -- ---- an increment fits where it meets neither 10 nor 12
 
-joins-after : (b t k : ℕ) (x : Slot) (xs : List Bucket) → x .pass .buckets ≡ length xs → x .pass .newest ≡ newest xs → joinsAfter b t k x ≡ joins b t (drop k xs)
+pub joins-after : (b t k : ℕ) (x : Slot) (xs : List Bucket) → x .pass .buckets ≡ length xs → x .pass .newest ≡ newest xs → joinsAfter b t k x ≡ joins b t (drop k xs)
 unfolding joinsAfter joins
 joins-after b t k x xs n e = go (ltb k (length xs)) refl
   where
@@ -104,7 +100,7 @@ module _ (s : Settings) (w : List ℕ) (t : ℕ) (key : List ℕ) (p : Passed Ab
   ask-applies = picked-applies (slotIn s w t key .series && evicts (slotIn s w t key)) (λ e. and-true (slotIn s w t key .series) _ e .0)
 
   -- an increment that is not refused, with the expired buckets out or not
-  leaving-applies : (c : ℕ) (out : Bool) → slotIn s w t key .series ≡ true → over c (totalIf out (slotIn s w t key)) ≡ false →
+  pub leaving-applies : (c : ℕ) (out : Bool) → slotIn s w t key .series ≡ true → over c (totalIf out (slotIn s w t key)) ≡ false →
       full (ringOf w) (bucketIn s) t (goneIf out (slotIn s w t key)) (slotIn s w t key) ≡ false →
       EditsAt w (addressed w key) (bucketIn s) t (leaving out (slotIn s w t key) (Increment c 0))
   leaving-applies c out e o f = go out o f
@@ -127,7 +123,7 @@ module _ (s : Settings) (w : List ℕ) (t : ℕ) (key : List ℕ) (p : Passed Ab
           (fits-after (ringOf w) (bucketIn s) t c 0 (slotIn s w t key) (buckets (ringOf w) (bodyOf w (addressed w key))) n (k .measured .newest-is) (ap (over c) (sym (k .total-is ∙ k .now .total)) ∙ o) f)
 
   -- an unknown key's series begins
-  opening-applies : (limit c total : ℕ) → over c total ≡ false → vacant w < slotsOf w → EditsAt w (vacant w) (bucketIn s) t (opening limit (Increment c 0) 0 0 1)
+  pub opening-applies : (limit c total : ℕ) → over c total ≡ false → vacant w < slotsOf w → EditsAt w (vacant w) (bucketIn s) t (opening limit (Increment c 0) 0 0 1)
   unfolding over sumOf
   opening-applies limit c total o h =
       opening-edits w (vacant w) (p .room) h (bucketIn s) t limit 0 0 1 (Increment c 0)

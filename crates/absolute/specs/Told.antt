@@ -9,9 +9,7 @@ use Rattle.common.specs.Ranges.{mostWindow, rateOk}
 use Rattle.common.specs.Refusals.{first}
 use Rattle.common.specs.Settings.{windowIn, bucketIn}
 use Rattle.common.specs.declared.settings.Settings.{Settings}
-use Rattle.common.specs.declared.answers.TotalAnswer.{TotalAnswer}
 use Rattle.common.specs.declared.answers.TotalAnswer.the-variants as total
-use Rattle.common.specs.declared.answers.RateLimitDecision.{RateLimitDecision}
 use Rattle.common.specs.declared.answers.RateLimitDecision.the-variants as decision
 use Rattle.common.specs.declared.units.RateLimit.{RateLimit}
 use Rattle.room.specs.Room.{Room, slotsOf, ringOf}

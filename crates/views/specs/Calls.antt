@@ -62,7 +62,7 @@ pub record Stands (kind : RoomKind) (s : Settings) (w v : List ℕ) (at t : ℕ)
 
 -- ---- a slot that was edited
 
-implied : (a b : Bool) → (a ≡ true → b ≡ true) → not a || b ≡ true
+pub implied : (a b : Bool) → (a ≡ true → b ≡ true) → not a || b ≡ true
 implied true b f = f refl
 implied false b f = refl
 
@@ -142,7 +142,7 @@ module _ (w : List ℕ) (at : ℕ) (key : List ℕ) (b t : ℕ) where
 
 -- ---- what is right again
 
-none-right : (kind : RoomKind) (d : ℕ) → d ≡ 0 → declinedRight kind d ≡ true
+pub none-right : (kind : RoomKind) (d : ℕ) → d ≡ 0 → declinedRight kind d ≡ true
 none-right Absolute d e = eq-eqb d 0 e
 none-right Suppressed d e = refl
 
@@ -150,7 +150,7 @@ fewer-right : (kind : RoomKind) (d n : ℕ) → n ≤ d → declinedRight kind d
 fewer-right Absolute d n h e = eq-eqb n 0 (omega (arith, eqb-true d 0 e))
 fewer-right Suppressed d n h e = refl
 
-series-right : (kind : RoomKind) → rightUse kind 1 ≡ true
+pub series-right : (kind : RoomKind) → rightUse kind 1 ≡ true
 unfolding rightUse
 series-right Absolute = refl
 series-right Suppressed = refl
@@ -203,12 +203,12 @@ reset-counts W t mode.Replace count xs = replaced-comes t count xs .count
 reset-counts W t (mode.Preserve q) count xs = preserved-comes q t count (live W t xs) .count
 
 -- a series that begins with one bucket
-begins-view : (b t count : ℕ) → joined b t count 0 [] ≡ bucket count 0 t ∷ []
+pub begins-view : (b t count : ℕ) → joined b t count 0 [] ≡ bucket count 0 t ∷ []
 unfolding joined joins
 begins-view b t count = refl
 
 -- no cached factor at use 1
-uncached : (P : Type 0) → hasCached 1 ≡ true → P
+pub uncached : (P : Type 0) → hasCached 1 ≡ true → P
 uncached P h = absurd (false≢true h)
 
 -- which change it is
@@ -241,7 +241,7 @@ live-none W w t at e = go (ltb at (slotsOf w)) e
 
 -- ---- the calls
 
-found-key : (kind : RoomKind) (s : Settings) (w : List ℕ) (t at : ℕ) (x : Slot) → Found kind s w t at x → keyFits (keyAt w at) ≡ true
+pub found-key : (kind : RoomKind) (s : Settings) (w : List ℕ) (t at : ℕ) (x : Slot) → Found kind s w t at x → keyFits (keyAt w at) ≡ true
 unfolding soundSlot
 found-key kind s w t at x f = and-true (keySound w at) _ (f .sound) .0
 

@@ -139,13 +139,13 @@ clean-distinct {w} {v} c d = record {
 -- ---- sound again
 
 -- a later last reading
-series-later : (kind : RoomKind) (s : Settings) (r last t : ℕ) (b : List ℕ) → last ≤ t → soundSeries kind s r last b ≡ true → soundSeries kind s r t b ≡ true
+pub series-later : (kind : RoomKind) (s : Settings) (r last t : ℕ) (b : List ℕ) → last ≤ t → soundSeries kind s r last b ≡ true → soundSeries kind s r t b ≡ true
 unfolding soundSeries
 series-later kind s r last t b h e =
     let p = and-true (soundBuckets r b last) _ e in
     true-and (soundBuckets r b t) _ (true-sound r b t (sound-later t h (sound-true r b last (p .0)))) (p .1)
 
-cached-later : (last t : ℕ) (b : List ℕ) → last ≤ t → soundCached last b ≡ true → soundCached t b ≡ true
+pub cached-later : (last t : ℕ) (b : List ℕ) → last ≤ t → soundCached last b ≡ true → soundCached t b ≡ true
 unfolding soundCached
 cached-later last t b h e =
     let p = and-true (factorWordOk (factorOf b)) _ e in

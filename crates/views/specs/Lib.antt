@@ -1,7 +1,11 @@
 pub mod Calls
 pub mod Cleanup
 pub mod Unit
+pub mod Follows
+pub mod AbsoluteRules
+pub mod AbsoluteSlot
+pub mod Absolute
 pub mod Suppressed
 pub mod OnBuckets
 pub mod Leaves
-pub mod Follows
+pub mod SuppressedFollows
