@@ -9,8 +9,9 @@ use Rattle.common.specs.declared.answers.DoneAnswer.{DoneAnswer}
 use Rattle.room.specs.Room.{lengthOf, fits, Lengths}
 use Rattle.room.specs.Laws.{lengths-fit, fit-lengths}
 use Rattle.judge.specs.Verdict.{Verdict, Told}
+use Rattle.plain.specs.Plain.{numberOf, Given}
 use Rattle.provider.specs.Provider as Provider
-use Rattle.abi.specs.Faces.{Face, Faced, Given, numberOf, shown, shownBoth, roomWords}
+use Rattle.abi.specs.Faces.{Face, Faced, shown, shownBoth, roomWords}
 
 -- two results that a face allows are one
 pub faced-once : {W : Type 0} (f : Face W) (n n′ : ℕ) (a a′ : List ℕ) (w w′ : W) → Faced f n a w → Faced f n′ a′ w′ → (n ≡ n′) × (a ≡ a′) × (w ≡ w′)

@@ -1,8 +1,5 @@
 // The faces for C and Rust: every call over numbers and lent words. The answer goes out as a row of five words, and each face returns the row's first, the
 // refusal's number or 0. include/frostaxle.h says it to C programmers.
-mod inputs;
-mod rows;
-
 ghost use mathlib.Core.Path.{_≡_};
 ghost use mathlib.Core.Bool.{cond};
 ghost use lib.ListN.{length};
@@ -17,16 +14,14 @@ ghost use Rattle.cleanup.specs.Cleanup as Cleanup;
 ghost use Rattle.absolute.specs.Calls as AbsoluteCalls;
 ghost use Rattle.suppressed.specs.Calls as SuppressedCalls;
 ghost use Rattle.provider.specs.Provider as Provider;
-ghost use Rattle.abi.specs.Faces.{Faced, shown, shownBoth, shownSet, settings, rated, comparisonOf, replacing, preserving, roomWords, makeNumber};
+ghost use Rattle.plain.specs.Plain.{settings, rated, comparisonOf, replacing, preserving};
+ghost use Rattle.abi.specs.Faces.{Faced, shown, shownBoth, shownSet, roomWords, makeNumber};
 use common::HistoryUpdateMode;
 use common::RateLimit;
 use common::Settings;
-use inputs::Comparison;
-use inputs::Mode;
 use judge::RoomKind;
-
-// What is no call.
-const BAD_CALL: u64 = 14;
+use plain::Comparison;
+use plain::Mode;
 
 // The room's lengths are wrong.
 const WRONG_LENGTHS: u64 = 5;
@@ -83,10 +78,10 @@ fn set(
     ensures { λ n. ⌜ Faced (shownSet (now (room .entry)) comparison mode (λ c m. Set.set kind settings (now (room .entry)) reading (now (key .entry)) (rated rate) c count m)) n (now (row .exit)) (now (room .exit)) ⌝ }
 {
     let Comparison::Named(c) = comparison else {
-        return rows::give(rows::refused_row(BAD_CALL), row);
+        return plain::give(plain::bad_call_row(), row);
     };
     let Mode::Named(m) = mode else {
-        return rows::give(rows::refused_row(BAD_CALL), row);
+        return plain::give(plain::bad_call_row(), row);
     };
     let answer = calls::set(
         kind,
@@ -99,7 +94,7 @@ fn set(
         count,
         m,
     );
-    rows::give(rows::set_row(answer), row)
+    plain::give(plain::set_row(answer), row)
 }
 
 // ---- the absolute limiter
@@ -120,9 +115,9 @@ pub extern "C" fn frostaxle_absolute_inc(
 ) -> u64
     ensures { λ n. ⌜ Faced (shown decisionRow (AbsoluteCalls.inc (settings window bucket cache factor) (now (room .entry)) reading (now (key .entry)) (rated rate) count)) n (now (row .exit)) (now (room .exit)) ⌝ }
 {
-    let settings = inputs::settings(window, bucket, cache, factor);
+    let settings = plain::settings(window, bucket, cache, factor);
     let answer = absolute::inc(settings, room, reading, key, RateLimit(rate), count);
-    rows::give(rows::decision_row(answer), row)
+    plain::give(plain::decision_row(answer), row)
 }
 
 // Whether a key is allowed, without counting.
@@ -139,9 +134,9 @@ pub extern "C" fn frostaxle_absolute_is_allowed(
 ) -> u64
     ensures { λ n. ⌜ Faced (shown decisionRow (AbsoluteCalls.isAllowed (settings window bucket cache factor) (now (room .entry)) reading (now (key .entry)))) n (now (row .exit)) (now (room .exit)) ⌝ }
 {
-    let settings = inputs::settings(window, bucket, cache, factor);
+    let settings = plain::settings(window, bucket, cache, factor);
     let answer = absolute::is_allowed(settings, room, reading, key);
-    rows::give(rows::decision_row(answer), row)
+    plain::give(plain::decision_row(answer), row)
 }
 
 // A key's live total.
@@ -158,9 +153,9 @@ pub extern "C" fn frostaxle_absolute_get(
 ) -> u64
     ensures { λ n. ⌜ Faced (shown totalRow (AbsoluteCalls.get (settings window bucket cache factor) (now (room .entry)) reading (now (key .entry)))) n (now (row .exit)) (now (room .exit)) ⌝ }
 {
-    let settings = inputs::settings(window, bucket, cache, factor);
+    let settings = plain::settings(window, bucket, cache, factor);
     let answer = absolute::get(settings, room, reading, key);
-    rows::give(rows::total_row(answer), row)
+    plain::give(plain::total_row(answer), row)
 }
 
 #[no_mangle]
@@ -177,9 +172,9 @@ pub extern "C" fn frostaxle_absolute_set_rate_limit(
 ) -> u64
     ensures { λ n. ⌜ Faced (shown oldRateRow (setRateLimit Absolute (settings window bucket cache factor) (now (room .entry)) reading (now (key .entry)) (rated rate))) n (now (row .exit)) (now (room .exit)) ⌝ }
 {
-    let settings = inputs::settings(window, bucket, cache, factor);
+    let settings = plain::settings(window, bucket, cache, factor);
     let answer = absolute::set_rate_limit(settings, room, reading, key, RateLimit(rate));
-    rows::give(rows::old_rate_row(answer), row)
+    plain::give(plain::old_rate_row(answer), row)
 }
 
 #[no_mangle]
@@ -195,9 +190,9 @@ pub extern "C" fn frostaxle_absolute_delete(
 ) -> u64
     ensures { λ n. ⌜ Faced (shown deleteRow (Delete.delete Absolute (settings window bucket cache factor) (now (room .entry)) reading (now (key .entry)))) n (now (row .exit)) (now (room .exit)) ⌝ }
 {
-    let settings = inputs::settings(window, bucket, cache, factor);
+    let settings = plain::settings(window, bucket, cache, factor);
     let answer = absolute::delete(settings, room, reading, key);
-    rows::give(rows::delete_row(answer), row)
+    plain::give(plain::delete_row(answer), row)
 }
 
 #[no_mangle]
@@ -212,9 +207,9 @@ pub extern "C" fn frostaxle_absolute_clear(
 ) -> u64
     ensures { λ n. ⌜ Faced (shown doneRow (Clear.clear (settings window bucket cache factor) (now (room .entry)) reading)) n (now (row .exit)) (now (room .exit)) ⌝ }
 {
-    let settings = inputs::settings(window, bucket, cache, factor);
+    let settings = plain::settings(window, bucket, cache, factor);
     let answer = absolute::clear(settings, room, reading);
-    rows::give(rows::done_row(answer), row)
+    plain::give(plain::done_row(answer), row)
 }
 
 #[no_mangle]
@@ -234,8 +229,8 @@ pub extern "C" fn frostaxle_absolute_set_if(
 ) -> u64
     ensures { λ n. ⌜ Faced (shownSet (now (room .entry)) (comparisonOf comparator operand) replacing (λ c m. Set.set Absolute (settings window bucket cache factor) (now (room .entry)) reading (now (key .entry)) (rated rate) c count m)) n (now (row .exit)) (now (room .exit)) ⌝ }
 {
-    let settings = inputs::settings(window, bucket, cache, factor);
-    let comparison = inputs::comparison_of(comparator, operand);
+    let settings = plain::settings(window, bucket, cache, factor);
+    let comparison = plain::comparison_of(comparator, operand);
     let mode = Mode::Named(HistoryUpdateMode::Replace);
     set(
         RoomKind::Absolute,
@@ -269,9 +264,9 @@ pub extern "C" fn frostaxle_absolute_set_if_preserve_history(
 ) -> u64
     ensures { λ n. ⌜ Faced (shownSet (now (room .entry)) (comparisonOf comparator operand) (preserving preservation) (λ c m. Set.set Absolute (settings window bucket cache factor) (now (room .entry)) reading (now (key .entry)) (rated rate) c count m)) n (now (row .exit)) (now (room .exit)) ⌝ }
 {
-    let settings = inputs::settings(window, bucket, cache, factor);
-    let comparison = inputs::comparison_of(comparator, operand);
-    let mode = inputs::preserving(preservation);
+    let settings = plain::settings(window, bucket, cache, factor);
+    let comparison = plain::comparison_of(comparator, operand);
+    let mode = plain::preserving(preservation);
     set(
         RoomKind::Absolute,
         settings,
@@ -300,9 +295,9 @@ pub extern "C" fn frostaxle_absolute_cleanup(
 ) -> u64
     ensures { λ n. ⌜ Faced (shown doneRow (Cleanup.cleanup Absolute (settings window bucket cache factor) (now (room .entry)) reading stale)) n (now (row .exit)) (now (room .exit)) ⌝ }
 {
-    let settings = inputs::settings(window, bucket, cache, factor);
+    let settings = plain::settings(window, bucket, cache, factor);
     let answer = absolute::cleanup(settings, room, reading, stale);
-    rows::give(rows::done_row(answer), row)
+    plain::give(plain::done_row(answer), row)
 }
 
 // ---- the suppressed limiter
@@ -324,9 +319,9 @@ pub extern "C" fn frostaxle_suppressed_inc(
 ) -> u64
     ensures { λ n. ⌜ Faced (shown decisionRow (SuppressedCalls.inc (settings window bucket cache factor) (now (room .entry)) reading (now (key .entry)) (rated rate) count draw)) n (now (row .exit)) (now (room .exit)) ⌝ }
 {
-    let settings = inputs::settings(window, bucket, cache, factor);
+    let settings = plain::settings(window, bucket, cache, factor);
     let answer = suppressed::inc(settings, room, reading, key, RateLimit(rate), count, draw);
-    rows::give(rows::decision_row(answer), row)
+    plain::give(plain::decision_row(answer), row)
 }
 
 // A key's live totals and its factor.
@@ -343,9 +338,9 @@ pub extern "C" fn frostaxle_suppressed_get(
 ) -> u64
     ensures { λ n. ⌜ Faced (shown snapshotRow (SuppressedCalls.get (settings window bucket cache factor) (now (room .entry)) reading (now (key .entry)))) n (now (row .exit)) (now (room .exit)) ⌝ }
 {
-    let settings = inputs::settings(window, bucket, cache, factor);
+    let settings = plain::settings(window, bucket, cache, factor);
     let answer = suppressed::get(settings, room, reading, key);
-    rows::give(rows::snapshot_row(answer), row)
+    plain::give(plain::snapshot_row(answer), row)
 }
 
 // A key's factor, which is cached.
@@ -362,9 +357,9 @@ pub extern "C" fn frostaxle_suppressed_get_suppression_factor(
 ) -> u64
     ensures { λ n. ⌜ Faced (shown factorRow (SuppressedCalls.getFactor (settings window bucket cache factor) (now (room .entry)) reading (now (key .entry)))) n (now (row .exit)) (now (room .exit)) ⌝ }
 {
-    let settings = inputs::settings(window, bucket, cache, factor);
+    let settings = plain::settings(window, bucket, cache, factor);
     let answer = suppressed::get_suppression_factor(settings, room, reading, key);
-    rows::give(rows::factor_row(answer), row)
+    plain::give(plain::factor_row(answer), row)
 }
 
 #[no_mangle]
@@ -381,9 +376,9 @@ pub extern "C" fn frostaxle_suppressed_set_rate_limit(
 ) -> u64
     ensures { λ n. ⌜ Faced (shown oldRateRow (setRateLimit Suppressed (settings window bucket cache factor) (now (room .entry)) reading (now (key .entry)) (rated rate))) n (now (row .exit)) (now (room .exit)) ⌝ }
 {
-    let settings = inputs::settings(window, bucket, cache, factor);
+    let settings = plain::settings(window, bucket, cache, factor);
     let answer = suppressed::set_rate_limit(settings, room, reading, key, RateLimit(rate));
-    rows::give(rows::old_rate_row(answer), row)
+    plain::give(plain::old_rate_row(answer), row)
 }
 
 #[no_mangle]
@@ -399,9 +394,9 @@ pub extern "C" fn frostaxle_suppressed_delete(
 ) -> u64
     ensures { λ n. ⌜ Faced (shown deleteRow (Delete.delete Suppressed (settings window bucket cache factor) (now (room .entry)) reading (now (key .entry)))) n (now (row .exit)) (now (room .exit)) ⌝ }
 {
-    let settings = inputs::settings(window, bucket, cache, factor);
+    let settings = plain::settings(window, bucket, cache, factor);
     let answer = suppressed::delete(settings, room, reading, key);
-    rows::give(rows::delete_row(answer), row)
+    plain::give(plain::delete_row(answer), row)
 }
 
 #[no_mangle]
@@ -416,9 +411,9 @@ pub extern "C" fn frostaxle_suppressed_clear(
 ) -> u64
     ensures { λ n. ⌜ Faced (shown doneRow (Clear.clear (settings window bucket cache factor) (now (room .entry)) reading)) n (now (row .exit)) (now (room .exit)) ⌝ }
 {
-    let settings = inputs::settings(window, bucket, cache, factor);
+    let settings = plain::settings(window, bucket, cache, factor);
     let answer = suppressed::clear(settings, room, reading);
-    rows::give(rows::done_row(answer), row)
+    plain::give(plain::done_row(answer), row)
 }
 
 #[no_mangle]
@@ -438,8 +433,8 @@ pub extern "C" fn frostaxle_suppressed_set_if(
 ) -> u64
     ensures { λ n. ⌜ Faced (shownSet (now (room .entry)) (comparisonOf comparator operand) replacing (λ c m. Set.set Suppressed (settings window bucket cache factor) (now (room .entry)) reading (now (key .entry)) (rated rate) c count m)) n (now (row .exit)) (now (room .exit)) ⌝ }
 {
-    let settings = inputs::settings(window, bucket, cache, factor);
-    let comparison = inputs::comparison_of(comparator, operand);
+    let settings = plain::settings(window, bucket, cache, factor);
+    let comparison = plain::comparison_of(comparator, operand);
     let mode = Mode::Named(HistoryUpdateMode::Replace);
     set(
         RoomKind::Suppressed,
@@ -473,9 +468,9 @@ pub extern "C" fn frostaxle_suppressed_set_if_preserve_history(
 ) -> u64
     ensures { λ n. ⌜ Faced (shownSet (now (room .entry)) (comparisonOf comparator operand) (preserving preservation) (λ c m. Set.set Suppressed (settings window bucket cache factor) (now (room .entry)) reading (now (key .entry)) (rated rate) c count m)) n (now (row .exit)) (now (room .exit)) ⌝ }
 {
-    let settings = inputs::settings(window, bucket, cache, factor);
-    let comparison = inputs::comparison_of(comparator, operand);
-    let mode = inputs::preserving(preservation);
+    let settings = plain::settings(window, bucket, cache, factor);
+    let comparison = plain::comparison_of(comparator, operand);
+    let mode = plain::preserving(preservation);
     set(
         RoomKind::Suppressed,
         settings,
@@ -504,9 +499,9 @@ pub extern "C" fn frostaxle_suppressed_cleanup(
 ) -> u64
     ensures { λ n. ⌜ Faced (shown doneRow (Cleanup.cleanup Suppressed (settings window bucket cache factor) (now (room .entry)) reading stale)) n (now (row .exit)) (now (room .exit)) ⌝ }
 {
-    let settings = inputs::settings(window, bucket, cache, factor);
+    let settings = plain::settings(window, bucket, cache, factor);
     let answer = suppressed::cleanup(settings, room, reading, stale);
-    rows::give(rows::done_row(answer), row)
+    plain::give(plain::done_row(answer), row)
 }
 
 // ---- both rooms
@@ -526,7 +521,7 @@ pub extern "C" fn frostaxle_provider_cleanup(
 ) -> u64
     ensures { λ n. ⌜ Faced (shownBoth (Provider.cleanup (settings window bucket cache factor) (now (absolute .entry)) (now (suppressed .entry)) reading stale)) n (now (row .exit)) (now (absolute .exit), now (suppressed .exit)) ⌝ }
 {
-    let settings = inputs::settings(window, bucket, cache, factor);
+    let settings = plain::settings(window, bucket, cache, factor);
     let answer = provider::cleanup(settings, absolute, suppressed, reading, stale);
-    rows::give(rows::done_row(answer), row)
+    plain::give(plain::done_row(answer), row)
 }

@@ -13,8 +13,8 @@ enum-known-comparison c = search needs
 enum-told : tie.Need-enum-told
 enum-told c = search needs
 
-refused-row-requires : tie.Need-refused-row-requires
-refused-row-requires c κs = search needs
+bad-call-row-requires : tie.Need-bad-call-row-requires
+bad-call-row-requires c κs = search needs
 
 give-requires : tie.Need-give-requires
 give-requires c κs = search needs
@@ -23,7 +23,7 @@ returns : tie.Need-returns
 unfolding shownSet
 returns c =
     let refused = c .before .before in
-    rw (refused .before .enum-told .given .1) (given-faced _ _ _ _ _ (refused .refused-row .ensures) (c .give .ensures) refl)
+    rw (refused .before .enum-told .given .1) (given-faced _ _ _ _ _ (refused .bad-call-row .ensures) (c .give .ensures) refl)
 
 enum-known-mode : tie.Need-enum-known-mode
 enum-known-mode c = search needs
@@ -31,8 +31,8 @@ enum-known-mode c = search needs
 enum-told-2 : tie.Need-enum-told-2
 enum-told-2 c = search needs
 
-refused-row-requires-2 : tie.Need-refused-row-requires-2
-refused-row-requires-2 c κs = search needs
+bad-call-row-requires-2 : tie.Need-bad-call-row-requires-2
+bad-call-row-requires-2 c κs = search needs
 
 give-requires-2 : tie.Need-give-requires-2
 give-requires-2 c κs = search needs
@@ -41,7 +41,7 @@ returns-2 : tie.Need-returns-2
 unfolding shownSet
 returns-2 c =
     let refused = c .before .before in
-    rw (refused .before .before .before .before .comparison .given .1, refused .before .enum-told2 .given .1) (given-faced _ _ _ _ _ (refused .refused-row2 .ensures) (c .give2 .ensures) refl)
+    rw (refused .before .before .before .before .comparison .given .1, refused .before .enum-told2 .given .1) (given-faced _ _ _ _ _ (refused .bad-call-row2 .ensures) (c .give2 .ensures) refl)
 
 set-requires : tie.Need-set-requires
 set-requires c κs = search needs
@@ -68,12 +68,12 @@ set-spec =
     (tie.spec
     enum-known-comparison
     enum-told
-    refused-row-requires
+    bad-call-row-requires
     give-requires
     returns
     enum-known-mode
     enum-told-2
-    refused-row-requires-2
+    bad-call-row-requires-2
     give-requires-2
     returns-2
     set-requires

@@ -1,8 +1,8 @@
 -- Case by case, as the definition has them.
 use Rattle.common.specs.Answers.{totalRow}
 use borrow.Author.Needs.{needs}
-use Rattle.abi.proofs.rows.total_row.Statement.{statement}
-use Rattle.abi.proofs.rows.total_row.Tie as tie
+use Rattle.plain.proofs.rows.total_row.Statement.{statement}
+use Rattle.plain.proofs.rows.total_row.Tie as tie
 
 enum-known-a : tie.Need-enum-known-a
 enum-known-a c = search needs

@@ -1,8 +1,8 @@
 -- Case by case, as the definition has them.
-use Rattle.common.specs.Answers.{snapshotRow}
+use Rattle.common.specs.Answers.{factorRow}
 use borrow.Author.Needs.{needs}
-use Rattle.abi.proofs.rows.snapshot_row.Statement.{statement}
-use Rattle.abi.proofs.rows.snapshot_row.Tie as tie
+use Rattle.plain.proofs.rows.factor_row.Statement.{statement}
+use Rattle.plain.proofs.rows.factor_row.Tie as tie
 
 enum-known-a : tie.Need-enum-known-a
 enum-known-a c = search needs
@@ -17,14 +17,14 @@ refused-row-requires : tie.Need-refused-row-requires
 refused-row-requires c κs = search needs
 
 returns : tie.Need-returns
-unfolding snapshotRow
+unfolding factorRow
 returns c = rw (c .before .before .a .given .1, c .word-of .ensures)
 
 returns-2 : tie.Need-returns-2
-unfolding snapshotRow
+unfolding factorRow
 returns-2 c = rw (c .before .before .a2 .given .1) (c .refused-row .ensures)
 
-pub snapshot-row-spec : {M : Type 1} → statement M
-snapshot-row-spec =
+pub factor-row-spec : {M : Type 1} → statement M
+factor-row-spec =
     tie.close
     (tie.spec enum-known-a word-of-requires enum-known-a-2 refused-row-requires returns returns-2)

@@ -1,6 +1,6 @@
 // What comes in as plain numbers.
 ghost use mathlib.Core.Path.{_≡_};
-ghost use Rattle.abi.specs.Faces.{settings, comparisonOf, preserving};
+ghost use Rattle.plain.specs.Plain.{settings, comparisonOf, preserving};
 use common::BucketSize;
 use common::HistoryPreservation;
 use common::HistoryUpdateMode;

@@ -1,14 +1,11 @@
 -- Case by case, as the definition has them.
-use Rattle.common.specs.Answers.{oldRateRow}
+use Rattle.common.specs.Answers.{deleteRow}
 use borrow.Author.Needs.{needs}
-use Rattle.abi.proofs.rows.old_rate_row.Statement.{statement}
-use Rattle.abi.proofs.rows.old_rate_row.Tie as tie
+use Rattle.plain.proofs.rows.delete_row.Statement.{statement}
+use Rattle.plain.proofs.rows.delete_row.Tie as tie
 
 enum-known-a : tie.Need-enum-known-a
 enum-known-a c = search needs
-
-word-of-requires : tie.Need-word-of-requires
-word-of-requires c κs = search needs
 
 enum-told : tie.Need-enum-told
 enum-told c = search needs
@@ -20,23 +17,22 @@ refused-row-requires : tie.Need-refused-row-requires
 refused-row-requires c κs = search needs
 
 returns : tie.Need-returns
-unfolding oldRateRow
-returns c = rw (c .before .before .a .given .1, c .word-of .ensures)
+unfolding deleteRow
+returns c = rw (c .before .a .given .1)
 
 returns-2 : tie.Need-returns-2
-unfolding oldRateRow
+unfolding deleteRow
 returns-2 c = rw (c .enum-told .given .1)
 
 returns-3 : tie.Need-returns-3
-unfolding oldRateRow
+unfolding deleteRow
 returns-3 c = rw (c .before .before .a2 .given .1) (c .refused-row .ensures)
 
-pub old-rate-row-spec : {M : Type 1} → statement M
-old-rate-row-spec =
+pub delete-row-spec : {M : Type 1} → statement M
+delete-row-spec =
     tie.close
     (tie.spec
     enum-known-a
-    word-of-requires
     enum-told
     enum-known-a-2
     refused-row-requires

@@ -1,8 +1,8 @@
 -- Each number is tested in turn.
 use borrow.Author.Tests.{ne-eqb}
-use Rattle.abi.specs.Faces.{comparisonOf}
-use Rattle.abi.proofs.inputs.comparison_of.Statement.{statement}
-use Rattle.abi.proofs.inputs.comparison_of.Tie as tie
+use Rattle.plain.specs.Plain.{comparisonOf}
+use Rattle.plain.proofs.inputs.comparison_of.Statement.{statement}
+use Rattle.plain.proofs.inputs.comparison_of.Tie as tie
 
 returns : tie.Need-returns
 unfolding comparisonOf

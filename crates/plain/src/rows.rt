@@ -1,7 +1,7 @@
 // The answer row: five words, as `common`'s specs/Answers.antt gives them for each answer.
 ghost use mathlib.Core.Path.{_≡_};
 ghost use Rattle.common.specs.Answers.{refusedRow, said, decisionRow, totalRow, snapshotRow, factorRow, oldRateRow, deleteRow, setRow, doneRow};
-ghost use Rattle.abi.specs.Faces.{Given};
+ghost use Rattle.plain.specs.Plain.{badCall, Given};
 use common::DeleteAnswer;
 use common::DoneAnswer;
 use common::FactorAnswer;
@@ -12,10 +12,17 @@ use common::SnapshotAnswer;
 use common::TotalAnswer;
 
 // A refusal: its number, with zeros elsewhere.
-pub fn refused_row(number: u64) -> [u64; 5]
+fn refused_row(number: u64) -> [u64; 5]
     ensures { λ r. ⌜ r ≡ refusedRow number ⌝ }
 {
     [number, 0, 0, 0, 0]
+}
+
+// What is no call.
+pub fn bad_call_row() -> [u64; 5]
+    ensures { λ r. ⌜ r ≡ refusedRow badCall ⌝ }
+{
+    refused_row(14)
 }
 
 // 1 for yes.

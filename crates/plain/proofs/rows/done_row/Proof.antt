@@ -1,8 +1,8 @@
 -- Case by case, as the definition has them.
 use Rattle.common.specs.Answers.{doneRow}
 use borrow.Author.Needs.{needs}
-use Rattle.abi.proofs.rows.done_row.Statement.{statement}
-use Rattle.abi.proofs.rows.done_row.Tie as tie
+use Rattle.plain.proofs.rows.done_row.Statement.{statement}
+use Rattle.plain.proofs.rows.done_row.Tie as tie
 
 enum-told : tie.Need-enum-told
 enum-told c = search needs

@@ -1,8 +1,8 @@
 -- Each number is tested in turn.
 use borrow.Author.Tests.{ne-eqb}
-use Rattle.abi.specs.Faces.{preserving}
-use Rattle.abi.proofs.inputs.preserving.Statement.{statement}
-use Rattle.abi.proofs.inputs.preserving.Tie as tie
+use Rattle.plain.specs.Plain.{preserving}
+use Rattle.plain.proofs.inputs.preserving.Statement.{statement}
+use Rattle.plain.proofs.inputs.preserving.Tie as tie
 
 returns : tie.Need-returns
 unfolding preserving
