@@ -1,0 +1,72 @@
+//! A gateway admits a controller's shots: 3 in a second. A shot that is told no waits as long as it was told, and asks
+//! again. After that twenty shots go to the suppressed limiter, whose factor rises between its two limits; the draws
+//! come from a small generator.
+use frostaxle::{Decision, Provider, Refusal, Room, Settings};
+use std::thread;
+use std::time::{Duration, Instant};
+
+const CONTROLLER: &[u8] = b"ctl7";
+
+/// The reading: milliseconds since the start.
+struct Clock(Instant);
+
+impl Clock {
+    fn reading(&self) -> u64 {
+        self.0.elapsed().as_millis() as u64
+    }
+}
+
+/// A random source for the example alone (xorshift); its upper 53 bits are the draw.
+struct Draws(u64);
+
+impl Draws {
+    fn next(&mut self) -> u64 {
+        self.0 ^= self.0 << 13;
+        self.0 ^= self.0 >> 7;
+        self.0 ^= self.0 << 17;
+        self.0 >> 11
+    }
+}
+
+/// Sends one shot until it is admitted.
+fn send(gateway: &mut Provider, clock: &Clock, shot: u32) -> Result<(), Refusal> {
+    loop {
+        let decision = gateway.absolute().inc(clock.reading(), CONTROLLER, 3.0, 1)?;
+        match decision.ask_again_after() {
+            None => {
+                println!("shot {shot}: admitted");
+                return Ok(());
+            }
+            Some(wait) => {
+                println!("shot {shot}: not now, asking again in {} ms", wait.as_millis());
+                thread::sleep(wait);
+            }
+        }
+    }
+}
+
+fn main() -> Result<(), Refusal> {
+    let settings = Settings { window_seconds: 1, cache_millis: 10, hard_limit_factor: 2.0, ..Settings::default() };
+    let mut gateway = Provider::new(settings, Room::new(8, 128)?, Room::new(8, 128)?);
+    let clock = Clock(Instant::now());
+    for shot in 1..=5 {
+        send(&mut gateway, &clock, shot)?;
+    }
+
+    let mut draws = Draws(0x9e37_79b9_7f4a_7c15);
+    for shot in 1..=20 {
+        thread::sleep(Duration::from_millis(20));
+        let decision = gateway.suppressed().inc(clock.reading(), CONTROLLER, 8.0, 1, draws.next())?;
+        if let Decision::Suppressed { suppression_factor, is_allowed } = decision {
+            let word = if is_allowed { "admitted" } else { "declined" };
+            println!("shot {shot} at the suppressed limiter: {word} at factor {suppression_factor:.2}");
+        }
+    }
+
+    // what is refused is told by its number, and changes nothing
+    match gateway.absolute().inc(clock.reading(), &[b'x'; 33], 3.0, 1) {
+        Err(refusal) => println!("a key of 33 bytes: {refusal}"),
+        Ok(decision) => println!("a key of 33 bytes: {decision:?}"),
+    }
+    gateway.cleanup(clock.reading(), 60_000)
+}

@@ -1,0 +1,122 @@
+//! The archive's functions as `include/frostaxle.h` has them. A slice goes as its pointer and its length.
+
+/// An answer: a refusal's number or 0, the case, and three values.
+pub type Row = [u64; 5];
+
+#[link(name = "abi", kind = "static")]
+extern "C" {
+    pub fn frostaxle_room_words(slots: u64, ring: u64) -> usize;
+
+    pub fn frostaxle_make(room: *mut u64, room_len: usize, slots: u64, ring: u64) -> u64;
+
+    pub fn frostaxle_provider_cleanup(
+        window: u64,
+        bucket: u64,
+        cache: u64,
+        factor: f64,
+        absolute: *mut u64,
+        absolute_len: usize,
+        suppressed: *mut u64,
+        suppressed_len: usize,
+        reading: u64,
+        stale: u64,
+        row: *mut Row,
+    ) -> u64;
+}
+
+/// Declares faces that differ only in what follows the settings, the room, the reading and perhaps the key.
+macro_rules! faces {
+    ($($name:ident($($own:ident: $type:ty),*);)*) => {
+        #[link(name = "abi", kind = "static")]
+        extern "C" {
+            $(pub fn $name(
+                window: u64,
+                bucket: u64,
+                cache: u64,
+                factor: f64,
+                room: *mut u64,
+                room_len: usize,
+                reading: u64,
+                $($own: $type,)*
+                row: *mut Row,
+            ) -> u64;)*
+        }
+    };
+}
+
+faces! {
+    frostaxle_absolute_inc(key: *const u8, key_len: usize, rate: f64, count: u64);
+    frostaxle_absolute_is_allowed(key: *const u8, key_len: usize);
+    frostaxle_absolute_get(key: *const u8, key_len: usize);
+    frostaxle_absolute_set_rate_limit(key: *const u8, key_len: usize, rate: f64);
+    frostaxle_absolute_delete(key: *const u8, key_len: usize);
+    frostaxle_absolute_clear();
+    frostaxle_absolute_set_if(key: *const u8, key_len: usize, rate: f64, count: u64, comparator: u64, operand: u64);
+    frostaxle_absolute_set_if_preserve_history(key: *const u8, key_len: usize, rate: f64, count: u64, comparator: u64, operand: u64, preservation: u64);
+    frostaxle_absolute_cleanup(stale: u64);
+    frostaxle_suppressed_inc(key: *const u8, key_len: usize, rate: f64, count: u64, draw: u64);
+    frostaxle_suppressed_get(key: *const u8, key_len: usize);
+    frostaxle_suppressed_get_suppression_factor(key: *const u8, key_len: usize);
+    frostaxle_suppressed_set_rate_limit(key: *const u8, key_len: usize, rate: f64);
+    frostaxle_suppressed_delete(key: *const u8, key_len: usize);
+    frostaxle_suppressed_clear();
+    frostaxle_suppressed_set_if(key: *const u8, key_len: usize, rate: f64, count: u64, comparator: u64, operand: u64);
+    frostaxle_suppressed_set_if_preserve_history(key: *const u8, key_len: usize, rate: f64, count: u64, comparator: u64, operand: u64, preservation: u64);
+    frostaxle_suppressed_cleanup(stale: u64);
+}
+
+#[cfg(test)]
+mod tests {
+    use super::*;
+
+    /// Numbers that name nothing are 14 before anything else is judged, and the room stays. The safe types cannot say them.
+    #[test]
+    fn no_call() {
+        let mut room = [7_u64; 3];
+        let mut row = [9_u64; 5];
+        let name = [0_u8; 40];
+        for (comparator, preservation) in [(5, 0), (u64::MAX, 1), (0, 2), (4, u64::MAX)] {
+            // SAFETY: the pointers and lengths are those of live slices that do not overlap.
+            let number = unsafe {
+                frostaxle_absolute_set_if_preserve_history(
+                    0,
+                    0,
+                    0,
+                    0.0,
+                    room.as_mut_ptr(),
+                    room.len(),
+                    0,
+                    name.as_ptr(),
+                    name.len(),
+                    0.0,
+                    1,
+                    comparator,
+                    0,
+                    preservation,
+                    &mut row,
+                )
+            };
+            assert_eq!((number, row, room), (14, [14, 0, 0, 0, 0], [7; 3]));
+        }
+        // SAFETY: as above.
+        let number = unsafe {
+            frostaxle_suppressed_set_if(
+                0,
+                0,
+                0,
+                0.0,
+                room.as_mut_ptr(),
+                room.len(),
+                0,
+                name.as_ptr(),
+                name.len(),
+                0.0,
+                1,
+                5,
+                0,
+                &mut row,
+            )
+        };
+        assert_eq!((number, row, room), (14, [14, 0, 0, 0, 0], [7; 3]));
+    }
+}

@@ -1,0 +1,36 @@
+//! Two rate limiters over rooms of plain words. The limiters are proved in Rattle and come as a static archive; here are
+//! safe types over its C face.
+//!
+//! ```
+//! use frostaxle::{Absolute, Decision, Room, Settings};
+//!
+//! let mut limiter = Absolute::new(Settings::default(), Room::new(8, 128)?);
+//! // reading 0 ms, rate 1.5 per second, count 1
+//! assert_eq!(limiter.inc(0, b"ctl7", 1.5, 1)?, Decision::Allowed);
+//! assert_eq!(limiter.get(50, b"ctl7")?, 1);
+//! # Ok::<(), frostaxle::Refusal>(())
+//! ```
+//!
+//! A reading is your clock in whole milliseconds, from any start; in one room it may not go back. A key is 0 to 32 bytes;
+//! a longer one is refused. A rate is per second; a key's limit is stored at its first increment or set. Every call
+//! returns: with its answer, or with a [`Refusal`], and then the room is as it was.
+//!
+//! Building: `rt staticlib abi` in the repository makes the archive. With cargo, `cargo build --offline` here finds it, or
+//! in the folder that `FROSTAXLE_LIB` names. With rustc alone, in the repository:
+//!
+//! ```text
+//! rustc --edition 2021 -O --crate-type rlib --crate-name frostaxle -L native=target/staticlib \
+//!     --out-dir target bindings/rust/src/lib.rs
+//! rustc --edition 2021 -O --extern frostaxle=target/libfrostaxle.rlib -L native=target/staticlib \
+//!     --out-dir target bindings/rust/examples/gateway.rs
+//! ```
+mod answer;
+mod faces;
+mod limiters;
+mod refusal;
+mod room;
+
+pub use answer::{Comparator, Decision, Preservation, SetOutcome, Snapshot};
+pub use limiters::{Absolute, Provider, Settings, Suppressed};
+pub use refusal::Refusal;
+pub use room::Room;

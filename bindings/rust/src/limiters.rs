@@ -1,0 +1,245 @@
+//! The limiters over rooms that they own.
+use crate::answer::{self, Comparator, Decision, Preservation, SetOutcome, Snapshot};
+use crate::faces::{self, Row};
+use crate::refusal::Refusal;
+use crate::room::Room;
+
+/// A room's settings: the same for its whole life.
+#[derive(Clone, Copy, Debug, PartialEq)]
+pub struct Settings {
+    /// How far back counts are added up: 1 to 33,554,432 seconds.
+    pub window_seconds: u64,
+    /// Counts this close to the newest bucket's start join it: 1 to 4,294,967,296 milliseconds.
+    pub bucket_millis: u64,
+    /// How long a suppressed key's factor is used again: 1 to 4,294,967,296 milliseconds.
+    pub cache_millis: u64,
+    /// The hard limit over the soft one, finite and at least 1.
+    pub hard_limit_factor: f64,
+}
+
+impl Default for Settings {
+    fn default() -> Self {
+        Settings { window_seconds: 10, bucket_millis: 100, cache_millis: 100, hard_limit_factor: 1.0 }
+    }
+}
+
+/// Calls a face with the settings, the room and the reading of `$self`, and gives the answer row.
+macro_rules! call {
+    ($self:ident, $face:ident, $reading:expr $(, $own:expr)*) => {{
+        let settings = $self.settings;
+        let room = $self.room.words_mut();
+        let mut row: Row = [0; 5];
+        // SAFETY: the face is proved to read and write only within the lent lengths, for any words and numbers. Each
+        // pointer and length is of a live slice; `room` and `row` are lent mutably, so nothing overlaps them.
+        unsafe {
+            faces::$face(
+                settings.window_seconds,
+                settings.bucket_millis,
+                settings.cache_millis,
+                settings.hard_limit_factor,
+                room.as_mut_ptr(),
+                room.len(),
+                $reading,
+                $($own,)*
+                &mut row,
+            )
+        };
+        row
+    }};
+}
+
+/// The calls that both limiters have, under their faces' names.
+macro_rules! shared {
+    ($limiter:ident, $set_rate_limit:ident, $delete:ident, $clear:ident, $set_if:ident, $preserve:ident, $cleanup:ident) => {
+        impl $limiter {
+            /// A limiter over a room. Settings and room are judged by each call.
+            pub fn new(settings: Settings, room: Room) -> Self {
+                $limiter { settings, room }
+            }
+
+            pub fn room(&self) -> &Room {
+                &self.room
+            }
+
+            pub fn into_room(self) -> Room {
+                self.room
+            }
+
+            /// Gives a known key another limit, and its old rate back; none for an unknown key.
+            pub fn set_rate_limit(&mut self, reading: u64, key: &[u8], rate: f64) -> Result<Option<f64>, Refusal> {
+                let row = call!(self, $set_rate_limit, reading, key.as_ptr(), key.len(), rate);
+                Ok(answer::known(row)?.map(f64::from_bits))
+            }
+
+            /// Forgets a key, and gives what it had; none for an unknown key.
+            pub fn delete(&mut self, reading: u64, key: &[u8]) -> Result<Option<u64>, Refusal> {
+                answer::known(call!(self, $delete, reading, key.as_ptr(), key.len()))
+            }
+
+            /// Forgets every key.
+            pub fn clear(&mut self, reading: u64) -> Result<(), Refusal> {
+                answer::values(call!(self, $clear, reading)).map(|_| ())
+            }
+
+            /// If the comparator is met, sets the key's limit and its total, in one bucket; count 0 forgets the key.
+            pub fn set_if(
+                &mut self,
+                reading: u64,
+                key: &[u8],
+                rate: f64,
+                count: u64,
+                comparator: Comparator,
+            ) -> Result<SetOutcome, Refusal> {
+                let (number, operand) = comparator.numbers();
+                answer::outcome(call!(self, $set_if, reading, key.as_ptr(), key.len(), rate, count, number, operand))
+            }
+
+            /// The same, but the buckets stay: the difference is added to one end, or taken from the other.
+            pub fn set_if_preserve_history(
+                &mut self,
+                reading: u64,
+                key: &[u8],
+                rate: f64,
+                count: u64,
+                comparator: Comparator,
+                preservation: Preservation,
+            ) -> Result<SetOutcome, Refusal> {
+                let (number, operand) = comparator.numbers();
+                answer::outcome(call!(
+                    self,
+                    $preserve,
+                    reading,
+                    key.as_ptr(),
+                    key.len(),
+                    rate,
+                    count,
+                    number,
+                    operand,
+                    preservation.number()
+                ))
+            }
+
+            /// Forgets keys without a bucket, or whose newest one is older than `stale` milliseconds.
+            pub fn cleanup(&mut self, reading: u64, stale: u64) -> Result<(), Refusal> {
+                answer::values(call!(self, $cleanup, reading, stale)).map(|_| ())
+            }
+        }
+    };
+}
+
+/// Lets a key through while its total is below its limit, rate * window.
+#[derive(Clone, Debug)]
+pub struct Absolute {
+    settings: Settings,
+    room: Room,
+}
+
+impl Absolute {
+    /// Counts `count` for a key, where it is allowed.
+    pub fn inc(&mut self, reading: u64, key: &[u8], rate: f64, count: u64) -> Result<Decision, Refusal> {
+        answer::decision(call!(self, frostaxle_absolute_inc, reading, key.as_ptr(), key.len(), rate, count))
+    }
+
+    /// What an increment would be told now, without counting.
+    pub fn is_allowed(&mut self, reading: u64, key: &[u8]) -> Result<Decision, Refusal> {
+        answer::decision(call!(self, frostaxle_absolute_is_allowed, reading, key.as_ptr(), key.len()))
+    }
+
+    /// A key's live total, 0 for an unknown key.
+    pub fn get(&mut self, reading: u64, key: &[u8]) -> Result<u64, Refusal> {
+        let [total, _, _] = answer::values(call!(self, frostaxle_absolute_get, reading, key.as_ptr(), key.len()))?;
+        Ok(total)
+    }
+}
+
+shared!(
+    Absolute,
+    frostaxle_absolute_set_rate_limit,
+    frostaxle_absolute_delete,
+    frostaxle_absolute_clear,
+    frostaxle_absolute_set_if,
+    frostaxle_absolute_set_if_preserve_history,
+    frostaxle_absolute_cleanup
+);
+
+/// Lets a share of calls through between a soft limit, rate * window, and a hard one.
+#[derive(Clone, Debug)]
+pub struct Suppressed {
+    settings: Settings,
+    room: Room,
+}
+
+impl Suppressed {
+    /// Counts, and decides by the forecast and `draw`, evenly drawn from 0 to 2^53 - 1.
+    pub fn inc(&mut self, reading: u64, key: &[u8], rate: f64, count: u64, draw: u64) -> Result<Decision, Refusal> {
+        answer::decision(call!(self, frostaxle_suppressed_inc, reading, key.as_ptr(), key.len(), rate, count, draw))
+    }
+
+    /// A key's live totals and its factor; zeros for an unknown key.
+    pub fn get(&mut self, reading: u64, key: &[u8]) -> Result<Snapshot, Refusal> {
+        answer::snapshot(call!(self, frostaxle_suppressed_get, reading, key.as_ptr(), key.len()))
+    }
+
+    /// A key's factor, which is cached; an unknown key takes a slot for it.
+    pub fn get_suppression_factor(&mut self, reading: u64, key: &[u8]) -> Result<f64, Refusal> {
+        let [factor, _, _] =
+            answer::values(call!(self, frostaxle_suppressed_get_suppression_factor, reading, key.as_ptr(), key.len()))?;
+        Ok(f64::from_bits(factor))
+    }
+}
+
+shared!(
+    Suppressed,
+    frostaxle_suppressed_set_rate_limit,
+    frostaxle_suppressed_delete,
+    frostaxle_suppressed_clear,
+    frostaxle_suppressed_set_if,
+    frostaxle_suppressed_set_if_preserve_history,
+    frostaxle_suppressed_cleanup
+);
+
+/// Both limiters under the same settings, and their common cleanup.
+#[derive(Clone, Debug)]
+pub struct Provider {
+    absolute: Absolute,
+    suppressed: Suppressed,
+}
+
+impl Provider {
+    pub fn new(settings: Settings, absolute: Room, suppressed: Room) -> Provider {
+        Provider { absolute: Absolute::new(settings, absolute), suppressed: Suppressed::new(settings, suppressed) }
+    }
+
+    pub fn absolute(&mut self) -> &mut Absolute {
+        &mut self.absolute
+    }
+
+    pub fn suppressed(&mut self) -> &mut Suppressed {
+        &mut self.suppressed
+    }
+
+    /// Cleans both rooms or neither.
+    pub fn cleanup(&mut self, reading: u64, stale: u64) -> Result<(), Refusal> {
+        let settings = self.absolute.settings;
+        let absolute = self.absolute.room.words_mut();
+        let suppressed = self.suppressed.room.words_mut();
+        let mut row: Row = [0; 5];
+        // SAFETY: as in `call`; the rooms are two, each lent mutably.
+        unsafe {
+            faces::frostaxle_provider_cleanup(
+                settings.window_seconds,
+                settings.bucket_millis,
+                settings.cache_millis,
+                settings.hard_limit_factor,
+                absolute.as_mut_ptr(),
+                absolute.len(),
+                suppressed.as_mut_ptr(),
+                suppressed.len(),
+                reading,
+                stale,
+                &mut row,
+            )
+        };
+        answer::values(row).map(|_| ())
+    }
+}

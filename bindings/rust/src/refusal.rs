@@ -1,0 +1,113 @@
+//! The numbered refusals.
+use std::error::Error;
+use std::fmt;
+
+/// Why a call was turned away. A refused call leaves the room as it was.
+#[derive(Clone, Copy, Debug, PartialEq, Eq, Hash)]
+#[non_exhaustive]
+pub enum Refusal {
+    BadWindow,
+    BadBucket,
+    BadCache,
+    BadFactor,
+    BadRoom,
+    ClockWentBack,
+    LongKey,
+    BadRate,
+    BadDraw,
+    TotalTooLarge,
+    NoFreeSlot,
+    RingFull,
+    NoPerceivedRate,
+    NoCall,
+    /// A number, or with 0 a case of an answer, that this binding has no name for: it is older than the archive.
+    Other(u64),
+}
+
+impl Refusal {
+    const NAMED: [Refusal; 14] = [
+        Refusal::BadWindow,
+        Refusal::BadBucket,
+        Refusal::BadCache,
+        Refusal::BadFactor,
+        Refusal::BadRoom,
+        Refusal::ClockWentBack,
+        Refusal::LongKey,
+        Refusal::BadRate,
+        Refusal::BadDraw,
+        Refusal::TotalTooLarge,
+        Refusal::NoFreeSlot,
+        Refusal::RingFull,
+        Refusal::NoPerceivedRate,
+        Refusal::NoCall,
+    ];
+
+    pub(crate) fn of(number: u64) -> Refusal {
+        Refusal::NAMED.into_iter().find(|refusal| refusal.number() == number).unwrap_or(Refusal::Other(number))
+    }
+
+    /// The refusal's number.
+    pub fn number(self) -> u64 {
+        match self {
+            Refusal::BadWindow => 1,
+            Refusal::BadBucket => 2,
+            Refusal::BadCache => 3,
+            Refusal::BadFactor => 4,
+            Refusal::BadRoom => 5,
+            Refusal::ClockWentBack => 6,
+            Refusal::LongKey => 7,
+            Refusal::BadRate => 8,
+            Refusal::BadDraw => 9,
+            Refusal::TotalTooLarge => 10,
+            Refusal::NoFreeSlot => 11,
+            Refusal::RingFull => 12,
+            Refusal::NoPerceivedRate => 13,
+            Refusal::NoCall => 14,
+            Refusal::Other(number) => number,
+        }
+    }
+
+    fn words(self) -> &'static str {
+        match self {
+            Refusal::BadWindow => "the window is not 1 to 33554432 seconds",
+            Refusal::BadBucket => "the bucket is not 1 to 4294967296 milliseconds",
+            Refusal::BadCache => "the cache period is not 1 to 4294967296 milliseconds",
+            Refusal::BadFactor => "the hard limit factor is not a finite number of at least 1",
+            Refusal::BadRoom => "the room's lengths are wrong, or the key's slot in it is damaged",
+            Refusal::ClockWentBack => "the reading is below that of an earlier call",
+            Refusal::LongKey => "the key is longer than 32 bytes",
+            Refusal::BadRate => "the rate is not a finite number of at least 2^-900 per second",
+            Refusal::BadDraw => "the draw is over 2^53 - 1",
+            Refusal::TotalTooLarge => "the key's total would pass 2^53",
+            Refusal::NoFreeSlot => "every slot of the room is in use",
+            Refusal::RingFull => "the key's ring of buckets is full",
+            Refusal::NoPerceivedRate => "a factor cannot be worked out at perceived rate zero",
+            Refusal::NoCall => "a number that stands for no comparator or preservation",
+            Refusal::Other(_) => "an answer that this binding does not know",
+        }
+    }
+}
+
+impl fmt::Display for Refusal {
+    fn fmt(&self, f: &mut fmt::Formatter<'_>) -> fmt::Result {
+        write!(f, "{} (refusal {})", self.words(), self.number())
+    }
+}
+
+impl Error for Refusal {}
+
+#[cfg(test)]
+mod tests {
+    use super::*;
+
+    #[test]
+    fn numbers_and_words() {
+        for number in 1..=14 {
+            let refusal = Refusal::of(number);
+            assert_ne!(refusal, Refusal::Other(number));
+            assert_eq!(refusal.number(), number);
+            assert!(refusal.to_string().ends_with(&format!("(refusal {number})")));
+        }
+        assert_eq!(Refusal::of(15), Refusal::Other(15));
+    }
+}

@@ -1,0 +1,100 @@
+/*
+ * A gateway that admits survey shots by both limiters, with readings made up so that the run is the same each time.
+ *
+ *     rt staticlib abi
+ *     cc -std=c11 -Wall -Wextra -Iinclude examples/c/gateway.c target/staticlib/libabi.a -o target/gateway
+ *     target/gateway
+ */
+#include <inttypes.h>
+#include <stdio.h>
+
+#include "frostaxle.h"
+
+enum { SLOTS = 8, RING = 128, WORDS = FROSTAXLE_ROOM_WORDS(SLOTS, RING) };
+
+/* The rooms are ours: two plain arrays. */
+static uint64_t absolute[WORDS];
+static uint64_t suppressed[WORDS];
+
+static const uint64_t window = FROSTAXLE_DEFAULT_WINDOW; /* 10 s */
+static const uint64_t bucket = FROSTAXLE_DEFAULT_BUCKET; /* 100 ms */
+static const uint64_t cache = FROSTAXLE_DEFAULT_CACHE;   /* 100 ms */
+static const double factor = 2.0;                        /* the hard limit is twice the soft one */
+
+static const uint8_t controller[] = {'c', 't', 'l', '7'};
+
+/* One shot at the absolute limiter, 1 a second. Gives how long to wait, 0 if it was admitted. */
+static uint64_t shot(uint64_t reading, uint64_t count) {
+    uint64_t row[FROSTAXLE_ROW_WORDS];
+    uint64_t refusal = frostaxle_absolute_inc(window, bucket, cache, factor, absolute, WORDS, reading, controller,
+                                              sizeof controller, 1.0, count, row);
+    printf("%6" PRIu64 " ms  %2" PRIu64 " shots: ", reading, count);
+    if (refusal != FROSTAXLE_OK) {
+        printf("refusal %" PRIu64 "\n", refusal);
+        return 0;
+    }
+    if (row[1] == FROSTAXLE_REJECTED) {
+        printf("no, ask again in %" PRIu64 " ms; the oldest bucket has %" PRIu64 "\n", row[3], row[4]);
+        return row[3];
+    }
+    printf("yes\n");
+    return 0;
+}
+
+/* A controller that is told no waits, and sends the same point again. */
+static void absolute_limiter(void) {
+    uint64_t reading = 0;
+    uint64_t wait;
+
+    printf("absolute limiter, 1 a second over 10 s\n");
+    shot(reading, 6);
+    shot(reading += 2000, 4);
+    while ((wait = shot(reading += 500, 1)) != 0) {
+        /* at the very end of the wait the oldest bucket is still in the window: one millisecond more */
+        reading += wait + 1 - 500;
+    }
+    /* a clock that goes back is a refusal, not a wrong answer */
+    shot(reading - 1, 1);
+}
+
+static void suppressed_limiter(void) {
+    /* readings, counts and draws; a program takes its draws from a random source */
+    static const struct { uint64_t reading, count, draw; } calls[] = {
+        {0, 8, 0}, {1500, 2, 0}, {1700, 5, UINT64_C(4503599627370496)}, {1760, 10, 0},
+    };
+    uint64_t row[FROSTAXLE_ROW_WORDS];
+    size_t i;
+
+    printf("suppressed limiter, 1 a second soft, 2 a second hard\n");
+    for (i = 0; i < sizeof calls / sizeof calls[0]; i++) {
+        frostaxle_suppressed_inc(window, bucket, cache, factor, suppressed, WORDS, calls[i].reading, controller,
+                                 sizeof controller, 1.0, calls[i].count, calls[i].draw, row);
+        printf("%6" PRIu64 " ms  %2" PRIu64 " shots: ", calls[i].reading, calls[i].count);
+        if (row[0] != FROSTAXLE_OK)
+            printf("refusal %" PRIu64 "\n", row[0]);
+        else if (row[1] == FROSTAXLE_ALLOWED)
+            printf("yes\n");
+        else
+            printf("%s at factor %.3f\n", row[3] ? "yes" : "no", frostaxle_double(row[2]));
+    }
+    if (frostaxle_suppressed_get(window, bucket, cache, factor, suppressed, WORDS, 11700, controller,
+                                 sizeof controller, row) == FROSTAXLE_OK)
+        printf(" 11700 ms  total %" PRIu64 ", declined %" PRIu64 ", factor %.3f\n", row[2], row[3],
+               frostaxle_double(row[4]));
+}
+
+int main(void) {
+    uint64_t row[FROSTAXLE_ROW_WORDS];
+
+    if (frostaxle_make(absolute, WORDS, SLOTS, RING) != FROSTAXLE_OK ||
+        frostaxle_make(suppressed, WORDS, SLOTS, RING) != FROSTAXLE_OK)
+        return 1;
+    absolute_limiter();
+    suppressed_limiter();
+    /* now and then: what nobody used for a minute goes */
+    if (frostaxle_provider_cleanup(window, bucket, cache, factor, absolute, WORDS, suppressed, WORDS, 80000, 60000,
+                                   row) != FROSTAXLE_OK)
+        return 1;
+    printf("cleaned up\n");
+    return 0;
+}
