@@ -1,0 +1,107 @@
+-- A cleanup with a stale time of at least the window keeps what holds of a key: a series that goes has no bucket that still counts.
+-- Assumes nothing.
+use mathlib.Core.Path.{_≡_, refl, sym, ap, ap₂, subst, _∙_}
+use mathlib.Core.Bool.{Bool, true, false, not, _&&_, _||_, false≢true}
+use mathlib.Core.List.{List, [], _∷_}
+use mathlib.Core.Logic.{_≢_}
+use Prim.Native.Nat.{ℕ, _-_, _≤_, _<_}
+use native.Mathlib.Decide.{decLt, ℕ-discrete}
+use native.Mathlib.Omega.{arith}
+use lib.Dec.{leb, ltb}
+use lib.ListN.{length}
+use borrow.Author.Tests.{ltb-false, leb-false}
+use Rattle.base.specs.Decides.{and-true, true-and}
+use Rattle.common.specs.Limits.{cutWord}
+use Rattle.common.specs.Settings.{windowIn, bucketIn}
+use Rattle.common.specs.declared.settings.Settings.{Settings}
+use Rattle.history.specs.Rules.{windowTicks, newest}
+use Rattle.ring.specs.declared.Bucket.{Bucket}
+use Rattle.ring.specs.Order.{Fine}
+use Rattle.ring.specs.Ring.{buckets}
+use Rattle.ring.specs.Sound.{soundBuckets, sound-true}
+use Rattle.room.specs.declared.Key.{Key}
+use Rattle.room.specs.Room.{slotsOf, ringOf, lastOf, useOf, keyAt, bodyOf, find}
+use Rattle.frame.specs.Distinct.{find-use, find-key, find-where}
+use Rattle.judge.specs.declared.RoomKind.the-variants as kind
+use Rattle.judge.specs.Sound.{limitOf, hasSeries, soundSeries}
+use Rattle.cleanup.specs.Cleanup.{seriesStays, refusal, cleanup}
+use Rattle.cleanup.specs.Laws.{Passed, passed, passed-sound, sound-parts, other-true}
+use Rattle.views.specs.Cleanup.{Cleaned, series-kept, clean-distinct, done-run, refused-words}
+use Rattle.spans.specs.Good.{Good, good-later, good-drop}
+use Rattle.spans.specs.Log.{Entry}
+use Rattle.demand3.specs.Kept.{Has, GoodAt, Kept}
+
+no-buckets : (xs : List Bucket) → length xs ≤ 0 → xs ≡ []
+no-buckets [] h = refl
+no-buckets (x ∷ xs) h = absurd (omega arith)
+
+-- a series that does not stay
+module _ (s : Settings) (le : bucketIn s ≤ windowTicks (windowIn s)) (limit stale : ℕ) (l : windowTicks (windowIn s) ≤ stale) where
+  dropped : (t hi : ℕ) (xs : List Bucket) (log : List Entry) → Fine 0 xs hi → seriesStays xs t stale ≡ false → GoodAt s limit t xs log → GoodAt s limit t [] log
+  unfolding seriesStays
+  dropped t hi xs log f e g = go (ltb 0 (length xs)) refl (leb (t - newest xs .time) stale) refl e
+    where
+      go : (a : Bool) → ltb 0 (length xs) ≡ a → (b : Bool) → leb (t - newest xs .time) stale ≡ b → a && b ≡ false → GoodAt s limit t [] log
+      go false p b q h = subst (λ (ys : List Bucket). GoodAt s limit t ys log) (no-buckets xs (ltb-false 0 (length xs) p)) g
+      go true p false q h = good-drop (windowTicks (windowIn s)) (bucketIn s) (cutWord limit) le stale 0 hi l f (leb-false (t - newest xs .time) stale q) g
+      go true p true q h = absurd (false≢true (sym h))
+
+  module _ (k : Key) (w v : List ℕ) (t : ℕ) (log : List Entry) (p : Passed kind.Suppressed s w t) (c : Cleaned w v t stale) (a : Kept s k limit w log) where
+    was : (i : ℕ) → Has v k i → Has w k i
+    was i h =
+        let n : i < slotsOf w = omega (arith, h .inside, c .slots) in
+        record { inside = n; key = sym (c .keys i) ∙ h .key; series = and-true (hasSeries (useOf w i)) _ (sym (series-kept c i n) ∙ h .series) .0 }
+
+    view-is : (i : ℕ) → buckets (ringOf v) (bodyOf v i) ≡ buckets (ringOf w) (bodyOf w i)
+    view-is i = ap₂ buckets (c .ring) (c .bodies i)
+
+    later : (xs : List Bucket) → GoodAt s limit (lastOf w) xs log → GoodAt s limit t xs log
+    later xs g = good-later (windowTicks (windowIn s)) (bucketIn s) (cutWord limit) le t (p .later) g
+
+    in-order : (i : ℕ) → Has w k i → Fine 0 (buckets (ringOf w) (bodyOf w i)) (lastOf w)
+    unfolding soundSeries
+    in-order i h =
+        let q = sound-parts kind.Suppressed s w i (passed-sound kind.Suppressed s w t p i (h .inside) (λ z. false≢true (sym (ap hasSeries z) ∙ h .series))) in
+        let r = other-true (hasSeries (useOf w i)) _ (h .series) (q .series) in
+        sound-true (ringOf w) (bodyOf w i) (lastOf w) (and-true (soundBuckets (ringOf w) (bodyOf w i) (lastOf w)) _ r .0) .each
+
+    -- no slot of v has k's series
+    gone : ((i : ℕ) → Has v k i → ⊥) → GoodAt s limit t [] log
+    gone f = go (decLt (find w k) (slotsOf w)) (hasSeries (useOf w (find w k))) refl
+      where
+        none : ((find w k < slotsOf w) → hasSeries (useOf w (find w k)) ≡ true → ⊥) → (i : ℕ) → Has w k i → ⊥
+        none n i h =
+            let e : find w k ≡ i = find-where w k i (a .distinct) (h .inside) (λ z. false≢true (sym (ap hasSeries z) ∙ h .series)) (h .key) in
+            n (omega (arith, h .inside)) (ap (λ (j : ℕ). hasSeries (useOf w j)) e ∙ h .series)
+
+        stood : (h : Has w k (find w k)) (z : Bool) → seriesStays (buckets (ringOf w) (bodyOf w (find w k))) t stale ≡ z → GoodAt s limit t [] log
+        stood h true e =
+            absurd (f (find w k) (record {
+              inside = omega (arith, h .inside, c .slots);
+              key = c .keys (find w k) ∙ h .key;
+              series = series-kept c (find w k) (h .inside) ∙ true-and (hasSeries (useOf w (find w k))) _ (h .series) e;
+            }))
+        stood h false e =
+            dropped t (lastOf w) (buckets (ringOf w) (bodyOf w (find w k))) log (in-order (find w k) h) e (later _ (a .good (find w k) h))
+
+        go : Dec (find w k < slotsOf w) → (z : Bool) → hasSeries (useOf w (find w k)) ≡ z → GoodAt s limit t [] log
+        go (yes n) true e = stood (record { inside = n; key = find-key w k n; series = e }) (seriesStays (buckets (ringOf w) (bodyOf w (find w k))) t stale) refl
+        go (yes n) false e = later [] (a .bare (none (λ m g. false≢true (sym e ∙ g))))
+        go (no n) z e = later [] (a .bare (none (λ m g. n m)))
+
+    cleaned-kept : Kept s k limit v log
+    cleaned-kept = record {
+      distinct = clean-distinct c (a .distinct);
+      limits = λ i h. ap (λ (y : List ℕ). limitOf y) (c .bodies i) ∙ a .limits i (was i h);
+      good = λ i h.
+          subst (λ (n : ℕ). GoodAt s limit n (buckets (ringOf v) (bodyOf v i)) log) (sym (c .last))
+          (subst (λ (xs : List Bucket). GoodAt s limit t xs log) (sym (view-is i)) (later _ (a .good i (was i h))));
+      bare = λ f. subst (λ (n : ℕ). GoodAt s limit n [] log) (sym (c .last)) (gone f);
+    }
+
+  pub cleanup-kept : (k : Key) (w : List ℕ) (t : ℕ) (log : List Entry) → Kept s k limit w log → Kept s k limit (cleanup kind.Suppressed s w t stale .words) log
+  cleanup-kept k w t log a = go (ℕ-discrete (refusal kind.Suppressed s w t) 0)
+    where
+      go : Dec (refusal kind.Suppressed s w t ≡ 0) → Kept s k limit (cleanup kind.Suppressed s w t stale .words) log
+      go (yes e) = cleaned-kept k w (cleanup kind.Suppressed s w t stale .words) t log (passed kind.Suppressed s w t e) (done-run kind.Suppressed s w t stale e) a
+      go (no n) = subst (λ (y : List ℕ). Kept s k limit y log) (sym (refused-words kind.Suppressed s w t stale n)) a
