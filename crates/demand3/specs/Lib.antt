@@ -4,3 +4,4 @@ pub mod Placed
 pub mod Places
 pub mod Decided
 pub mod Cleans
+pub mod Steps
