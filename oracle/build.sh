@@ -1,11 +1,20 @@
 #!/bin/sh
-# Builds the judge with rustc alone: the original source as it stands, small shims, the twin.
-# TRYPEMA_SRC names the folder of the original source.
+# Builds the judge with rustc alone: the original source as it stands, small shims, the twin, and the archive of the Rattle code
+# where there is one. TRYPEMA_SRC names the folder of the original source, FROSTAXLE_ARCHIVE the archive.
 set -eu
 cd "$(dirname "$0")"
 here=$(pwd)
 source=${TRYPEMA_SRC:-$here/../../shared/docs/src}
 source=$(cd "$source" && pwd)
+archive=$here/../target/staticlib/libabi.a
+linked=
+if [ -n "${FROSTAXLE_ARCHIVE:-}" ]; then
+    archive=$(realpath "$FROSTAXLE_ARCHIVE")
+    test -f "$archive" || { echo "no archive: $archive"; exit 2; }
+fi
+if [ -f "$archive" ]; then
+    linked="--cfg archive -C link-arg=$archive"
+fi
 ../twin/build.sh
 mkdir -p target
 rm -f target/original
@@ -18,7 +27,7 @@ for shim in ahash dashmap rand; do
     $rust --crate-type rlib --crate-name $shim shims/$shim.rs
 done
 # The original gives access to its private series under cfg(test).
-$rust --crate-name judge --cfg test -A explicit_builtin_cfgs_in_flags \
+$rust --crate-name judge $linked --cfg test -A explicit_builtin_cfgs_in_flags \
     --extern std_shim=target/libstd_shim.rlib --extern dashmap=target/libdashmap.rlib \
     --extern ahash=target/libahash.rlib --extern rand=target/librand.rlib \
     --extern strum_macros=target/libstrum_macros.so --extern thiserror=target/libthiserror.so \

@@ -14,7 +14,7 @@ use crate::state::{self, Key, LiveAt};
 use crate::words;
 
 /// What a row holds where no bucket is put.
-const UNTOUCHED: Bucket = Bucket { count: 11, declined: 12, time: 13 };
+pub const UNTOUCHED: Bucket = Bucket { count: 11, declined: 12, time: 13 };
 
 /// How many differing histories are printed.
 const SHOWN: u64 = 3;
@@ -25,6 +25,9 @@ pub struct Comparison {
     pub histories: u64,
     /// Calls put to the original and compared.
     pub calls: u64,
+    /// Calls put to the others, refused ones included, and those that one of them does not have.
+    pub with_others: u64,
+    pub without_others: u64,
     /// Refused calls: number and unchanged rooms judged.
     pub refused: u64,
     /// Histories that ended where 01 ends the comparison.
@@ -45,8 +48,21 @@ impl fmt::Display for Comparison {
         let Comparison { histories, calls, refused, ended, differed, .. } = self;
         write!(
             f,
-            "{histories} histories, {calls} calls compared, {refused} refusals judged, {ended} ended early by 01, {differed} differed"
+            "{histories} histories, {calls} calls compared with the original, {refused} refusals judged, {ended} ended early by 01; {}; {differed} differed",
+            who(&self.others, self.with_others, self.without_others)
         )
+    }
+}
+
+/// Which implementations over rooms were compared, and how many calls the others had.
+pub fn who(others: &[Box<dyn Limiters>], with: u64, without: u64) -> String {
+    let names: Vec<&str> = others.iter().map(|other| other.name()).collect();
+    match names[..] {
+        [] => "the twin ALONE: no archive of the Rattle code is linked".to_string(),
+        _ => format!(
+            "the twin and {}, the same {with} calls ({without} read-outs not: its C face has none)",
+            names.join(" and ")
+        ),
     }
 }
 
@@ -134,6 +150,8 @@ impl Comparison {
             others,
             histories: 0,
             calls: 0,
+            with_others: 0,
+            without_others: 0,
             refused: 0,
             ended: 0,
             differed: 0,
@@ -247,7 +265,7 @@ impl Comparison {
 
     /// The others must give the twin's answer and leave the twin's words, refused or not.
     fn judge_others(
-        &self,
+        &mut self,
         history: &History,
         settings: &Settings,
         reading: u64,
@@ -255,6 +273,11 @@ impl Comparison {
         answer: Answer,
     ) -> Result<(), Difference> {
         for other in &self.others {
+            if !other.offers(&call.op) {
+                self.without_others += 1;
+                continue;
+            }
+            self.with_others += 1;
             let mut rooms = history.before.clone();
             let mut row = history.row_before.clone();
             let told = other.call(settings, &mut rooms, reading, call, &mut row);
@@ -329,7 +352,7 @@ impl Comparison {
 }
 
 /// The first word in which two pairs of rooms differ.
-fn first_other_word(twin: &Rooms, other: &Rooms) -> String {
+pub fn first_other_word(twin: &Rooms, other: &Rooms) -> String {
     for kind in [Kind::Absolute, Kind::Suppressed] {
         let (twin, other) = (twin.of(kind), other.of(kind));
         if let Some(at) = twin.iter().zip(other).position(|(a, b)| a != b) {

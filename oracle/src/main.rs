@@ -1,15 +1,18 @@
 //! The judge: the original source, unchanged, beside every implementation over lent rooms.
-//! The original's files are modules of this crate, so that its private state can be read.
+//! The original's files are modules of this crate, so that its private state can be read; a formatter must pass them by.
 
 extern crate std_shim as std;
 
 #[allow(dead_code)]
+#[rustfmt::skip]
 #[path = "../target/original/builder.rs"]
 mod builder;
 #[allow(dead_code)]
+#[rustfmt::skip]
 #[path = "../target/original/common.rs"]
 mod common;
 #[allow(dead_code)]
+#[rustfmt::skip]
 #[path = "../target/original/error.rs"]
 mod error;
 
@@ -25,6 +28,7 @@ pub(crate) use common::{
 pub(crate) use error::TrypemaError;
 
 mod all_short;
+mod broken;
 mod compare;
 mod desk_check;
 mod desk_lines;
@@ -32,8 +36,12 @@ mod expected;
 mod loaded;
 mod original;
 mod random;
+#[cfg(archive)]
+mod rattle;
 mod sample;
 mod state;
+mod together;
+mod trial;
 mod units_check;
 mod words;
 
@@ -58,6 +66,11 @@ fn main() {
             random::run_one(&mut comparison, number(seed));
             println!("{comparison}");
         }
+        ["broken", rooms, seed] => {
+            let trials = broken::run(number(rooms), number(seed));
+            println!("{trials}");
+            std::process::exit(i32::from(trials.differed > 0));
+        }
         [calls, seed] => compare(number(calls), number(seed), Comparison::new(others())),
         [calls, seed, "tally"] => {
             let tally = Some(Default::default());
@@ -68,14 +81,20 @@ fn main() {
             compare(number(calls), number(seed), first);
         }
         _ => panic!(
-            "CALLS SEED [tally | first], history SEED, sample CALLS SEED, or desk LINES SEED"
+            "CALLS SEED [tally | first], history SEED, broken ROOMS SEED, sample CALLS SEED, or desk LINES SEED"
         ),
     }
 }
 
 /// Implementations over rooms that must agree with the twin to the word.
-fn others() -> Vec<Box<dyn Limiters>> {
-    vec![]
+type Others = Vec<Box<dyn Limiters>>;
+
+/// The Rattle code, where its archive is linked.
+fn others() -> Others {
+    #[cfg(archive)]
+    return vec![Box::new(rattle::Rattle)];
+    #[cfg(not(archive))]
+    return vec![];
 }
 
 /// Desk inputs, random histories and all short ones, and units; one line.

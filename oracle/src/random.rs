@@ -1,6 +1,6 @@
 //! Random histories that crowd the boundaries, from a generator of our own.
 
-use twin::calls::{Call, Op};
+use twin::calls::{Call, Op, Rooms};
 use twin::room::{is_room, last_reading};
 use twin::rules::{Comparator, Kind, Mode, Settings};
 use twin::set::Wanted;
@@ -86,7 +86,7 @@ pub fn rate(dice: &mut Dice, settings: &Settings) -> f64 {
     }
 }
 
-fn bad_rate(dice: &mut Dice) -> f64 {
+pub fn bad_rate(dice: &mut Dice) -> f64 {
     let least = 2f64.powi(-900);
     dice.pick(&[
         0.0,
@@ -100,7 +100,7 @@ fn bad_rate(dice: &mut Dice) -> f64 {
     ])
 }
 
-fn bad_settings(dice: &mut Dice, good: &Settings) -> Settings {
+pub fn bad_settings(dice: &mut Dice, good: &Settings) -> Settings {
     let mut bad = *good;
     for _ in 0..=dice.below(2) {
         match dice.below(4) {
@@ -328,7 +328,12 @@ fn start<'a>(
     History::from_rooms(settings, rooms, keys)
 }
 
-fn one_history(comparison: &mut Comparison, keys: &[Key], seed: u64) {
+/// A random history, unless the comparison ends it.
+fn played<'a>(
+    comparison: &mut Comparison,
+    keys: &'a [Key],
+    seed: u64,
+) -> Option<(History<'a>, Source)> {
     let mut dice = Dice::new(seed);
     let is_steady = dice.once_in(3);
     let settings = settings(&mut dice, is_steady);
@@ -361,13 +366,13 @@ fn one_history(comparison: &mut Comparison, keys: &[Key], seed: u64) {
             false => settings,
         };
         if !comparison.step(&mut history, &given, reading, Call { key, op }) {
-            return;
+            return None;
         }
         let last =
             last_reading(&history.rooms.absolute).max(last_reading(&history.rooms.suppressed));
         source.now = source.now.max(last);
     }
-    on_damaged(comparison, history, source);
+    Some((history, source))
 }
 
 /// One more call, once words are damaged.
@@ -386,15 +391,25 @@ fn on_damaged(comparison: &mut Comparison, mut history: History, mut source: Sou
     comparison.step_without_original(&mut history, reading, Call { key, op });
 }
 
-fn key_pool() -> Vec<Key> {
+pub fn key_pool() -> Vec<Key> {
     KEY_POOL.iter().map(|bytes| Key::new(bytes)).collect()
 }
 
 /// The one history of a seed.
 pub fn run_one(comparison: &mut Comparison, seed: u64) {
     comparison.seed = Some(seed);
-    one_history(comparison, &key_pool(), seed);
+    let keys = key_pool();
+    if let Some((history, source)) = played(comparison, &keys, seed) {
+        on_damaged(comparison, history, source);
+    }
     comparison.seed = None;
+}
+
+/// The settings of a random history and the rooms that it leaves.
+pub fn rooms_left(comparison: &mut Comparison, seed: u64) -> Option<(Settings, Rooms)> {
+    let keys = key_pool();
+    let (history, _) = played(comparison, &keys, seed)?;
+    Some((history.settings, history.rooms))
 }
 
 /// Histories until so many calls are compared.

@@ -93,6 +93,11 @@ pub type Row = Vec<Bucket>;
 pub trait Limiters {
     fn name(&self) -> &'static str;
 
+    /// Whether it has this call: an archive's C face may lack one.
+    fn offers(&self, _op: &Op) -> bool {
+        true
+    }
+
     fn call(
         &self,
         settings: &Settings,

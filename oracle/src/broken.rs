@@ -1,0 +1,380 @@
+//! Rooms that no call made: good ones with words changed, wrong lengths, and random words.
+
+use twin::calls::{Call, Op, Rooms};
+use twin::room::{is_room, words_of};
+use twin::rules::{Comparator, Kind, Mode, Settings};
+use twin::set::Wanted;
+
+use crate::compare::Comparison;
+use crate::random::{Dice, bad_rate, bad_settings, key_pool, rate, rooms_left};
+use crate::state::Key;
+use crate::together;
+use crate::trial::Trials;
+use crate::{Others, others};
+
+const TOP: u64 = 1 << 53;
+const HEADER: usize = 3;
+const ENTRY: usize = 6;
+const FIXED: usize = 7;
+
+/// What the calls on one room are drawn from.
+struct Scene<'a> {
+    dice: &'a mut Dice,
+    settings: Settings,
+    kind: Kind,
+    /// The other room, for the provider's cleanup.
+    beside: Vec<u64>,
+    last: u64,
+    keys: &'a [Key],
+}
+
+const CALLS: u64 = 10;
+
+impl Scene<'_> {
+    fn count(&mut self) -> u64 {
+        match self.dice.once_in(6) {
+            true => self.dice.pick(&[TOP - 2, TOP - 1, TOP, TOP + 1, u64::MAX, 1 << 63]),
+            false => self.dice.below(8),
+        }
+    }
+
+    fn rate(&mut self) -> f64 {
+        match self.dice.once_in(40) {
+            true => bad_rate(self.dice),
+            false => rate(self.dice, &self.settings),
+        }
+    }
+
+    fn wanted(&mut self) -> Wanted {
+        let operand = self.dice.below(4);
+        let comparator = match self.dice.below(8) {
+            0 => Comparator::Eq(operand),
+            1 => Comparator::Lt(operand),
+            2 => Comparator::Gt(operand),
+            3 => Comparator::Ne(operand),
+            _ => Comparator::Always,
+        };
+        let mode = self.dice.pick(&[Mode::Replace, Mode::PreserveNewest, Mode::PreserveOldest]);
+        Wanted { rate: self.rate(), comparator, count: self.count(), mode }
+    }
+
+    fn stale(&mut self) -> u64 {
+        let random = self.dice.below(20_000);
+        self.dice.pick(&[0, 1, 500, random, random, u64::MAX])
+    }
+
+    /// The call of a number below `CALLS`.
+    fn op(&mut self, number: u64) -> Op {
+        let kind = self.kind;
+        let absolute = kind == Kind::Absolute;
+        match number {
+            0 if absolute => Op::AbsoluteInc { rate: self.rate(), count: self.count() },
+            0 => {
+                let within = self.dice.below(TOP);
+                let odd = self.dice.pick(&[0, TOP - 1, TOP / 2, TOP, u64::MAX]);
+                let draw = if self.dice.once_in(4) { odd } else { within };
+                Op::SuppressedInc { rate: self.rate(), count: self.count(), draw }
+            }
+            1 if absolute => Op::IsAllowed,
+            1 => Op::GetSuppressionFactor,
+            2 if absolute => Op::AbsoluteGet,
+            2 => Op::SuppressedGet,
+            3 => Op::SetRateLimit { kind, rate: self.rate() },
+            4 => Op::Delete { kind },
+            5 => Op::Clear { kind },
+            6 => Op::Set { kind, wanted: self.wanted() },
+            7 => Op::Cleanup { kind, stale: self.stale() },
+            8 => Op::CleanupBoth { stale: self.stale() },
+            _ => Op::ReadOut { kind },
+        }
+    }
+
+    fn reading(&mut self) -> u64 {
+        let Settings { window, bucket, cache, .. } = self.settings;
+        let dice = &mut *self.dice;
+        let rises = [0, 0, 1, bucket, bucket + 1, cache, 1000, 1000 * window, 1000 * window + 1];
+        match dice.below(24) {
+            0 => self.last.saturating_sub(1),
+            1 => dice.pick(&[0, u64::MAX]),
+            _ => self.last.saturating_add(dice.pick(&rises)),
+        }
+    }
+
+    fn key(&mut self, own: &[u8]) -> Vec<u8> {
+        match self.dice.below(40) {
+            0 => vec![b'k'; self.dice.pick(&[33, 40, 1000])],
+            1..=9 => self.keys[self.dice.below(self.keys.len() as u64) as usize].bytes.clone(),
+            _ => own.to_vec(),
+        }
+    }
+
+    fn rooms(&self, room: &[u64]) -> Rooms {
+        let (room, beside) = (room.to_vec(), self.beside.clone());
+        match self.kind {
+            Kind::Absolute => Rooms { absolute: room, suppressed: beside },
+            Kind::Suppressed => Rooms { absolute: beside, suppressed: room },
+        }
+    }
+
+    /// Every call once, each on the room as it is, or now and then one after another.
+    fn try_all(&mut self, trials: &mut Trials, room: &[u64], own: &[u8]) {
+        trials.count_room(self.kind, room);
+        let in_a_row = self.dice.once_in(8);
+        let last = self.last;
+        if is_room(room) && self.dice.once_in(2) {
+            self.last = room[2];
+        }
+        let mut rooms = self.rooms(room);
+        for number in 0..CALLS {
+            if !in_a_row {
+                rooms = self.rooms(room);
+            }
+            let (op, reading, key) = (self.op(number), self.reading(), self.key(own));
+            let settings = match self.dice.once_in(100) {
+                true => bad_settings(self.dice, &self.settings),
+                false => self.settings,
+            };
+            trials.put(&settings, &mut rooms, reading, Call { key: &key, op });
+            if in_a_row && is_room(rooms.of(self.kind)) {
+                self.last = rooms.of(self.kind)[2];
+            }
+        }
+        self.last = last;
+    }
+}
+
+/// Where a place lies: the slot it belongs to.
+fn slot_of(room: &[u64], at: usize) -> usize {
+    let (slots, size) = (room[0] as usize, FIXED + 3 * room[1] as usize);
+    match at.checked_sub(HEADER) {
+        None => 0,
+        Some(at) if at < ENTRY * slots => at / ENTRY,
+        Some(at) => (at - ENTRY * slots) / size,
+    }
+}
+
+/// The key that a directory entry shows.
+fn key_at(room: &[u64], slot: usize) -> Vec<u8> {
+    let entry = &room[HEADER + ENTRY * slot..][..ENTRY];
+    let bytes = entry[2..].iter().flat_map(|word| word.to_le_bytes());
+    bytes.take(entry[1].min(32) as usize).collect()
+}
+
+/// What a word is changed to: 0 and 1, its neighbours, ends of ranges, doubles, and the room's own lengths and reading.
+fn values(room: &[u64], at: usize) -> Vec<u64> {
+    let (old, one) = (room[at], 1f64.to_bits());
+    let mut values = vec![
+        0,
+        1,
+        old.wrapping_add(1),
+        old.wrapping_sub(1),
+        TOP,
+        TOP + 1,
+        1 << 63,
+        u64::MAX,
+        f64::NAN.to_bits(),
+        (-0.0f64).to_bits(),
+        one,
+        one + 1,
+        f64::INFINITY.to_bits(),
+        2,
+        room[1],
+        room[2],
+        room[2].wrapping_add(1),
+    ];
+    values.retain(|value| *value != old);
+    values.sort_unstable();
+    values.dedup();
+    values
+}
+
+/// One word changed, in each place, to each value.
+fn one_word(scene: &mut Scene, trials: &mut Trials, good: &[u64]) {
+    let mut room = good.to_vec();
+    for at in 0..good.len() {
+        let slot = match at {
+            0..HEADER => scene.dice.below(good[0]) as usize,
+            _ => slot_of(good, at),
+        };
+        for value in values(good, at) {
+            room[at] = value;
+            // A changed key is asked for as it was and as it shows now.
+            let shown = if scene.dice.once_in(2) && at >= HEADER { &room } else { good };
+            let own = key_at(shown, slot);
+            scene.try_all(trials, &room, &own);
+        }
+        room[at] = good[at];
+    }
+}
+
+/// Two words changed, mostly in one slot.
+fn two_words(scene: &mut Scene, trials: &mut Trials, good: &[u64], times: u64) {
+    for _ in 0..times {
+        let mut room = good.to_vec();
+        let slot = scene.dice.below(good[0]) as usize;
+        let mine: Vec<usize> =
+            (HEADER..good.len()).filter(|at| slot_of(good, *at) == slot).collect();
+        for _ in 0..2 {
+            let at = match scene.dice.once_in(5) {
+                true => scene.dice.below(good.len() as u64) as usize,
+                false => scene.dice.pick(&mine),
+            };
+            room[at] = scene.dice.pick(&values(good, at));
+        }
+        scene.try_all(trials, &room, &key_at(good, slot));
+    }
+}
+
+/// Other lengths under the same words, and other headers over the same length.
+fn lengths(scene: &mut Scene, trials: &mut Trials, good: &[u64]) {
+    let own = key_at(good, 0);
+    let (slots, ring, all) = (good[0], good[1], good.len());
+    for length in [0, 1, 2, 3, 4, 9, all - 1, all - 3] {
+        scene.try_all(trials, &good[..length.min(all)], &own);
+    }
+    for more in 1..4 {
+        let longer: Vec<u64> = good.iter().copied().chain((0..more).map(|_| 0)).collect();
+        scene.try_all(trials, &longer, &own);
+    }
+    // Sums past 2^64 come to the same length at slots 2 or 4, and at a ring of 1.
+    let more_slots = [0, slots - 1, slots + 1, 64, 65, slots + (1 << 60), u64::MAX];
+    let more_rings =
+        [0, ring - 1, ring + 1, 512, 513, ring + (1 << 62), ring + (1 << 63), u64::MAX];
+    let headers = more_slots.map(|n| (n, ring)).into_iter().chain(more_rings.map(|r| (slots, r)));
+    let same_length = (1..=64).filter_map(|n| {
+        let size = (all - HEADER) as u64;
+        let cells = (size / n).checked_sub((ENTRY + FIXED) as u64)?;
+        (size.is_multiple_of(n) && cells.is_multiple_of(3)).then_some((n, cells / 3))
+    });
+    let mut room = good.to_vec();
+    for (n, r) in headers.chain(same_length).filter(|header| *header != (slots, ring)) {
+        room[..2].copy_from_slice(&[n, r]);
+        scene.try_all(trials, &room, &own);
+    }
+}
+
+/// Words of which nothing is known, or a header that fits them.
+fn wild(dice: &mut Dice) -> Vec<u64> {
+    let length = dice.below(90);
+    let mut room: Vec<u64> = (0..length).map(|_| dice.any()).collect();
+    if dice.once_in(2) {
+        let (slots, ring) = (dice.below(4) + 1, dice.below(5) + 1);
+        room = (0..words_of(slots as usize, ring as usize))
+            .map(|_| if dice.once_in(3) { dice.any() } else { dice.below(4) })
+            .collect();
+        room[..2].copy_from_slice(&[slots, ring]);
+        for at in 0..slots as usize {
+            room[HEADER + ENTRY * at] = dice.below(5);
+        }
+    }
+    room
+}
+
+/// Each word drawn for its place, so that a slot is sound now and then.
+fn likely(dice: &mut Dice, settings: &Settings, keys: &[Key]) -> Vec<u64> {
+    let (slots, ring) = (dice.below(3) as usize + 1, dice.below(3) as usize + 1);
+    let mut room = vec![0; words_of(slots, ring)];
+    let last = dice.pick(&[0, 1, 5, 5000, u64::MAX]);
+    room[..HEADER].copy_from_slice(&[slots as u64, ring as u64, last]);
+    for slot in 0..slots {
+        let entry = HEADER + ENTRY * slot;
+        let key = &keys[dice.below(3) as usize].bytes;
+        room[entry] = dice.pick(&[0, 1, 1, 1, 2, 3, 3, 4]);
+        room[entry + 1] = key.len() as u64;
+        room[entry + 2] = key.first().map_or(0, |byte| u64::from(*byte));
+        if dice.once_in(12) {
+            room[entry + 1 + dice.below(5) as usize] = dice.pick(&[0, 1, 2, 33, 1 << 40, 1 << 63]);
+        }
+        let start = HEADER + ENTRY * slots + slot * (FIXED + 3 * ring);
+        likely_body(dice, settings, &mut room[start..][..FIXED + 3 * ring], last);
+    }
+    room
+}
+
+fn likely_body(dice: &mut Dice, settings: &Settings, body: &mut [u64], last: u64) {
+    let ring = ((body.len() - FIXED) / 3) as u64;
+    let usual = rate(dice, settings);
+    let limit = dice.pick(&[usual, usual, 1.0, 2.5, 0.0, -1.0, f64::NAN, 5e-324, f64::INFINITY]);
+    let factor = dice.pick(&[0.0, 1.0, 0.5, 1.0 + f64::EPSILON, -0.0, f64::NAN]);
+    let few = |dice: &mut Dice| dice.pick(&[0, 0, 0, 1, 1, 2]);
+    let time = |dice: &mut Dice| match dice.below(8) {
+        0 => last.wrapping_add(1),
+        1 => last.saturating_sub(1),
+        _ => last,
+    };
+    let head = dice.below(ring + 1);
+    let buckets = dice.below(ring + 2).min(dice.below(ring + 2));
+    let (total, declined) = (few(dice), few(dice));
+    let factor_time = time(dice);
+    body[..FIXED].copy_from_slice(&[
+        limit.to_bits(),
+        total,
+        declined,
+        head,
+        buckets,
+        factor.to_bits(),
+        factor_time,
+    ]);
+    for cell in body[FIXED..].chunks_mut(3) {
+        cell.copy_from_slice(&[few(dice), few(dice) / 2, time(dice)]);
+    }
+    if dice.once_in(20) {
+        // Sums past 2^64 and totals at the top.
+        let top = dice.pick(&[TOP, TOP + 1, 1 << 63, u64::MAX]);
+        let at = dice.pick(&[1, 2, FIXED, FIXED + 1]);
+        body[at] = top;
+    }
+}
+
+/// Rooms at the ends of the lengths' ranges.
+fn ends(scene: &mut Scene, trials: &mut Trials) {
+    for (slots, ring) in [(64, 512), (65, 512), (64, 513), (1, 512), (64, 1), (65, 1), (1, 513)] {
+        let mut room = vec![0; words_of(slots, ring)];
+        room[..2].copy_from_slice(&[slots as u64, ring as u64]);
+        scene.try_all(trials, &room, b"a");
+    }
+}
+
+/// All damage to one history's rooms, then as many random rooms.
+fn around(trials: &mut Trials, dice: &mut Dice, settings: Settings, rooms: &Rooms, keys: &[Key]) {
+    for kind in [Kind::Absolute, Kind::Suppressed] {
+        let other = if kind == Kind::Absolute { Kind::Suppressed } else { Kind::Absolute };
+        let (good, beside) = (rooms.of(kind), rooms.of(other).to_vec());
+        let last = good[2];
+        let mut scene = Scene { dice, settings, kind, beside, last, keys };
+        one_word(&mut scene, trials, good);
+        two_words(&mut scene, trials, good, 200);
+        lengths(&mut scene, trials, good);
+        for _ in 0..200 {
+            let room = match scene.dice.once_in(4) {
+                true => wild(scene.dice),
+                false => likely(scene.dice, &settings, keys),
+            };
+            scene.last = room.get(2).copied().unwrap_or_default();
+            let own = scene.dice.pick(&[&keys[0], &keys[1], &keys[2]]).bytes.clone();
+            scene.try_all(trials, &room, &own);
+        }
+    }
+}
+
+/// So many damaged rooms, and every set of refusals together; one line.
+pub fn run(rooms: u64, seed: u64) -> Trials {
+    let mut trials = Trials::new(others());
+    let mut dice = Dice::new(seed);
+    let keys = key_pool();
+    let mut histories = Comparison::new(Others::new());
+    let settings = Settings::default();
+    for kind in [Kind::Absolute, Kind::Suppressed] {
+        let beside = twin::room::empty_room(2, 2);
+        let dice = &mut dice;
+        ends(&mut Scene { dice, settings, kind, beside, last: 0, keys: &keys }, &mut trials);
+    }
+    while trials.damaged < rooms && trials.differed < 100 {
+        if let Some((settings, rooms)) = rooms_left(&mut histories, dice.any()) {
+            around(&mut trials, &mut dice, settings, &rooms, &keys);
+        }
+    }
+    together::run(&mut trials, &mut dice);
+    trials.differed += histories.differed;
+    trials
+}

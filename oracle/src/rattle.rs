@@ -1,0 +1,322 @@
+//! The Rattle code, over the C face of its archive. What is lent stands between words that no call may reach.
+
+use twin::calls::{Answer, Call, Limiters, Op, Rooms, Row};
+use twin::rules::{Comparator, Kind, Mode, Settings};
+use twin::set::Wanted;
+
+/// The archive's functions: settings, a room, a reading, what the call asks for, and the row of five words for the answer.
+macro_rules! faces {
+    ($($name:ident($($argument:ident: $type:ty),*);)*) => {
+        unsafe extern "C" {
+            $(fn $name(
+                window: u64,
+                bucket: u64,
+                cache: u64,
+                factor: f64,
+                room: *mut u64,
+                words: usize,
+                $($argument: $type,)*
+                row: *mut u64,
+            ) -> u64;)*
+        }
+    };
+}
+
+faces! {
+    frostaxle_absolute_inc(reading: u64, key: *const u8, length: usize, rate: f64, count: u64);
+    frostaxle_absolute_is_allowed(reading: u64, key: *const u8, length: usize);
+    frostaxle_absolute_get(reading: u64, key: *const u8, length: usize);
+    frostaxle_absolute_set_rate_limit(reading: u64, key: *const u8, length: usize, rate: f64);
+    frostaxle_absolute_delete(reading: u64, key: *const u8, length: usize);
+    frostaxle_absolute_clear(reading: u64);
+    frostaxle_absolute_set_if(
+        reading: u64, key: *const u8, length: usize, rate: f64, count: u64, comparator: u64, operand: u64
+    );
+    frostaxle_absolute_set_if_preserve_history(
+        reading: u64, key: *const u8, length: usize, rate: f64, count: u64, comparator: u64, operand: u64, preservation: u64
+    );
+    frostaxle_absolute_cleanup(reading: u64, stale: u64);
+    frostaxle_suppressed_inc(reading: u64, key: *const u8, length: usize, rate: f64, count: u64, draw: u64);
+    frostaxle_suppressed_get(reading: u64, key: *const u8, length: usize);
+    frostaxle_suppressed_get_suppression_factor(reading: u64, key: *const u8, length: usize);
+    frostaxle_suppressed_set_rate_limit(reading: u64, key: *const u8, length: usize, rate: f64);
+    frostaxle_suppressed_delete(reading: u64, key: *const u8, length: usize);
+    frostaxle_suppressed_clear(reading: u64);
+    frostaxle_suppressed_set_if(
+        reading: u64, key: *const u8, length: usize, rate: f64, count: u64, comparator: u64, operand: u64
+    );
+    frostaxle_suppressed_set_if_preserve_history(
+        reading: u64, key: *const u8, length: usize, rate: f64, count: u64, comparator: u64, operand: u64, preservation: u64
+    );
+    frostaxle_suppressed_cleanup(reading: u64, stale: u64);
+    frostaxle_provider_cleanup(suppressed: *mut u64, suppressed_words: usize, reading: u64, stale: u64);
+}
+
+/// What stands on both sides of lent words, and in a row before the call.
+const GUARD: u64 = 0x5a5a_a5a5_c3c3_3c3c;
+const GUARDS: usize = 8;
+const ROW: usize = 5;
+
+/// Words with guards on both sides.
+struct Lent(Vec<u64>);
+
+impl Lent {
+    fn new(words: &[u64]) -> Self {
+        let mut lent = vec![GUARD; words.len() + 2 * GUARDS];
+        lent[GUARDS..GUARDS + words.len()].copy_from_slice(words);
+        Lent(lent)
+    }
+
+    fn words(&mut self) -> &mut [u64] {
+        let end = self.0.len() - GUARDS;
+        &mut self.0[GUARDS..end]
+    }
+
+    /// The words back, if the guards stand.
+    fn give_back(mut self, to: &mut [u64]) {
+        to.copy_from_slice(self.words());
+        let end = self.0.len() - GUARDS;
+        let guards = self.0[..GUARDS].iter().chain(&self.0[end..]);
+        assert!(guards.copied().all(|word| word == GUARD), "a call wrote outside what it was lent");
+    }
+}
+
+/// A comparator's number and operand.
+fn comparator_numbers(comparator: Comparator) -> (u64, u64) {
+    match comparator {
+        Comparator::Always => (0, 0),
+        Comparator::Eq(operand) => (1, operand),
+        Comparator::Lt(operand) => (2, operand),
+        Comparator::Gt(operand) => (3, operand),
+        Comparator::Ne(operand) => (4, operand),
+    }
+}
+
+/// One call under way: its settings, reading and key, the lent rooms and the row.
+struct Face<'a> {
+    settings: Settings,
+    reading: u64,
+    key: &'a [u8],
+    absolute: Lent,
+    suppressed: Lent,
+    row: Lent,
+}
+
+/// A function of the archive on one of the rooms, with what follows the reading.
+macro_rules! call {
+    ($face:ident.$room:ident, $function:ident $(, $argument:expr)*) => {{
+        let Settings { window, bucket, cache, factor } = $face.settings;
+        let (reading, room, row) = ($face.reading, $face.$room.words(), $face.row.words());
+        let (start, words) = (room.as_mut_ptr(), room.len());
+        // The room, the key and the row live through the call, and only the call has them.
+        unsafe {
+            $function(
+                window, bucket, cache, factor, start, words, reading $(, $argument)*, row.as_mut_ptr(),
+            )
+        }
+    }};
+}
+
+/// The function of the room's kind.
+macro_rules! either {
+    ($face:ident, $kind:expr, $absolute:ident | $suppressed:ident $(, $argument:expr)*) => {
+        match $kind {
+            Kind::Absolute => call!($face.absolute, $absolute $(, $argument)*),
+            Kind::Suppressed => call!($face.suppressed, $suppressed $(, $argument)*),
+        }
+    };
+}
+
+impl Face<'_> {
+    fn set(&mut self, kind: Kind, wanted: Wanted) -> u64 {
+        let (key, length) = (self.key.as_ptr(), self.key.len());
+        let Wanted { rate, comparator, count, mode } = wanted;
+        let (number, operand) = comparator_numbers(comparator);
+        let preservation = match mode {
+            Mode::Replace => {
+                return either!(
+                    self,
+                    kind,
+                    frostaxle_absolute_set_if | frostaxle_suppressed_set_if,
+                    key,
+                    length,
+                    rate,
+                    count,
+                    number,
+                    operand
+                );
+            }
+            Mode::PreserveNewest => 0,
+            Mode::PreserveOldest => 1,
+        };
+        either!(
+            self,
+            kind,
+            frostaxle_absolute_set_if_preserve_history
+                | frostaxle_suppressed_set_if_preserve_history,
+            key,
+            length,
+            rate,
+            count,
+            number,
+            operand,
+            preservation
+        )
+    }
+
+    fn cleanup_both(&mut self, stale: u64) -> u64 {
+        let Settings { window, bucket, cache, factor } = self.settings;
+        let (absolute, suppressed) = (self.absolute.words(), self.suppressed.words());
+        let (start, words) = (suppressed.as_mut_ptr(), suppressed.len());
+        let row = self.row.words().as_mut_ptr();
+        unsafe {
+            frostaxle_provider_cleanup(
+                window,
+                bucket,
+                cache,
+                factor,
+                absolute.as_mut_ptr(),
+                absolute.len(),
+                start,
+                words,
+                self.reading,
+                stale,
+                row,
+            )
+        }
+    }
+
+    /// Makes the call; gives the number that the function returns.
+    fn make(&mut self, op: Op) -> u64 {
+        let (key, length) = (self.key.as_ptr(), self.key.len());
+        match op {
+            Op::AbsoluteInc { rate, count } => {
+                call!(self.absolute, frostaxle_absolute_inc, key, length, rate, count)
+            }
+            Op::IsAllowed => call!(self.absolute, frostaxle_absolute_is_allowed, key, length),
+            Op::AbsoluteGet => call!(self.absolute, frostaxle_absolute_get, key, length),
+            Op::SuppressedInc { rate, count, draw } => {
+                call!(self.suppressed, frostaxle_suppressed_inc, key, length, rate, count, draw)
+            }
+            Op::SuppressedGet => call!(self.suppressed, frostaxle_suppressed_get, key, length),
+            Op::GetSuppressionFactor => {
+                call!(self.suppressed, frostaxle_suppressed_get_suppression_factor, key, length)
+            }
+            Op::CleanupBoth { stale } => self.cleanup_both(stale),
+            op => self.make_shared(op),
+        }
+    }
+
+    /// The calls that both limiters have.
+    fn make_shared(&mut self, op: Op) -> u64 {
+        let (key, length) = (self.key.as_ptr(), self.key.len());
+        match op {
+            Op::SetRateLimit { kind, rate } => either!(
+                self,
+                kind,
+                frostaxle_absolute_set_rate_limit | frostaxle_suppressed_set_rate_limit,
+                key,
+                length,
+                rate
+            ),
+            Op::Delete { kind } => either!(
+                self,
+                kind,
+                frostaxle_absolute_delete | frostaxle_suppressed_delete,
+                key,
+                length
+            ),
+            Op::Clear { kind } => {
+                either!(self, kind, frostaxle_absolute_clear | frostaxle_suppressed_clear)
+            }
+            Op::Set { kind, wanted } => self.set(kind, wanted),
+            Op::Cleanup { kind, stale } => {
+                either!(
+                    self,
+                    kind,
+                    frostaxle_absolute_cleanup | frostaxle_suppressed_cleanup,
+                    stale
+                )
+            }
+            op => unreachable!("the C face has no {op:?}"),
+        }
+    }
+}
+
+fn yes(word: u64) -> Option<bool> {
+    [false, true].into_iter().find(|is| u64::from(*is) == word)
+}
+
+/// The answer that a row stands for, if it stands for one of the call's: number, case, three values.
+fn answer(op: Op, row: [u64; ROW]) -> Option<Answer> {
+    let [number, case, x, y, z] = row;
+    if number != 0 {
+        return (row[1..] == [0; 4]).then_some(Answer::Refused(number));
+    }
+    Some(match (op, case, [x, y, z]) {
+        (Op::AbsoluteInc { .. } | Op::IsAllowed | Op::SuppressedInc { .. }, 1, [0, 0, 0]) => {
+            Answer::Allowed
+        }
+        (Op::AbsoluteInc { .. } | Op::IsAllowed, 2, [window, wait, left]) => {
+            Answer::Rejected { window, wait, left }
+        }
+        (Op::SuppressedInc { .. }, 3, [factor, admitted, 0]) => {
+            Answer::Suppressed { factor, admitted: yes(admitted)? }
+        }
+        (Op::AbsoluteGet, 1, [total, 0, 0]) => Answer::Total(total),
+        (Op::SuppressedGet, 1, [total, declined, factor]) => {
+            Answer::Snapshot { total, declined, factor }
+        }
+        (Op::GetSuppressionFactor, 1, [factor, 0, 0]) => Answer::Factor(factor),
+        (Op::SetRateLimit { .. }, 1, [old, 0, 0]) => Answer::OldRate(Some(old)),
+        (Op::SetRateLimit { .. }, 2, [0, 0, 0]) => Answer::OldRate(None),
+        (Op::Delete { .. }, 1, [accepted, 0, 0]) => Answer::Deleted(Some(accepted)),
+        (Op::Delete { .. }, 2, [0, 0, 0]) => Answer::Deleted(None),
+        (Op::Set { .. }, 1, [matched, previous, current]) => {
+            Answer::Set { matched: yes(matched)?, previous, current }
+        }
+        (Op::Clear { .. } | Op::Cleanup { .. } | Op::CleanupBoth { .. }, 1, [0, 0, 0]) => {
+            Answer::Done
+        }
+        _ => return None,
+    })
+}
+
+/// The Rattle code.
+pub struct Rattle;
+
+impl Limiters for Rattle {
+    fn name(&self) -> &'static str {
+        "the Rattle code"
+    }
+
+    fn offers(&self, op: &Op) -> bool {
+        !matches!(op, Op::ReadOut { .. })
+    }
+
+    fn call(
+        &self,
+        settings: &Settings,
+        rooms: &mut Rooms,
+        reading: u64,
+        call: Call,
+        _row: &mut Row,
+    ) -> Answer {
+        let mut face = Face {
+            settings: *settings,
+            reading,
+            key: call.key,
+            absolute: Lent::new(&rooms.absolute),
+            suppressed: Lent::new(&rooms.suppressed),
+            row: Lent::new(&[GUARD; ROW]),
+        };
+        let number = face.make(call.op);
+        let mut row = [0; ROW];
+        let Face { absolute, suppressed, row: told, .. } = face;
+        absolute.give_back(&mut rooms.absolute);
+        suppressed.give_back(&mut rooms.suppressed);
+        told.give_back(&mut row);
+        assert_eq!(number, row[0], "what is returned is the row's first word");
+        answer(call.op, row).unwrap_or_else(|| panic!("no answer to {call:?} has the row {row:?}"))
+    }
+}

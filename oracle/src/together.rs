@@ -1,0 +1,211 @@
+//! Refusals met together: every set of 1 to 13 on every call. The lowest that the call can meet must be given.
+
+use twin::calls::{Call, Op, Rooms};
+use twin::room::empty_room;
+use twin::rules::{Comparator, Kind, Mode, Settings};
+use twin::set::Wanted;
+
+use crate::expected::{has_key, kind};
+use crate::random::{Dice, bad_rate};
+use crate::trial::Trials;
+
+const TOP: u64 = 1 << 53;
+const LAST: u64 = 1000;
+
+/// How often each set is tried on each call, with other words at fault.
+const TIMES: u64 = 3;
+
+/// S is 0 and H over 2^53, so that one count can meet 10 and 13.
+const SETTINGS: Settings =
+    Settings { window: 10, bucket: 100, cache: 100, factor: (1u64 << 60) as f64 };
+const RATE: f64 = 0.0625;
+
+/// A set of refusals.
+#[derive(Clone, Copy)]
+struct Faults(u64);
+
+impl Faults {
+    fn has(self, number: u64) -> bool {
+        self.0 >> number & 1 == 1
+    }
+}
+
+/// How a room meets 5.
+#[derive(Clone, Copy, PartialEq)]
+enum Unfit {
+    Lengths,
+    Slot,
+}
+
+fn calls() -> Vec<Op> {
+    let mut ops = vec![
+        Op::AbsoluteInc { rate: RATE, count: 1 },
+        Op::IsAllowed,
+        Op::AbsoluteGet,
+        Op::SuppressedInc { rate: RATE, count: 1, draw: 0 },
+        Op::SuppressedGet,
+        Op::GetSuppressionFactor,
+        Op::CleanupBoth { stale: 500 },
+    ];
+    for kind in [Kind::Absolute, Kind::Suppressed] {
+        ops.extend([
+            Op::SetRateLimit { kind, rate: RATE },
+            Op::Delete { kind },
+            Op::Clear { kind },
+            Op::Cleanup { kind, stale: 500 },
+            Op::ReadOut { kind },
+        ]);
+        for mode in [Mode::Replace, Mode::PreserveNewest, Mode::PreserveOldest] {
+            let wanted = Wanted { rate: RATE, comparator: Comparator::Always, count: 2, mode };
+            ops.push(Op::Set { kind, wanted });
+        }
+    }
+    ops
+}
+
+/// The room's two slots, of keys `a` and `b`: one bucket that is past joining. 12: the ring is full; 13: its counts are 0.
+fn room(kind: Kind, faults: Faults) -> Vec<u64> {
+    let mut room = empty_room(2, 2);
+    room[2] = LAST;
+    let count = u64::from(kind == Kind::Absolute || !faults.has(13));
+    let declined = if kind == Kind::Absolute { 0 } else { count };
+    let limit = match kind {
+        Kind::Absolute => 1000.0,
+        Kind::Suppressed => SETTINGS.limit(kind, RATE),
+    };
+    let buckets = if faults.has(12) { 2 } else { 1 };
+    for (slot, name) in [b'a', b'b'].into_iter().enumerate() {
+        room[3 + 6 * slot..][..3].copy_from_slice(&[1, 1, u64::from(name)]);
+        let body = &mut room[15 + 13 * slot..][..13];
+        body[..5].copy_from_slice(&[limit.to_bits(), count, declined, 1, buckets]);
+        body[7..].copy_from_slice(&[0, 0, 800, count, declined, 800]);
+    }
+    room
+}
+
+/// The call with its numbers at fault: 8, 9 and 10.
+fn with_faults(dice: &mut Dice, op: Op, faults: Faults) -> Op {
+    let bad = bad_rate(dice);
+    let over = dice.pick(&[TOP + 1, 1 << 63, u64::MAX]);
+    let rate_of = |rate: f64| if faults.has(8) { bad } else { rate };
+    let count_of = |count: u64| if faults.has(10) { over } else { count };
+    match op {
+        Op::AbsoluteInc { rate, count } => {
+            Op::AbsoluteInc { rate: rate_of(rate), count: count_of(count) }
+        }
+        Op::SuppressedInc { rate, count, draw } => {
+            // A count between S and H asks for the factor.
+            let count = if faults.has(10) { TOP + 1 } else { count };
+            let draw = if faults.has(9) { dice.pick(&[TOP, u64::MAX]) } else { draw };
+            Op::SuppressedInc { rate: rate_of(rate), count, draw }
+        }
+        Op::SetRateLimit { kind, rate } => Op::SetRateLimit { kind, rate: rate_of(rate) },
+        Op::Set { kind, wanted } => {
+            let (rate, count) = (rate_of(wanted.rate), count_of(wanted.count));
+            Op::Set { kind, wanted: Wanted { rate, count, ..wanted } }
+        }
+        op => op,
+    }
+}
+
+fn settings(dice: &mut Dice, faults: Faults) -> Settings {
+    let mut settings = SETTINGS;
+    if faults.has(1) {
+        settings.window = dice.pick(&[0, 33_554_433, u64::MAX]);
+    }
+    if faults.has(2) {
+        settings.bucket = dice.pick(&[0, 4_294_967_297, u64::MAX]);
+    }
+    if faults.has(3) {
+        settings.cache = dice.pick(&[0, 4_294_967_297, u64::MAX]);
+    }
+    if faults.has(4) {
+        let below = f64::from_bits(1f64.to_bits() - 1);
+        settings.factor = dice.pick(&[below, 0.0, -1.0, f64::NAN, f64::INFINITY, -f64::INFINITY]);
+    }
+    settings
+}
+
+/// Wrong lengths, or an unsound first slot.
+fn spoil(dice: &mut Dice, room: &mut Vec<u64>, unfit: Unfit) {
+    match (unfit, dice.below(4)) {
+        (Unfit::Lengths, 0) => room.push(0),
+        (Unfit::Lengths, 1) => drop(room.pop()),
+        (Unfit::Lengths, 2) => room[0] = dice.pick(&[0, 65, u64::MAX]),
+        (Unfit::Lengths, _) => room.truncate(dice.below(4) as usize),
+        (Unfit::Slot, 0) => room[3] = 4,
+        (Unfit::Slot, 1) => room[15] = 0,
+        (Unfit::Slot, 2) => room[16] += 1,
+        (Unfit::Slot, _) => room[18] = 2,
+    }
+}
+
+/// Whether the call can meet this refusal, of those in the set.
+fn meets(op: &Op, faults: Faults, number: u64, unfit: Unfit) -> bool {
+    use Op::*;
+    let is_inc = matches!(op, AbsoluteInc { .. } | SuppressedInc { .. });
+    let is_set = matches!(op, Set { .. });
+    let is_named = has_key(op) && !faults.has(7) && !faults.has(11);
+    match number {
+        5 if unfit == Unfit::Slot => !matches!(op, Clear { .. }) && (is_named || !has_key(op)),
+        6 => !matches!(op, ReadOut { .. }),
+        7 => has_key(op),
+        8 => is_inc || is_set || matches!(op, SetRateLimit { .. }),
+        9 => matches!(op, SuppressedInc { .. }),
+        10 => is_inc || is_set,
+        11 => is_inc || is_set || matches!(op, GetSuppressionFactor),
+        12 => is_inc && is_named,
+        13 => is_named && matches!(op, SuppressedInc { .. } | SuppressedGet | GetSuppressionFactor),
+        _ => true,
+    }
+}
+
+fn one(trials: &mut Trials, dice: &mut Dice, op: Op, faults: Faults) {
+    let unfit = dice.pick(&[Unfit::Lengths, Unfit::Slot]);
+    let mut rooms = Rooms {
+        absolute: room(Kind::Absolute, faults),
+        suppressed: room(Kind::Suppressed, faults),
+    };
+    // The provider's cleanup meets 5 and 6 in either room.
+    let at_fault = match op {
+        Op::CleanupBoth { .. } => dice.pick(&[Kind::Absolute, Kind::Suppressed]),
+        _ => kind(&op),
+    };
+    let reading = if faults.has(6) { dice.pick(&[LAST - 1, LAST - 100]) } else { LAST };
+    if matches!(op, Op::CleanupBoth { .. }) && faults.has(6) && dice.once_in(2) {
+        let other = if at_fault == Kind::Absolute { Kind::Suppressed } else { Kind::Absolute };
+        rooms.of_mut(other)[2] = 850;
+    }
+    if faults.has(5) {
+        let room = match at_fault {
+            Kind::Absolute => &mut rooms.absolute,
+            Kind::Suppressed => &mut rooms.suppressed,
+        };
+        spoil(dice, room, unfit);
+    }
+    let key: &[u8] = match (faults.has(7), faults.has(11)) {
+        (true, _) => &[b'a'; 33],
+        (_, true) => b"zz",
+        _ => b"a",
+    };
+    let op = with_faults(dice, op, faults);
+    let lowest = (1..14)
+        .find(|number| faults.has(*number) && meets(&op, faults, *number, unfit))
+        .unwrap_or(0);
+    let told = trials.put(&settings(dice, faults), &mut rooms, reading, Call { key, op });
+    if told != lowest {
+        trials.differed += 1;
+        eprintln!("differs: refusal {lowest} is the lowest that {op:?} meets, {told} was told");
+    }
+}
+
+/// Every set of refusals on every call.
+pub fn run(trials: &mut Trials, dice: &mut Dice) {
+    for op in calls() {
+        for set in 0..1 << 13 {
+            for _ in 0..TIMES {
+                one(trials, dice, op, Faults(set << 1));
+            }
+        }
+    }
+}

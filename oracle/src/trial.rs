@@ -1,0 +1,122 @@
+//! One call on any words: the twin, the others and the second reading of the refusals must agree.
+
+use std::collections::HashSet;
+use std::fmt;
+use std::hash::{DefaultHasher, Hash, Hasher};
+
+use twin::calls::{Answer, Call, Limiters, Rooms, Row, Twin};
+use twin::rules::{Kind, Settings};
+
+use crate::compare::{UNTOUCHED, first_other_word, who};
+use crate::expected::expected;
+
+/// How many differing calls are printed.
+const SHOWN: u64 = 3;
+
+/// The counts, and the implementations besides the twin.
+pub struct Trials {
+    others: Vec<Box<dyn Limiters>>,
+    /// Rooms that no call made, and a mark of each.
+    pub damaged: u64,
+    marks: HashSet<u64>,
+    calls: u64,
+    with_others: u64,
+    without_others: u64,
+    /// Calls by the refusal they met; not refused at 0.
+    by_number: [u64; 14],
+    pub differed: u64,
+    before: Rooms,
+    told: Rooms,
+}
+
+impl fmt::Display for Trials {
+    fn fmt(&self, f: &mut fmt::Formatter) -> fmt::Result {
+        let Trials { damaged, marks, calls, by_number, differed, .. } = self;
+        let who = who(&self.others, self.with_others, self.without_others);
+        write!(f, "{damaged} damaged rooms ({} distinct), {calls} calls", marks.len())?;
+        write!(f, " ({} not refused;", by_number[0])?;
+        for (number, times) in by_number.iter().enumerate().skip(1) {
+            write!(f, " {number}: {times}")?;
+        }
+        write!(f, "); {who}; {differed} differed")
+    }
+}
+
+impl Trials {
+    pub fn new(others: Vec<Box<dyn Limiters>>) -> Self {
+        let none = Rooms { absolute: vec![], suppressed: vec![] };
+        Trials {
+            others,
+            damaged: 0,
+            marks: HashSet::new(),
+            calls: 0,
+            with_others: 0,
+            without_others: 0,
+            by_number: [0; 14],
+            differed: 0,
+            before: none.clone(),
+            told: none,
+        }
+    }
+
+    /// A room that no call made is about to be tried.
+    pub fn count_room(&mut self, kind: Kind, room: &[u64]) {
+        let mut hasher = DefaultHasher::new();
+        (kind == Kind::Absolute, room).hash(&mut hasher);
+        self.damaged += 1;
+        self.marks.insert(hasher.finish());
+    }
+
+    /// Puts a call to all; the rooms are left as the twin leaves them. Gives the refusal's number or 0.
+    pub fn put(&mut self, settings: &Settings, rooms: &mut Rooms, reading: u64, call: Call) -> u64 {
+        let wanted = expected(settings, rooms, reading, call).refusal;
+        self.before.clone_from(rooms);
+        let untouched: Row = vec![UNTOUCHED; 4];
+        let mut row = untouched.clone();
+        let answer = Twin.call(settings, rooms, reading, call, &mut row);
+        let refusal = if let Answer::Refused(number) = answer { number } else { 0 };
+        self.calls += 1;
+        self.by_number[refusal as usize] += 1;
+        let mut fault = None;
+        if refusal != wanted {
+            fault = Some(format!("refusal {wanted} expected"));
+        } else if refusal != 0 && (*rooms != self.before || row != untouched) {
+            fault = Some("a refusal changes words".to_string());
+        }
+        fault = fault.or_else(|| self.others_fault(settings, rooms, reading, call, answer));
+        if let Some(fault) = fault {
+            self.differed += 1;
+            if self.differed <= SHOWN {
+                eprintln!("differs: {fault}; the twin answers {answer:?}");
+                eprintln!("  {settings:?} t={reading} {call:?}\n  {:?}", self.before);
+            }
+        }
+        refusal
+    }
+
+    /// In what one of the others differs from the twin.
+    fn others_fault(
+        &mut self,
+        settings: &Settings,
+        rooms: &Rooms,
+        reading: u64,
+        call: Call,
+        answer: Answer,
+    ) -> Option<String> {
+        for other in &self.others {
+            if !other.offers(&call.op) {
+                self.without_others += 1;
+                continue;
+            }
+            self.with_others += 1;
+            self.told.clone_from(&self.before);
+            let mut row = Row::new();
+            let told = other.call(settings, &mut self.told, reading, call, &mut row);
+            if told != answer || self.told != *rooms {
+                let place = first_other_word(rooms, &self.told);
+                return Some(format!("{} answers {told:?}; {place}", other.name()));
+            }
+        }
+        None
+    }
+}
