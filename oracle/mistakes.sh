@@ -1,10 +1,19 @@
 #!/bin/sh
-# mistakes.sh [calls] [pattern]: plants each mistake of mistakes/ in a copy of the twin, one at a time, and tells whether the
-# comparison finds it. Needs a judge built by build.sh.
+# mistakes.sh [calls] [pattern] [broken]: plants each mistake of mistakes/ in a copy of the twin, one at a time, and tells whether the
+# comparison with the original finds it; with `broken`, whether that many damaged rooms beside the Rattle code do. Needs a judge
+# built by build.sh.
 set -eu
 cd "$(dirname "$0")"
 calls=${1:-300000}
 pattern=${2:-*}
+asked="$calls 1 first"
+linked=
+if [ "${3:-}" = broken ]; then
+    archive=${FROSTAXLE_ARCHIVE:-../target/staticlib/libabi.a}
+    test -f "$archive" || { echo "no archive: $archive"; exit 2; }
+    asked="broken $calls 1"
+    linked="--cfg archive -C link-arg=$(realpath "$archive")"
+fi
 work=target/mistake
 found=0
 missed=0
@@ -28,17 +37,17 @@ for edit in mistakes/$pattern.edit; do
         END { exit places != 1 }' "$file" > $work/edited || { echo "$name: its old text is not there once"; exit 2; }
     mv $work/edited "$file"
     rustc --edition 2024 -A warnings --crate-type rlib --crate-name twin $work/src/lib.rs --out-dir $work
-    rustc --edition 2024 -A warnings --cfg test -A explicit_builtin_cfgs_in_flags -L target \
+    rustc --edition 2024 -A warnings $linked --cfg test -A explicit_builtin_cfgs_in_flags -L target \
         --extern std_shim=target/libstd_shim.rlib --extern dashmap=target/libdashmap.rlib \
         --extern ahash=target/libahash.rlib --extern rand=target/librand.rlib \
         --extern strum_macros=target/libstrum_macros.so --extern thiserror=target/libthiserror.so \
         --extern twin=$work/libtwin.rlib src/main.rs -o $work/judge
-    if RUST_BACKTRACE=0 $work/judge "$calls" 1 first > $work/told 2>&1; then
+    if RUST_BACKTRACE=0 $work/judge $asked > $work/told 2>&1; then
         missed=$((missed + 1))
         echo "MISSED $name"
     else
         found=$((found + 1))
-        echo "found  $name: $(head -c 150 $work/told | head -n 1)"
+        echo "found  $name: $(grep -m 1 . $work/told | head -c 150)"
     fi
 done
 rm -rf $work

@@ -375,6 +375,8 @@ pub fn run(rooms: u64, seed: u64) -> Trials {
         }
     }
     together::run(&mut trials, &mut dice);
+    #[cfg(archive)]
+    trials.count_faces(crate::faces::run(&mut dice));
     trials.differed += histories.differed;
     trials
 }

@@ -33,6 +33,8 @@ mod compare;
 mod desk_check;
 mod desk_lines;
 mod expected;
+#[cfg(archive)]
+mod faces;
 mod loaded;
 mod original;
 mod random;

@@ -52,6 +52,25 @@ faces! {
     frostaxle_provider_cleanup(suppressed: *mut u64, suppressed_words: usize, reading: u64, stale: u64);
 }
 
+unsafe extern "C" {
+    fn frostaxle_room_words(slots: u64, ring: u64) -> usize;
+    fn frostaxle_make(room: *mut u64, words: usize, slots: u64, ring: u64) -> u64;
+}
+
+/// How many words a room needs, 0 where there is no such room.
+pub fn room_words(slots: u64, ring: u64) -> usize {
+    unsafe { frostaxle_room_words(slots, ring) }
+}
+
+/// Makes an empty room; gives the number that the function returns.
+pub fn make(room: &mut [u64], slots: u64, ring: u64) -> u64 {
+    let mut lent = Lent::new(room);
+    let words = lent.words();
+    let number = unsafe { frostaxle_make(words.as_mut_ptr(), words.len(), slots, ring) };
+    lent.give_back(room);
+    number
+}
+
 /// What stands on both sides of lent words, and in a row before the call.
 const GUARD: u64 = 0x5a5a_a5a5_c3c3_3c3c;
 const GUARDS: usize = 8;
@@ -127,41 +146,71 @@ macro_rules! either {
     };
 }
 
-impl Face<'_> {
-    fn set(&mut self, kind: Kind, wanted: Wanted) -> u64 {
-        let (key, length) = (self.key.as_ptr(), self.key.len());
-        let Wanted { rate, comparator, count, mode } = wanted;
-        let (number, operand) = comparator_numbers(comparator);
-        let preservation = match mode {
-            Mode::Replace => {
-                return either!(
-                    self,
-                    kind,
-                    frostaxle_absolute_set_if | frostaxle_suppressed_set_if,
-                    key,
-                    length,
-                    rate,
-                    count,
-                    number,
-                    operand
-                );
-            }
-            Mode::PreserveNewest => 0,
-            Mode::PreserveOldest => 1,
+/// A set as its numbers give it; without a preservation it replaces.
+#[derive(Clone, Copy)]
+struct SetNumbers {
+    rate: f64,
+    count: u64,
+    comparator: u64,
+    operand: u64,
+    preservation: Option<u64>,
+}
+
+impl From<Wanted> for SetNumbers {
+    fn from(wanted: Wanted) -> Self {
+        let Wanted { rate, count, .. } = wanted;
+        let (comparator, operand) = comparator_numbers(wanted.comparator);
+        let preservation = match wanted.mode {
+            Mode::Replace => None,
+            Mode::PreserveNewest => Some(0),
+            Mode::PreserveOldest => Some(1),
         };
-        either!(
-            self,
-            kind,
-            frostaxle_absolute_set_if_preserve_history
-                | frostaxle_suppressed_set_if_preserve_history,
-            key,
-            length,
-            rate,
-            count,
-            number,
-            operand,
-            preservation
-        )
+        SetNumbers { rate, count, comparator, operand, preservation }
+    }
+}
+
+impl<'a> Face<'a> {
+    fn new(
+        settings: &Settings,
+        reading: u64,
+        key: &'a [u8],
+        absolute: &[u64],
+        suppressed: &[u64],
+    ) -> Self {
+        let (absolute, suppressed) = (Lent::new(absolute), Lent::new(suppressed));
+        let row = Lent::new(&[GUARD; ROW]);
+        Face { settings: *settings, reading, key, absolute, suppressed, row }
+    }
+
+    fn set(&mut self, kind: Kind, numbers: SetNumbers) -> u64 {
+        let (key, length) = (self.key.as_ptr(), self.key.len());
+        let SetNumbers { rate, count, comparator, operand, preservation } = numbers;
+        match preservation {
+            None => either!(
+                self,
+                kind,
+                frostaxle_absolute_set_if | frostaxle_suppressed_set_if,
+                key,
+                length,
+                rate,
+                count,
+                comparator,
+                operand
+            ),
+            Some(preservation) => either!(
+                self,
+                kind,
+                frostaxle_absolute_set_if_preserve_history
+                    | frostaxle_suppressed_set_if_preserve_history,
+                key,
+                length,
+                rate,
+                count,
+                comparator,
+                operand,
+                preservation
+            ),
+        }
     }
 
     fn cleanup_both(&mut self, stale: u64) -> u64 {
@@ -229,7 +278,7 @@ impl Face<'_> {
             Op::Clear { kind } => {
                 either!(self, kind, frostaxle_absolute_clear | frostaxle_suppressed_clear)
             }
-            Op::Set { kind, wanted } => self.set(kind, wanted),
+            Op::Set { kind, wanted } => self.set(kind, wanted.into()),
             Op::Cleanup { kind, stale } => {
                 either!(
                     self,
@@ -282,6 +331,27 @@ fn answer(op: Op, row: [u64; ROW]) -> Option<Answer> {
     })
 }
 
+/// The row that a set by these numbers leaves, which may name nothing.
+pub fn odd_set(
+    kind: Kind,
+    settings: &Settings,
+    room: &mut [u64],
+    comparator: u64,
+    preservation: Option<u64>,
+) -> [u64; ROW] {
+    let mut face = Face::new(settings, 0, b"a", room, room);
+    face.set(kind, SetNumbers { rate: 1.0, count: 1, comparator, operand: 0, preservation });
+    let (lent, unused) = match kind {
+        Kind::Absolute => (face.absolute, face.suppressed),
+        Kind::Suppressed => (face.suppressed, face.absolute),
+    };
+    drop(unused);
+    lent.give_back(room);
+    let mut row = [0; ROW];
+    face.row.give_back(&mut row);
+    row
+}
+
 /// The Rattle code.
 pub struct Rattle;
 
@@ -302,14 +372,7 @@ impl Limiters for Rattle {
         call: Call,
         _row: &mut Row,
     ) -> Answer {
-        let mut face = Face {
-            settings: *settings,
-            reading,
-            key: call.key,
-            absolute: Lent::new(&rooms.absolute),
-            suppressed: Lent::new(&rooms.suppressed),
-            row: Lent::new(&[GUARD; ROW]),
-        };
+        let mut face = Face::new(settings, reading, call.key, &rooms.absolute, &rooms.suppressed);
         let number = face.make(call.op);
         let mut row = [0; ROW];
         let Face { absolute, suppressed, row: told, .. } = face;

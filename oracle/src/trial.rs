@@ -22,6 +22,8 @@ pub struct Trials {
     calls: u64,
     with_others: u64,
     without_others: u64,
+    /// Rooms made by the C face, and sets whose numbers name nothing.
+    faces: u64,
     /// Calls by the refusal they met; not refused at 0.
     by_number: [u64; 14],
     pub differed: u64,
@@ -38,7 +40,11 @@ impl fmt::Display for Trials {
         for (number, times) in by_number.iter().enumerate().skip(1) {
             write!(f, " {number}: {times}")?;
         }
-        write!(f, "); {who}; {differed} differed")
+        write!(f, "); {who}")?;
+        if self.faces > 0 {
+            write!(f, "; {} rooms made and sets of no meaning", self.faces)?;
+        }
+        write!(f, "; {differed} differed")
     }
 }
 
@@ -52,6 +58,7 @@ impl Trials {
             calls: 0,
             with_others: 0,
             without_others: 0,
+            faces: 0,
             by_number: [0; 14],
             differed: 0,
             before: none.clone(),
@@ -65,6 +72,13 @@ impl Trials {
         (kind == Kind::Absolute, room).hash(&mut hasher);
         self.damaged += 1;
         self.marks.insert(hasher.finish());
+    }
+
+    /// So many other functions of the C face were called, and so many of them differed.
+    #[cfg(archive)]
+    pub fn count_faces(&mut self, (calls, differed): (u64, u64)) {
+        self.faces += calls;
+        self.differed += differed;
     }
 
     /// Puts a call to all; the rooms are left as the twin leaves them. Gives the refusal's number or 0.
