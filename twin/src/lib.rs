@@ -11,4 +11,6 @@ pub mod rules;
 pub mod set;
 pub mod shared;
 pub mod suppressed;
+#[cfg(trusting)]
+mod trusting;
 pub mod units;

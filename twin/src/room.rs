@@ -1,6 +1,8 @@
 //! The lent room: where its words lie, how a slot is found and judged, and the changes of docs/WORDS.md.
 
 use crate::rules::{Kind, Refusal, Settings, TOP, cut, refuse_if};
+#[cfg(trusting)]
+pub use crate::trusting::scan_slot;
 
 const LAST: usize = 2;
 const HEADER: usize = 3;
@@ -268,6 +270,7 @@ fn scan_series(
 }
 
 /// The pass over a slot in use, or none where it is unsound.
+#[cfg(not(trusting))]
 pub fn scan_slot(
     kind: Kind,
     settings: &Settings,

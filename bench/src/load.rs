@@ -1,0 +1,141 @@
+//! What is put to the contestants: keys, settings, and increments whose readings keep every key's ring full.
+
+/// Which of the two limiters is timed.
+#[derive(Clone, Copy, Debug, PartialEq, Eq)]
+pub enum Limiter {
+    Absolute,
+    Suppressed,
+}
+
+impl Limiter {
+    pub const BOTH: [Limiter; 2] = [Limiter::Absolute, Limiter::Suppressed];
+
+    pub fn name(self) -> &'static str {
+        match self {
+            Limiter::Absolute => "absolute",
+            Limiter::Suppressed => "suppressed",
+        }
+    }
+}
+
+/// The default bucket, and the one for rings that the default one cannot fill in a window of 10 s.
+pub const DEFAULT_BUCKET: u64 = 100;
+pub const SMALL_BUCKET: u64 = 10;
+
+/// How many keys, how many live buckets each is to have, the ring and the bucket size; the rest of the settings are the defaults.
+#[derive(Clone, Copy, Debug)]
+pub struct Shape {
+    pub keys: usize,
+    pub live: u64,
+    pub ring: usize,
+    pub bucket: u64,
+}
+
+impl Shape {
+    /// Full rings: the bucket is the default one where as many of them fit into the window.
+    pub fn full(keys: usize, live: u64) -> Self {
+        let bucket = if live <= 100 { DEFAULT_BUCKET } else { SMALL_BUCKET };
+        Shape { keys, live, ring: live as usize, bucket }
+    }
+}
+
+#[derive(Clone, Copy, Debug)]
+pub struct Settings {
+    pub window: u64,
+    pub bucket: u64,
+    pub cache: u64,
+    pub factor: f64,
+}
+
+pub struct Key {
+    pub text: String,
+    pub rate: f64,
+}
+
+#[derive(Clone, Copy, Debug)]
+pub struct Increment {
+    pub reading: u64,
+    pub draw: u64,
+    pub count: u32,
+    pub key: u32,
+}
+
+pub struct Load {
+    pub shape: Shape,
+    pub settings: Settings,
+    pub keys: Vec<Key>,
+}
+
+/// Counts are 1 to 4, and two increments go to a bucket.
+const MEAN_OF_BUCKET: f64 = 5.0;
+
+impl Load {
+    pub fn new(shape: Shape) -> Self {
+        let settings = Settings { window: 10, bucket: shape.bucket, cache: 100, factor: 1.0 };
+        // Keys of even number stay below their limit, the others are held back now and then.
+        let limit = |key: usize| {
+            let total = MEAN_OF_BUCKET * shape.live as f64;
+            if key % 2 == 0 { 1.25 * total } else { 0.95 * total }
+        };
+        let keys = (0..shape.keys)
+            .map(|key| Key {
+                text: format!("station-{key:02}{}", "-west"[..key % 6].to_owned()),
+                rate: limit(key) / settings.window as f64,
+            })
+            .collect();
+        Load { shape, settings, keys }
+    }
+
+    /// The reading of a round. Two rounds go to a bucket, and the window holds `live` buckets.
+    fn reading(&self, round: u64) -> u64 {
+        let window = 1000 * self.settings.window;
+        let steps = self.shape.live - 1;
+        let begun = round / 2 * window / steps;
+        let apart = self.settings.bucket.min(window / steps) / 2;
+        begun + if round % 2 == 1 { apart } else { 0 }
+    }
+
+    /// As many rounds as fill the rings, then the increments that are timed. In a round each key has one increment, and the
+    /// keys come in an order of their own.
+    pub fn increments(&self, timed: usize) -> (Vec<Increment>, Vec<Increment>) {
+        let mut random = Random(0x1234_5678_9abc_def1);
+        let mut order: Vec<u32> = (0..self.keys.len() as u32).collect();
+        let filling = 4 * self.shape.live;
+        let rounds = filling + timed.div_ceil(order.len()) as u64;
+        let mut all = Vec::with_capacity(rounds as usize * order.len());
+        for round in 0..rounds {
+            for at in (1..order.len()).rev() {
+                order.swap(at, random.below(at as u64 + 1) as usize);
+            }
+            let reading = self.reading(round);
+            all.extend(order.iter().map(|key| Increment {
+                reading,
+                draw: random.below(1 << 53),
+                count: 1 + random.below(4) as u32,
+                key: *key,
+            }));
+        }
+        let mut timed_ones = all.split_off(filling as usize * order.len());
+        timed_ones.truncate(timed);
+        (all, timed_ones)
+    }
+}
+
+/// The same calls to the same limiters, that much later.
+pub fn later(increments: &mut [Increment], by: u64) {
+    for increment in increments {
+        increment.reading += by;
+    }
+}
+
+/// Xorshift.
+struct Random(u64);
+
+impl Random {
+    fn below(&mut self, top: u64) -> u64 {
+        self.0 ^= self.0 << 13;
+        self.0 ^= self.0 >> 7;
+        self.0 ^= self.0 << 17;
+        ((u128::from(self.0) * u128::from(top)) >> 64) as u64
+    }
+}

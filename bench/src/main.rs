@@ -1,0 +1,138 @@
+//! Times an increment of each contestant, in one process, for both limiters; docs/SPEED.md says what of.
+
+mod contestants;
+mod load;
+
+use std::time::{Duration, Instant};
+
+use contestants::{Contestant, all};
+use load::{Increment, Limiter, Load, Shape, later};
+
+/// How many increments are timed at a time.
+const STRETCH: usize = 2_000;
+
+const KEYS: usize = 40;
+
+fn main() {
+    let arguments: Vec<String> = std::env::args().skip(1).collect();
+    let words: Vec<&str> = arguments.iter().map(String::as_str).collect();
+    let number = |text: &str| text.parse::<usize>().expect("a whole number");
+    match words[..] {
+        [] => tables(1_000_000, 5),
+        [timed, times] => tables(number(timed), number(times)),
+        ["one", name, limiter, live, timed] => one(name, limiter, number(live), number(timed)),
+        _ => panic!("[INCREMENTS REPETITIONS] | one CONTESTANT LIMITER BUCKETS INCREMENTS"),
+    }
+}
+
+fn tables(timed: usize, times: usize) {
+    println!("nanoseconds for an increment, and the ratio to the twin");
+    println!("{timed} increments in mixed order, rooms cleared and filled first, least of {times}");
+    for limiter in Limiter::BOTH {
+        println!("\n{}, {KEYS} keys, rings full", limiter.name());
+        for live in [10, 100, 512] {
+            row(limiter, Shape::full(KEYS, live), timed, times);
+        }
+    }
+    let fewer = timed / 4;
+    for limiter in Limiter::BOTH {
+        println!("\n{}, {KEYS} keys, by buckets; {fewer} increments", limiter.name());
+        for live in [10, 50, 100, 200, 512] {
+            row(limiter, Shape::full(KEYS, live), fewer, times);
+        }
+        row(limiter, Shape { ring: 512, ..Shape::full(KEYS, 100) }, fewer, times);
+    }
+    for limiter in Limiter::BOTH {
+        println!("\n{}, by keys; {fewer} increments", limiter.name());
+        for live in [10, 100] {
+            for keys in [1, 8, 40, 64] {
+                row(limiter, Shape::full(keys, live), fewer, times);
+            }
+        }
+    }
+}
+
+/// Times each contestant and prints a line.
+fn row(limiter: Limiter, shape: Shape, timed: usize, times: usize) {
+    let load = Load::new(shape);
+    let mut contestants = all(&load);
+    let took = race(limiter, &load, &mut contestants, timed, times);
+    let Shape { keys, ring, bucket, .. } = shape;
+    let buckets = buckets(contestants[0].room(limiter).expect("the twin's room"));
+    print!("keys {keys:2}  ring {ring:3}  bucket {bucket:3} ms  buckets {buckets:5.1}");
+    let of_twin = took[0].as_secs_f64();
+    for (contestant, took) in contestants.iter().zip(&took) {
+        let each = took.as_secs_f64() * 1e9 / timed as f64;
+        let ratio = took.as_secs_f64() / of_twin;
+        print!("  {} {each:7.1} {ratio:5.2}", contestant.name());
+    }
+    println!();
+}
+
+/// What each contestant takes for the increments. They take turns at every stretch, so that a load on the machine falls on all,
+/// and of the repetitions each stretch's least time counts.
+fn race(
+    limiter: Limiter,
+    load: &Load,
+    contestants: &mut [Box<dyn Contestant>],
+    timed: usize,
+    times: usize,
+) -> Vec<Duration> {
+    let (mut filling, mut increments) = load.increments(timed);
+    let span = increments.last().expect("an increment").reading + 100_000;
+    let stretches = timed.div_ceil(STRETCH);
+    let mut least = vec![vec![Duration::MAX; stretches]; contestants.len()];
+    for turn in 0..times {
+        let mut answers = vec![0; contestants.len()];
+        for (answers, contestant) in answers.iter_mut().zip(contestants.iter_mut()) {
+            contestant.clear(limiter, load, filling[0].reading);
+            *answers = contestant.run(limiter, load, &filling);
+        }
+        for (at, stretch) in increments.chunks(STRETCH).enumerate() {
+            for place in 0..contestants.len() {
+                let place = (place + at + turn) % contestants.len();
+                let (took, told) = time(limiter, load, &mut contestants[place], stretch);
+                least[place][at] = least[place][at].min(took);
+                answers[place] ^= told.rotate_left(at as u32);
+            }
+        }
+        assert!(
+            answers.iter().all(|other| *other == answers[0]),
+            "the answers differ: {answers:?}"
+        );
+        later(&mut filling, span);
+        later(&mut increments, span);
+    }
+    least.iter().map(|stretches| stretches.iter().sum()).collect()
+}
+
+fn time(
+    limiter: Limiter,
+    load: &Load,
+    contestant: &mut Box<dyn Contestant>,
+    stretch: &[Increment],
+) -> (Duration, u64) {
+    let start = Instant::now();
+    let told = contestant.run(limiter, load, stretch);
+    (start.elapsed(), told)
+}
+
+/// How many buckets a key has, on average.
+fn buckets(room: &[u64]) -> f64 {
+    let slots = twin::room::slots(room);
+    let all: u64 = (0..slots).map(|at| twin::room::slot(room, at).buckets()).sum();
+    all as f64 / slots as f64
+}
+
+/// One contestant alone, for a profiler.
+fn one(name: &str, limiter: &str, live: usize, timed: usize) {
+    let load = Load::new(Shape::full(KEYS, live as u64));
+    let limiter = Limiter::BOTH.into_iter().find(|other| other.name() == limiter);
+    let limiter = limiter.expect("absolute or suppressed");
+    let mut contestants = all(&load);
+    let contestant = contestants.iter_mut().find(|other| other.name() == name);
+    let contestant = contestant.expect("a contestant");
+    let (filling, increments) = load.increments(timed);
+    let before = contestant.run(limiter, &load, &filling);
+    println!("{before:x} {:x}", contestant.run(limiter, &load, &increments));
+}
