@@ -43,12 +43,12 @@ use Rattle.calls.specs.Set as Sets
 use Rattle.cleanup.specs.Cleanup as Cleanup
 use Rattle.cleanup.specs.Every as Every
 use Rattle.absolute.specs.Calls as Absolute
-use Rattle.absolute.specs.Rules as AbsoluteRules
+use Rattle.absolute_rules.specs.Rules as AbsoluteRules
 use Rattle.suppressed.specs.Calls as SuppressedCalls
-use Rattle.suppressed.specs.Edits as Edits
-use Rattle.suppressed.specs.Factor as FactorRules
-use Rattle.suppressed.specs.Forecast as Forecast
-use Rattle.suppressed.specs.Refusals as SuppressedRefusals
+use Rattle.suppressed_edits.specs.Edits as Edits
+use Rattle.suppressed_rules.specs.Factor as FactorRules
+use Rattle.suppressed_rules.specs.Forecast as Forecast
+use Rattle.suppressed_edits.specs.Refusals as SuppressedRefusals
 use Rattle.readout.specs.ReadOut as ReadOut
 use Rattle.readout.specs.ReadOut.{bucketsOf}
 use Rattle.promises.specs.Refusals.{suppressedInc}

@@ -116,11 +116,11 @@ turned-by table row before after a f g h =
       stays = λ z. h (some z);
     }
 
--- a verdict on one room
-pub judge-turned : {A : Type 0} (rowOf : A → List ℕ) (turned : ℕ → A) (table : List (ℕ × Bool)) (w : List ℕ) (v : Verdict A) → ((n : ℕ) → rowOf (turned n) ≡ refusedRow n) → Rises 0 table → numberOf (rowOf (v .answer)) ≡ 0 → TurnedBy table (rowOf (judge turned (first table) w v .answer)) w (judge turned (first table) w v .words)
+-- a verdict on one room, whose number n is the table's first
+pub judge-turned : {A : Type 0} (rowOf : A → List ℕ) (turned : ℕ → A) (table : List (ℕ × Bool)) (n : ℕ) (w : List ℕ) (v : Verdict A) → n ≡ first table → ((m : ℕ) → rowOf (turned m) ≡ refusedRow m) → Rises 0 table → numberOf (rowOf (v .answer)) ≡ 0 → TurnedBy table (rowOf (judge turned n w v .answer)) w (judge turned n w v .words)
 unfolding judge
-judge-turned rowOf turned table w v p a o =
+judge-turned rowOf turned table n w v e p a o =
     turned-by table _ w _ a
-    (λ z. rw (ne-eqb (first table) 0 z) (p (first table)))
-    (λ z. rw (eq-eqb (first table) 0 z) o)
-    (λ z. rw (ne-eqb (first table) 0 z))
+    (λ z. rw (e, ne-eqb (first table) 0 z) (p (first table)))
+    (λ z. rw (e, eq-eqb (first table) 0 z) o)
+    (λ z. rw (e, ne-eqb (first table) 0 z))

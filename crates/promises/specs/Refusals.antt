@@ -45,15 +45,18 @@ use Rattle.calls.specs.Rate as Rate
 use Rattle.calls.specs.Set as Set
 use Rattle.cleanup.specs.Cleanup as Cleanup
 use Rattle.absolute.specs.Calls as Absolute
-use Rattle.absolute.specs.Rules as AbsoluteRules
-use Rattle.absolute.specs.Rules.{pickDecision}
+use Rattle.absolute_rules.specs.Rules as AbsoluteRules
+use Rattle.absolute_rules.specs.Rules.{pickDecision}
 use Rattle.suppressed.specs.Calls as Suppressed
-use Rattle.suppressed.specs.Factor.{asked}
-use Rattle.suppressed.specs.Forecast.{forecast, reachOf, drawn, outcome, outcomeOf}
-use Rattle.suppressed.specs.declared.factor.Asked.{Asked}
-use Rattle.suppressed.specs.declared.forecast.Outcome.{Outcome}
-use Rattle.suppressed.specs.declared.forecast.Reach.{Reach}
-use Rattle.suppressed.specs.declared.forecast.Reach.the-variants.{Hard, Soft, Over, Between}
+use Rattle.suppressed_rules.specs.Factor.{asked}
+use Rattle.suppressed_rules.specs.Forecast.{forecast, reachOf, drawn, outcome, outcomeOf}
+use Rattle.suppressed_rules.specs.declared.factor.Asked.{Asked}
+use Rattle.suppressed_rules.specs.declared.forecast.Outcome.{Outcome}
+use Rattle.suppressed_rules.specs.declared.forecast.Reach.{Reach}
+use Rattle.suppressed_rules.specs.declared.forecast.Reach.the-variants.{Hard, Soft, Over, Between}
+use Rattle.views.specs.AbsoluteRules.{incTurns}
+use Rattle.views.specs.Absolute.{own-view}
+use Rattle.views.specs.Follows.{same-number}
 use Rattle.provider.specs.Provider as Provider
 use Rattle.provider.specs.Laws.{eitherMisfits, both-by-table}
 use Rattle.readout.specs.ReadOut as ReadOut
@@ -63,9 +66,9 @@ use Rattle.promises.specs.Lowest.{Lowest, TurnedBy, Rises, numberOf, tur
 
 -- ---- each call's table: 1 to 4 judge the settings (`faults`), 5 to 7 the room, the reading and the key (`misfits`), and then come the call's own
 
--- 8, 10, 11, 12: an absolute rejection goes before 10 to 12
+-- 8, 10, 11, 12 (`incTurns`): an absolute rejection goes before 10 to 12
 abbrev pub absoluteInc : Settings → List ℕ → ℕ → List ℕ → RateLimit → ℕ → List (ℕ × Bool)
-absoluteInc s w t key rate count = refusals kind.Absolute s w t key (Absolute.incOwn s w t rate count (Absolute.slotIn s w t key))
+absoluteInc s w t key rate count = refusals kind.Absolute s w t key (incTurns s w t key rate count)
 
 -- no other
 abbrev pub plain : RoomKind → Settings → List ℕ → ℕ → List ℕ → List (ℕ × Bool)
@@ -197,25 +200,30 @@ read-turned kind s w key cells =
 
 -- ---- the proof
 
+-- an absolute increment's number, which the call works out of the opened slot, is the table's
+absolute-number : (s : Settings) (w : List ℕ) (t : ℕ) (key : List ℕ) (rate : RateLimit) (count : ℕ) → first (refusals kind.Absolute s w t key (Absolute.incOwn s w t rate count (Absolute.slotIn s w t key))) ≡ first (absoluteInc s w t key rate count)
+absolute-number s w t key rate count =
+    same-number kind.Absolute s w t key (Absolute.incOwn s w t rate count (Absolute.slotIn s w t key)) (incTurns s w t key rate count) (λ p. own-view s w t key p rate count)
+
 -- the numbers of a table rise
 pub rises : (s : Settings) (w : List ℕ) (t : ℕ) (key : List ℕ) (rate : RateLimit) (count draw : ℕ) → Rises 0 (suppressedInc s w t key rate count draw)
 unfolding faults misfits
 rises s w t key rate count draw = omega arith
 
 pub demand1 : Demand1
-unfolding faults misfits Clear.unclear Cleanup.misfits Cleanup.cleanup Rate.rateOwn Set.setOwn AbsoluteRules.incRefusals Absolute.inc Absolute.isAllowed Absolute.get Suppressed.inc Suppressed.incOn Suppressed.get Suppressed.getOn Suppressed.getFactor Suppressed.factorOn decisionRow totalRow snapshotRow factorRow oldRateRow deleteRow setRow doneRow
+unfolding faults misfits Clear.unclear Cleanup.misfits Cleanup.cleanup Rate.rateOwn Set.setOwn Absolute.inc Absolute.isAllowed Absolute.get Suppressed.inc Suppressed.incOn Suppressed.get Suppressed.getOn Suppressed.getFactor Suppressed.factorOn decisionRow totalRow snapshotRow factorRow oldRateRow deleteRow setRow doneRow
 demand1 = record {
-  absolute-inc = λ s w t key rate count. judge-turned decisionRow decision.Refused (absoluteInc s w t key rate count) w _ (λ n. refl) (omega arith) (decided-0 (s .«window_size») t (Absolute.slotIn s w t key));
-  absolute-is-allowed = λ s w t key. judge-turned decisionRow decision.Refused (plain kind.Absolute s w t key) w _ (λ n. refl) (omega arith) (decided-0 (s .«window_size») t (Absolute.slotIn s w t key));
-  absolute-get = λ s w t key. judge-turned totalRow total.Refused (plain kind.Absolute s w t key) w _ (λ n. refl) (omega arith) refl;
-  suppressed-inc = λ s w t key rate count draw. judge-turned decisionRow decision.Refused (suppressedInc s w t key rate count draw) w _ (λ n. refl) (rises s w t key rate count draw) (outcome-0 s t rate count draw (Suppressed.slotIn s w t key));
-  suppressed-get = λ s w t key. judge-turned snapshotRow snapshot.Refused (suppressedGet s w t key) w _ (λ n. refl) (omega arith) refl;
-  suppressed-factor = λ s w t key. judge-turned factorRow factor.Refused (suppressedFactor s w t key) w _ (λ n. refl) (omega arith) refl;
-  set-rate-limit = λ kind s w t key rate. judge-turned oldRateRow oldRate.Refused (setRate kind s w t key rate) w _ (λ n. refl) (omega arith) (old-0 kind s (slotIn s w t key));
-  delete = λ kind s w t key. judge-turned deleteRow delete.Refused (plain kind s w t key) w _ (λ n. refl) (omega arith) (deleted-0 (slotIn s w t key));
-  set-if = λ kind s w t key rate comparator count mode. judge-turned setRow set.Refused (sets kind s w t key rate comparator count mode) w _ (λ n. refl) (omega arith) refl;
-  clear = λ s w t. judge-turned doneRow done.Refused (clears s w t) w _ (λ n. refl) (omega arith) refl;
-  cleanup = λ kind s w t stale. judge-turned doneRow done.Refused (cleans kind s w t) w _ (λ n. refl) (omega arith) refl;
+  absolute-inc = λ s w t key rate count. judge-turned decisionRow decision.Refused (absoluteInc s w t key rate count) _ w _ (absolute-number s w t key rate count) (λ n. refl) (omega arith) (decided-0 (s .«window_size») t (Absolute.slotIn s w t key));
+  absolute-is-allowed = λ s w t key. judge-turned decisionRow decision.Refused (plain kind.Absolute s w t key) _ w _ refl (λ n. refl) (omega arith) (decided-0 (s .«window_size») t (Absolute.slotIn s w t key));
+  absolute-get = λ s w t key. judge-turned totalRow total.Refused (plain kind.Absolute s w t key) _ w _ refl (λ n. refl) (omega arith) refl;
+  suppressed-inc = λ s w t key rate count draw. judge-turned decisionRow decision.Refused (suppressedInc s w t key rate count draw) _ w _ refl (λ n. refl) (rises s w t key rate count draw) (outcome-0 s t rate count draw (Suppressed.slotIn s w t key));
+  suppressed-get = λ s w t key. judge-turned snapshotRow snapshot.Refused (suppressedGet s w t key) _ w _ refl (λ n. refl) (omega arith) refl;
+  suppressed-factor = λ s w t key. judge-turned factorRow factor.Refused (suppressedFactor s w t key) _ w _ refl (λ n. refl) (omega arith) refl;
+  set-rate-limit = λ kind s w t key rate. judge-turned oldRateRow oldRate.Refused (setRate kind s w t key rate) _ w _ refl (λ n. refl) (omega arith) (old-0 kind s (slotIn s w t key));
+  delete = λ kind s w t key. judge-turned deleteRow delete.Refused (plain kind s w t key) _ w _ refl (λ n. refl) (omega arith) (deleted-0 (slotIn s w t key));
+  set-if = λ kind s w t key rate comparator count mode. judge-turned setRow set.Refused (sets kind s w t key rate comparator count mode) _ w _ refl (λ n. refl) (omega arith) refl;
+  clear = λ s w t. judge-turned doneRow done.Refused (clears s w t) _ w _ refl (λ n. refl) (omega arith) refl;
+  cleanup = λ kind s w t stale. judge-turned doneRow done.Refused (cleans kind s w t) _ w _ refl (λ n. refl) (omega arith) refl;
   provider-cleanup = both-turned;
   read-out = read-turned;
 }

@@ -8,7 +8,7 @@ use mathlib.Core.Logic.{_≢_}
 use Prim.Native.Nat.{ℕ, _-_, _≤_, _<_}
 use native.Mathlib.Omega.{arith}
 use lib.Dec.{ltb, leb, eqb}
-use borrow.Author.Tests.{eq-eqb, eqb-true, eqb-false, ltb-false, leb-false, not-false}
+use borrow.Author.Tests.{ltb-false, leb-false, not-false}
 use Rattle.common.specs.Comparator.{matches}
 use Rattle.common.specs.Limits.{rateBack}
 use Rattle.common.specs.Ranges.{rateOk}
@@ -35,8 +35,8 @@ use Rattle.frame.specs.Keys.{Bytes}
 use Rattle.frame.specs.Whole.{Cleared, clear-read-run}
 use Rattle.judge.specs.declared.RoomKind.{RoomKind}
 use Rattle.judge.specs.declared.Slot.{Slot}
-use Rattle.judge.specs.Judge.{refusals, early, Passed}
-use Rattle.judge.specs.Laws.{passed, refused-early, refused-own}
+use Rattle.judge.specs.Judge.{refusals, Passed}
+use Rattle.judge.specs.Laws.{passed}
 use Rattle.judge.specs.Sound.{divisor, addressed, soundSlot}
 use Rattle.judge.specs.Verdict.{Verdict, verdict, judge}
 use Rattle.change.specs.declared.Change.the-variants.{Keep, Update}
@@ -54,23 +54,7 @@ use Rattle.cleanup.specs.Cleanup as Cleanup
 use Rattle.cleanup.specs.Laws as CleanupLaws
 use Rattle.views.specs.Calls.{Stands, resetView, keep-words, live-is, declined-live, live-none, delete-gives, delete-frees, delete-keeps, rate-stands, set-keeps, set-frees, set-stands, set-begins-lone, set-begins}
 use Rattle.views.specs.Cleanup.{Cleaned, clean-run, clean-sound}
-
--- ---- a call that is not turned away
-
-done-is : {A : Type 0} (turned : ℕ → A) (n : ℕ) (w : List ℕ) (v : Verdict A) (P : Verdict A → Type 0) → n ≡ 0 → P v → P (judge turned n w v)
-unfolding judge
-done-is turned n w v P e p = subst P (sym (rw (eq-eqb n 0 e))) p
-
-module _ (kind : RoomKind) (s : Settings) (w : List ℕ) (t : ℕ) (key : List ℕ) (own : List (ℕ × Bool)) where
-  not-early : first (refusals kind s w t key own) ≡ 0 → early kind s w t key ≡ 0
-  not-early e = go (eqb (early kind s w t key) 0) refl
-    where
-      go : (y : Bool) → eqb (early kind s w t key) 0 ≡ y → early kind s w t key ≡ 0
-      go true h = eqb-true _ _ h
-      go false h = sym (refused-early kind s w t key own (eqb-false _ _ h)) ∙ e
-
-  not-own : first (refusals kind s w t key own) ≡ 0 → first own ≡ 0
-  not-own e = sym (refused-own kind s w t key own (not-early e)) ∙ e
+use Rattle.views.specs.Follows.{follows, unrefused-early, unrefused-own}
 
 -- ---- the key's buckets, and what is live of them
 
@@ -216,24 +200,27 @@ module _ (kind : RoomKind) (s : Settings) (w : List ℕ) (t : ℕ) (key : List �
   pub rate-follows : (rate : RateLimit) → first (refusals kind s w t key (Rate.rateOwn rate)) ≡ 0 → RateRule kind s w t rate (slotIn s w t key) (Rate.setRateLimit kind s w t key rate)
   unfolding Rate.rateOwn
   rate-follows rate e =
-      let p = passed kind s w t key (not-early kind s w t key (Rate.rateOwn rate) e) in
-      let g = all-false (Rate.rateOwn rate) (omega arith) (not-own kind s w t key (Rate.rateOwn rate) e) in
-      done-is old.Refused _ w _ (RateRule kind s w t rate (slotIn s w t key)) e (rate-does kind s w t key p rate (not-false (rateOk (rate .0)) (g .0)))
+      let own = Rate.rateOwn rate in
+      let g = all-false own (omega arith) (unrefused-own kind s w t key own e) in
+      let p = passed kind s w t key (unrefused-early kind s w t key own e) in
+      follows old.Refused _ w _ (RateRule kind s w t rate (slotIn s w t key)) (λ z. rate-does kind s w t key p rate (not-false (rateOk (rate .0)) (g .0))) .done e
 
   pub delete-follows : first (refusals kind s w t key []) ≡ 0 → DeleteRule s w t (slotIn s w t key) (Delete.delete kind s w t key)
   delete-follows e =
-      done-is delete.Refused _ w _ (DeleteRule s w t (slotIn s w t key)) e (delete-does kind s w t key (passed kind s w t key (not-early kind s w t key [] e)))
+      follows delete.Refused _ w _ (DeleteRule s w t (slotIn s w t key)) (λ z. delete-does kind s w t key (passed kind s w t key (unrefused-early kind s w t key [] z))) .done e
 
   pub set-follows : (rate : RateLimit) (comparator : RateLimitComparator) (count : ℕ) (mode : HistoryUpdateMode) → Bytes key → first (refusals kind s w t key (Sets.setOwnOf kind s w rate comparator count mode (slotIn s w t key))) ≡ 0 →
       SetRule kind s w t key rate comparator count mode (slotIn s w t key) (Sets.set kind s w t key rate comparator count mode)
   set-follows rate comparator count mode y e =
       let own = Sets.setOwnOf kind s w rate comparator count mode (slotIn s w t key) in
-      done-is set.Refused _ w _ (SetRule kind s w t key rate comparator count mode (slotIn s w t key)) e
-      (set-does kind s w t key (passed kind s w t key (not-early kind s w t key own e)) rate comparator count mode y (not-own kind s w t key own e))
+      let p = passed kind s w t key (unrefused-early kind s w t key own e) in
+      follows set.Refused _ w _ (SetRule kind s w t key rate comparator count mode (slotIn s w t key))
+      (λ z. set-does kind s w t key p rate comparator count mode y (unrefused-own kind s w t key own z)) .done e
 
 pub clear-follows : (s : Settings) (w : List ℕ) (t : ℕ) → Clear.clearRefusal s w t ≡ 0 → ClearRule w t (Clear.clear s w t)
 clear-follows s w t e =
-    done-is done.Refused (Clear.clearRefusal s w t) w (verdict done.Done (withReading (cleared w) t)) (ClearRule w t) e (record { answer = refl; leaves = clear-read-run w (Clear.clear-room s w t e) t })
+    follows done.Refused (Clear.clearRefusal s w t) w (verdict done.Done (withReading (cleared w) t)) (ClearRule w t)
+    (λ z. record { answer = refl; leaves = clear-read-run w (Clear.clear-room s w t z) t }) .done e
 
 -- a room that is not turned away, cleaned
 pub clean-follows : (kind : RoomKind) (s : Settings) (w : List ℕ) (t stale : ℕ) → Cleanup.refusal kind s w t ≡ 0 → CleanRule kind s w (Cleanup.cleaned w t stale) t stale
