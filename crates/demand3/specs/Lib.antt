@@ -5,3 +5,4 @@ pub mod Places
 pub mod Decided
 pub mod Cleans
 pub mod Steps
+pub mod Owned

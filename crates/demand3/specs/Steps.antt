@@ -91,38 +91,10 @@ pub call-either : {A : Type 0} (turned : ℕ → A) (kind : RoomKind) (s : Setti
 unfolding judge
 call-either turned kind s w t key own v P f g = go (eqb (first (refusals kind s w t key own)) 0) refl
   where
-    n : ℕ
-    n = first (refusals kind s w t key own)
-
     go : (z : Bool) → eqb (first (refusals kind s w t key own)) 0 ≡ z →
         P (record { answer = cond z (v .answer) (turned (first (refusals kind s w t key own))); words = cond z (v .words) w })
     go true e = let b = both-none kind s w t key own (eqb-true _ 0 e) in g (b .0) (b .1)
     go false e = f _ (eqb-false _ 0 e)
-
--- ---- uses
-
-left-series : (z : Bool) → hasSeries (useLeft z) ≡ true
-left-series true = refl
-left-series false = refl
-
-after-series : (k : Caching) (x : Slot) → hasSeries (useAfter k x) ≡ true
-after-series Left x = left-series (stays x)
-after-series (Cached k) x = refl
-
-forgotten-series : (u : ℕ) → hasSeries u ≡ true → hasSeries (forgotten u) ≡ true
-forgotten-series u e = go (eqb u 3)
-  where
-    go : (z : Bool) → hasSeries (cond z 1 u) ≡ true
-    go true = refl
-    go false = e
-
-used-series : (x : Slot) (limit : ℕ) → hasSeries (x .used) ≡ true → hasSeries (usedWith x limit) ≡ true
-unfolding usedWith
-used-series x limit e = go (eqb limit (x .limit))
-  where
-    go : (z : Bool) → hasSeries (cond z (x .used) (forgotten (x .used))) ≡ true
-    go true = e
-    go false = forgotten-series (x .used) e
 
 module _ (s : Settings) (le : bucketIn s ≤ windowTicks (windowIn s)) (limit : ℕ) where
   abbrev b : ℕ
@@ -137,13 +109,13 @@ module _ (s : Settings) (le : bucketIn s ≤ windowTicks (windowIn s)) (limit : 
     abbrev KeptBy : List ℕ → Type 0
     KeptBy v = Kept s (keyOf key) limit v log
 
-    keep-kept : (at : ℕ) (j : List ℕ) → Room w → lastOf w ≤ t → KeptBy (applied w at j b t Keep)
+    pub keep-kept : (at : ℕ) (j : List ℕ) → Room w → lastOf w ≤ t → KeptBy (applied w at j b t Keep)
     keep-kept at j o l =
         subst (λ (v : List ℕ). Kept s (keyOf key) limit v log) (sym (keep-words w at j b t))
         (kept-same s le (keyOf key) limit w _ t log (still-same (read-change w at j b t (a .distinct) o) (keyOf key)) l (distinct-still (read-change w at j b t (a .distinct) o) (a .distinct) refl refl) a)
 
     -- a call with another key j that passes refusals 1 to 7
-    other-kept : (j : List ℕ) → Bytes j → j ≢ key → Passed kind.Suppressed s w t j → (at : ℕ) (change : Change) → Applies w at b t change → Placed w at (keyOf j) change → KeptBy (applied w at j b t change)
+    pub other-kept : (j : List ℕ) → Bytes j → j ≢ key → Passed kind.Suppressed s w t j → (at : ℕ) (change : Change) → Applies w at b t change → Placed w at (keyOf j) change → KeptBy (applied w at j b t change)
     other-kept j y n p at change o q =
         kept-same s le (keyOf key) limit w _ t log
         (placed-same w at j b t (a .distinct) change o q (keyOf key) (λ e. n (sym (key-injective key j (is .bytes) y (is .short) (p .short) e)))) (p .later)
@@ -187,7 +159,7 @@ module _ (s : Settings) (le : bucketIn s ≤ windowTicks (windowIn s)) (limit : 
         let p = passed kind.Suppressed s w t j e in
         other-kept j y n p (x .at) _ (get-applies s w t j e x refl (k .caching) (getChange x (k .caching)) refl) (get-placed s w t j p (k .caching)))
 
-    not-full : (x : Slot) (k : Asked) → first (factorOwn w x k) ≡ 0 → leb (slotsOf w) (placeOf w x) ≡ false
+    pub not-full : (x : Slot) (k : Asked) → first (factorOwn w x k) ≡ 0 → leb (slotsOf w) (placeOf w x) ≡ false
     not-full x k f = all-false (factorOwn w x k) (omega arith) f .0
 
     pub factor-other : (j : List ℕ) → Bytes j → j ≢ key → KeptBy (getFactor s w t j .words)
