@@ -8,6 +8,13 @@ ghost use Rattle.cleanup.specs.Cleanup as Cleanup;
 ghost use Rattle.common.specs.declared.history_mode.HistoryUpdateMode.the-variants.{Replace, Preserve};
 ghost use Rattle.judge.specs.declared.RoomKind.the-variants.{Absolute};
 ghost use Rattle.absolute.specs.Calls as Calls;
+use absolute_rules::ask_change;
+use absolute_rules::clears;
+use absolute_rules::decided;
+use absolute_rules::get_change;
+use absolute_rules::inc_change;
+use absolute_rules::late;
+use absolute_rules::place;
 use common::DeleteAnswer;
 use common::DoneAnswer;
 use common::HistoryPreservation;
@@ -33,14 +40,7 @@ pub fn get(settings: Settings, room: &mut [u64], reading: u64, key: &[u8]) -> To
     }
     let x = j.slot;
     let pass = x.pass;
-    change::apply(
-        room,
-        x.at,
-        key,
-        bucket.0,
-        reading,
-        absolute_rules::get_change(x),
-    );
+    change::apply(room, x.at, key, bucket.0, reading, get_change(x));
     TotalAnswer::Total(pass.live_total)
 }
 
@@ -61,15 +61,8 @@ pub fn is_allowed(
         return RateLimitDecision::Refused(code);
     }
     let x = j.slot;
-    let answer = absolute_rules::decided(window, reading, x);
-    change::apply(
-        room,
-        x.at,
-        key,
-        bucket.0,
-        reading,
-        absolute_rules::ask_change(x),
-    );
+    let answer = decided(window, reading, x);
+    change::apply(room, x.at, key, bucket.0, reading, ask_change(x));
     answer
 }
 
@@ -92,20 +85,20 @@ pub fn inc(
         return RateLimitDecision::Refused(code);
     }
     let x = j.slot;
-    let at = absolute_rules::place(room, x);
-    let out = absolute_rules::clears(room, bucket.0, reading, count, x);
-    let number = absolute_rules::late(room, bucket.0, reading, rate, count, at, out, x);
+    let at = place(room, x);
+    let out = clears(room, bucket.0, reading, count, x);
+    let number = late(room, bucket.0, reading, rate, count, at, out, x);
     if number != 0 {
         return RateLimitDecision::Refused(number);
     }
-    let answer = absolute_rules::decided(window, reading, x);
+    let answer = decided(window, reading, x);
     change::apply(
         room,
         at,
         key,
         bucket.0,
         reading,
-        absolute_rules::inc_change(rate, window, count, out, x),
+        inc_change(rate, window, count, out, x),
     );
     answer
 }

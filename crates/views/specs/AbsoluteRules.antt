@@ -71,7 +71,7 @@ limitBy w key = limitOf (bodyOf w (addressed w key))
 
 -- ---- what a call leaves
 
--- a known key's series has buckets ys now, in its slot and with its limit; use, key and the words of no cached factor are as they were
+-- a known key's series has buckets ys now, in its slot and with its limit; use, key and the two factor words are as they were
 abbrev pub Left : Settings → List ℕ → List ℕ → ℕ → List ℕ → List Bucket → Type 0
 Left s w v t key ys =
     Stands Absolute s w v (addressed w key) t (keyOf key) (limitBy w key) (factorOf (bodyOf w (addressed w key))) (factorTimeOf (bodyOf w (addressed w key))) 1 ys
