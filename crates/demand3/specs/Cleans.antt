@@ -5,7 +5,7 @@ use mathlib.Core.Bool.{Bool, true, false, not, _&&_, _||_, false≢true}
 use mathlib.Core.List.{List, [], _∷_}
 use mathlib.Core.Logic.{_≢_}
 use Prim.Native.Nat.{ℕ, _-_, _≤_, _<_}
-use native.Mathlib.Decide.{decLt, ℕ-discrete}
+use native.Mathlib.Decide.{ℕ-discrete}
 use native.Mathlib.Omega.{arith}
 use lib.Dec.{leb, ltb}
 use lib.ListN.{length}
@@ -20,8 +20,7 @@ use Rattle.ring.specs.Order.{Fine}
 use Rattle.ring.specs.Ring.{buckets}
 use Rattle.ring.specs.Sound.{soundBuckets, sound-true}
 use Rattle.room.specs.declared.Key.{Key}
-use Rattle.room.specs.Room.{slotsOf, ringOf, lastOf, useOf, keyAt, bodyOf, find}
-use Rattle.frame.specs.Distinct.{find-use, find-key, find-where}
+use Rattle.room.specs.Room.{slotsOf, ringOf, lastOf, useOf, keyAt, bodyOf}
 use Rattle.judge.specs.declared.RoomKind.the-variants as kind
 use Rattle.judge.specs.Sound.{limitOf, hasSeries, soundSeries}
 use Rattle.cleanup.specs.Cleanup.{seriesStays, refusal, cleanup}
@@ -29,7 +28,7 @@ use Rattle.cleanup.specs.Laws.{Passed, passed, passed-sound, sound-parts, other
 use Rattle.views.specs.Cleanup.{Cleaned, series-kept, clean-distinct, done-run, refused-words}
 use Rattle.spans.specs.Good.{Good, good-later, good-drop}
 use Rattle.spans.specs.Log.{Entry}
-use Rattle.demand3.specs.Kept.{Has, GoodAt, Kept}
+use Rattle.demand3.specs.Kept.{Has, has-or, GoodAt, Kept}
 
 no-buckets : (xs : List Bucket) → length xs ≤ 0 → xs ≡ []
 no-buckets [] h = refl
@@ -67,27 +66,16 @@ module _ (s : Settings) (le : bucketIn s ≤ windowTicks (windowIn s)) (limit st
 
     -- no slot of v has k's series
     gone : ((i : ℕ) → Has v k i → ⊥) → GoodAt s limit t [] log
-    gone f = go (decLt (find w k) (slotsOf w)) (hasSeries (useOf w (find w k))) refl
+    gone f = has-or w k (a .distinct) (λ i h. stood i h (seriesStays (buckets (ringOf w) (bodyOf w i)) t stale) refl) (λ g. later [] (a .bare g))
       where
-        none : ((find w k < slotsOf w) → hasSeries (useOf w (find w k)) ≡ true → ⊥) → (i : ℕ) → Has w k i → ⊥
-        none n i h =
-            let e : find w k ≡ i = find-where w k i (a .distinct) (h .inside) (λ z. false≢true (sym (ap hasSeries z) ∙ h .series)) (h .key) in
-            n (omega (arith, h .inside)) (ap (λ (j : ℕ). hasSeries (useOf w j)) e ∙ h .series)
-
-        stood : (h : Has w k (find w k)) (z : Bool) → seriesStays (buckets (ringOf w) (bodyOf w (find w k))) t stale ≡ z → GoodAt s limit t [] log
-        stood h true e =
-            absurd (f (find w k) (record {
+        stood : (i : ℕ) (h : Has w k i) (z : Bool) → seriesStays (buckets (ringOf w) (bodyOf w i)) t stale ≡ z → GoodAt s limit t [] log
+        stood i h true e =
+            absurd (f i (record {
               inside = omega (arith, h .inside, c .slots);
-              key = c .keys (find w k) ∙ h .key;
-              series = series-kept c (find w k) (h .inside) ∙ true-and (hasSeries (useOf w (find w k))) _ (h .series) e;
+              key = c .keys i ∙ h .key;
+              series = series-kept c i (h .inside) ∙ true-and (hasSeries (useOf w i)) _ (h .series) e;
             }))
-        stood h false e =
-            dropped t (lastOf w) (buckets (ringOf w) (bodyOf w (find w k))) log (in-order (find w k) h) e (later _ (a .good (find w k) h))
-
-        go : Dec (find w k < slotsOf w) → (z : Bool) → hasSeries (useOf w (find w k)) ≡ z → GoodAt s limit t [] log
-        go (yes n) true e = stood (record { inside = n; key = find-key w k n; series = e }) (seriesStays (buckets (ringOf w) (bodyOf w (find w k))) t stale) refl
-        go (yes n) false e = later [] (a .bare (none (λ m g. false≢true (sym e ∙ g))))
-        go (no n) z e = later [] (a .bare (none (λ m g. n m)))
+        stood i h false e = dropped t (lastOf w) (buckets (ringOf w) (bodyOf w i)) log (in-order i h) e (later _ (a .good i h))
 
     cleaned-kept : Kept s k limit v log
     cleaned-kept = record {

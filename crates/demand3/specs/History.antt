@@ -7,8 +7,8 @@ use mathlib.Core.Logic.{_≢_}
 use Prim.Native.Nat.{ℕ, _≤_}
 use lib.Dec.{eqb}
 use lib.ListN.{length, getD}
-use borrow.Author.Tests.{eqb-true}
-use Rattle.base.specs.Decides.{and-true}
+use borrow.Author.Tests.{eq-eqb, eqb-true}
+use Rattle.base.specs.Decides.{and-true, true-and}
 use Rattle.common.specs.Answers.{decisionRow}
 use Rattle.common.specs.Limits.{hardWord, cutWord, softWord}
 use Rattle.common.specs.Settings.{windowIn, bucketIn, factorIn}
@@ -91,6 +91,10 @@ same-bytes (x ∷ xs) (y ∷ ys) e =
     let p = and-true (eqb x y) _ e in
     ap₂ (λ (z : ℕ) (zs : List ℕ). z ∷ zs) (eqb-true x y (p .0)) (same-bytes xs ys (p .1))
 
+pub bytes-same : (a : List ℕ) → sameBytes a a ≡ true
+bytes-same [] = refl
+bytes-same (x ∷ xs) = true-and (eqb x x) _ (eq-eqb x x refl) (bytes-same xs)
+
 -- the key's log after a call
 abbrev pub logged : Settings → List ℕ → List ℕ → ℕ → Op → List Entry → List Entry
 logged s key w t (inc k rate count draw) log = noted (sameBytes k key && admits (Own.inc s w t k rate count draw .answer)) t count log
@@ -131,11 +135,11 @@ AllSpare s key rate (c ∷ cs) = Spares s key rate (c .op) × AllSpare s key rat
 
 -- ---- the key's limits: H, and S
 
-abbrev pub limitOf : Settings → RateLimit → ℕ
-limitOf s rate = hardWord (rate .0) (factorIn s) (windowIn s)
+abbrev pub limitWord : Settings → RateLimit → ℕ
+limitWord s rate = hardWord (rate .0) (factorIn s) (windowIn s)
 
 abbrev pub hardOf : Settings → RateLimit → ℕ
-hardOf s rate = cutWord (limitOf s rate)
+hardOf s rate = cutWord (limitWord s rate)
 
 abbrev pub softOf : Settings → RateLimit → ℕ
-softOf s rate = softWord (factorIn s) (limitOf s rate)
+softOf s rate = softWord (factorIn s) (limitWord s rate)

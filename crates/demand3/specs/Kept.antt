@@ -6,7 +6,7 @@ use mathlib.Core.Bool.{Bool, true, false, false≢true}
 use mathlib.Core.List.{List, []}
 use mathlib.Core.Logic.{_≢_}
 use Prim.Native.Nat.{ℕ, _≤_, _<_}
-use native.Mathlib.Decide.{ℕ-discrete}
+use native.Mathlib.Decide.{ℕ-discrete, decLt}
 use native.Mathlib.Omega.{arith}
 use Rattle.common.specs.Limits.{cutWord}
 use Rattle.common.specs.Settings.{windowIn, bucketIn}
@@ -15,8 +15,8 @@ use Rattle.history.specs.Rules.{windowTicks}
 use Rattle.ring.specs.declared.Bucket.{Bucket}
 use Rattle.ring.specs.Ring.{buckets}
 use Rattle.room.specs.declared.Key.{Key}
-use Rattle.room.specs.Room.{slotsOf, ringOf, lastOf, useOf, keyAt, bodyOf}
-use Rattle.frame.specs.Distinct.{Distinct}
+use Rattle.room.specs.Room.{slotsOf, ringOf, lastOf, useOf, keyAt, find, bodyOf}
+use Rattle.frame.specs.Distinct.{Distinct, find-key, find-where}
 use Rattle.frame.specs.Frame.{Changed, other-use, other-key}
 use Rattle.judge.specs.Sound.{limitOf, hasSeries}
 use Rattle.spans.specs.Good.{Good, good-later}
@@ -30,6 +30,20 @@ pub record Has (w : List ℕ) (k : Key) (i : ℕ) : Type 0 where
 
 pub free-has : {w : List ℕ} {k : Key} {i : ℕ} → useOf w i ≡ 0 → Has w k i → ⊥
 free-has e h = false≢true (sym (ap hasSeries e) ∙ h .series)
+
+-- k has a series or not
+pub has-or : {A : Type 0} (w : List ℕ) (k : Key) → Distinct w → ((i : ℕ) → Has w k i → A) → (((i : ℕ) → Has w k i → ⊥) → A) → A
+has-or {A} w k d f g = go (decLt (find w k) (slotsOf w)) (hasSeries (useOf w (find w k))) refl
+  where
+    none : (find w k < slotsOf w → hasSeries (useOf w (find w k)) ≡ true → ⊥) → (i : ℕ) → Has w k i → ⊥
+    none n i h =
+        let e : find w k ≡ i = find-where w k i d (h .inside) (λ z. free-has z h) (h .key) in
+        n (omega (arith, h .inside)) (ap (λ (j : ℕ). hasSeries (useOf w j)) e ∙ h .series)
+
+    go : Dec (find w k < slotsOf w) → (z : Bool) → hasSeries (useOf w (find w k)) ≡ z → A
+    go (yes n) true e = f (find w k) (record { inside = n; key = find-key w k n; series = e })
+    go (yes n) false e = g (none (λ m h. false≢true (sym e ∙ h)))
+    go (no n) z e = g (none (λ m h. n m))
 
 -- good for settings and a limit
 abbrev pub GoodAt : Settings → ℕ → ℕ → List Bucket → List Entry → Type 0

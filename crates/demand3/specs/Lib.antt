@@ -6,3 +6,4 @@ pub mod Decided
 pub mod Cleans
 pub mod Steps
 pub mod Owned
+pub mod Increments
