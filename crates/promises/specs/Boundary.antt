@@ -2,8 +2,8 @@
 -- name; a line that speaks of calls is computed by the calls, one after the other, on the words of an empty room (`Cases.antt`).
 -- Assumes nothing.
 use mathlib.Core.Path.{_≡_, refl}
-use mathlib.Core.Bool.{Bool, true, false}
-use mathlib.Core.List.{List, [], _∷_}
+use mathlib.Core.Bool.{true, false}
+use mathlib.Core.List.{[], _∷_}
 use mathlib.Core.Logic.{_≢_}
 use Prim.Native.Nat.{ℕ, _^_, _+_}
 use lib.Ieee as Ieee

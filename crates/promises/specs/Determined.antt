@@ -1,21 +1,13 @@
 -- Each public contract leaves one result: whatever two results it allows, answers and everything lent, are equal. Demand 1 says what a refusal is, and
 -- this that there is nothing else a caller could be told, refusals included.
 -- Assumes nothing.
-use mathlib.Core.Path.{_≡_, refl, sym, _∙_}
+use mathlib.Core.Path.{_≡_, refl, sym, subst, _∙_}
 use mathlib.Core.Bool.{Bool, true, false}
 use mathlib.Core.List.{List}
 use Prim.Native.Nat.{ℕ}
 use lib.Ieee.{Float}
 use Rattle.base.specs.Decides.{Decides}
 use Rattle.common.specs.Limits.{rateBack}
-use Rattle.common.specs.declared.answers.DeleteAnswer.{DeleteAnswer}
-use Rattle.common.specs.declared.answers.DoneAnswer.{DoneAnswer}
-use Rattle.common.specs.declared.answers.FactorAnswer.{FactorAnswer}
-use Rattle.common.specs.declared.answers.OldRateAnswer.{OldRateAnswer}
-use Rattle.common.specs.declared.answers.RateLimitDecision.{RateLimitDecision}
-use Rattle.common.specs.declared.answers.SetAnswer.{SetAnswer}
-use Rattle.common.specs.declared.answers.SnapshotAnswer.{SnapshotAnswer}
-use Rattle.common.specs.declared.answers.TotalAnswer.{TotalAnswer}
 use Rattle.common.specs.declared.comparator.RateLimitComparator.{RateLimitComparator}
 use Rattle.common.specs.declared.history_mode.HistoryUpdateMode.{HistoryUpdateMode}
 use Rattle.common.specs.declared.settings.Settings.{Settings}
@@ -24,7 +16,7 @@ use Rattle.ring.specs.declared.Bucket.{Bucket}
 use Rattle.ring.specs.Ring.{Shape}
 use Rattle.room.specs.Room.{Room, Made, Starts}
 use Rattle.judge.specs.declared.RoomKind.{RoomKind}
-use Rattle.judge.specs.Verdict.{Verdict, Told}
+use Rattle.judge.specs.Verdict.{Verdict, verdict, Told}
 use Rattle.calls.specs.Clear as Clear
 use Rattle.calls.specs.Delete as Delete
 use Rattle.calls.specs.Rate as Rate
@@ -61,6 +53,10 @@ decides-one P true true p q = refl
 decides-one P true false p q = absurd (q p)
 decides-one P false true p q = absurd (p q)
 decides-one P false false p q = refl
+
+-- so what is promised of a verdict is promised of the answer that a caller gets and of the words that it finds
+pub told-so : {A : Type 0} (v : Verdict A) (r : A) (exit : List ℕ) (P : Verdict A → Type 0) → Told v r exit → P v → P (verdict r exit)
+told-so v r exit P o p = subst P (told-one v v (verdict r exit) (record { answer = refl; words = refl }) o) p
 
 -- ---- by function
 

@@ -2,20 +2,18 @@
 -- and leaves every word as it was. That there is an answer for every input is what each function's own proof says: none of these functions has a
 -- `requires`, and each is proved to end without fault and with the verdict below. Here the verdicts are held against the table.
 -- Assumes nothing.
-use mathlib.Core.Path.{_≡_, refl, sym, ap, ap₂, subst, _∙_}
+use mathlib.Core.Path.{_≡_, refl}
 use mathlib.Core.Bool.{Bool, true, false, not, _&&_, cond}
 use mathlib.Core.List.{List, [], _∷_, _++_}
-use mathlib.Core.Logic.{_≢_}
 use Prim.Native.Nat.{ℕ}
 use native.Mathlib.Omega.{arith}
-use lib.Dec.{ltb, eqb}
+use lib.Dec.{ltb}
 use lib.ListN.{length}
 use borrow.Author.Tests.{eq-eqb, ne-eqb}
 use Rattle.common.specs.Answers.{row, refusedRow, decisionRow, totalRow, snapshotRow, factorRow, oldRateRow, deleteRow, setRow, doneRow}
 use Rattle.common.specs.Refusals.{first}
 use Rattle.common.specs.Limits.{cutWord, softWord}
 use Rattle.common.specs.Settings.{factorIn, faults}
-use Rattle.common.specs.declared.answers.DoneAnswer.{DoneAnswer}
 use Rattle.common.specs.declared.answers.DoneAnswer.the-variants as done
 use Rattle.common.specs.declared.answers.DeleteAnswer.the-variants as delete
 use Rattle.common.specs.declared.answers.FactorAnswer.the-variants as factor
@@ -51,7 +49,6 @@ use Rattle.suppressed.specs.Calls as Suppressed
 use Rattle.suppressed_rules.specs.Factor.{asked}
 use Rattle.suppressed_rules.specs.Forecast.{forecast, reachOf, drawn, outcome, outcomeOf}
 use Rattle.suppressed_rules.specs.declared.factor.Asked.{Asked}
-use Rattle.suppressed_rules.specs.declared.forecast.Outcome.{Outcome}
 use Rattle.suppressed_rules.specs.declared.forecast.Reach.{Reach}
 use Rattle.suppressed_rules.specs.declared.forecast.Reach.the-variants.{Hard, Soft, Over, Between}
 use Rattle.views.specs.AbsoluteRules.{incTurns}
@@ -62,7 +59,7 @@ use Rattle.provider.specs.Laws.{eitherMisfits, both-by-table}
 use Rattle.readout.specs.ReadOut as ReadOut
 use Rattle.readout.specs.declared.ReadOutAnswer.{ReadOutAnswer}
 use Rattle.readout.specs.declared.ReadOutAnswer.the-variants as readOut
-use Rattle.promises.specs.Lowest.{Lowest, TurnedBy, Rises, numberOf, turned-by, judge-turned}
+use Rattle.promises.specs.Lowest.{TurnedBy, Rises, numberOf, turned-by, judge-turned}
 
 -- ---- each call's table: 1 to 4 judge the settings (`faults`), 5 to 7 the room, the reading and the key (`misfits`), and then come the call's own
 
@@ -189,14 +186,19 @@ both-turned s a b t stale =
     (λ z. rw (e, eq-eqb (first (cleansBoth s a b t)) 0 z))
     (λ z. rw (e, ne-eqb (first (cleansBoth s a b t)) 0 z))
 
+pub reads-number : (kind : RoomKind) (s : Settings) (w key : List ℕ) → ReadOut.refusal kind s w key ≡ first (reads kind s w key)
+unfolding ReadOut.refusal
+reads-number kind s w key = refl
+
 read-turned : (kind : RoomKind) (s : Settings) (w key : List ℕ) (cells : List Bucket) →
     TurnedBy (reads kind s w key) (readOutRow (ReadOut.readOut kind s w key cells .answer)) cells (ReadOut.readOut kind s w key cells .row)
-unfolding ReadOut.readOut ReadOut.refusal readOutRow faults
+unfolding ReadOut.readOut readOutRow faults
 read-turned kind s w key cells =
+    let e = reads-number kind s w key in
     turned-by (reads kind s w key) _ _ _ (omega arith)
-    (λ z. rw (ne-eqb (first (reads kind s w key)) 0 z))
-    (λ z. rw (eq-eqb (first (reads kind s w key)) 0 z))
-    (λ z. rw (ne-eqb (first (reads kind s w key)) 0 z))
+    (λ z. rw (e, ne-eqb (first (reads kind s w key)) 0 z))
+    (λ z. rw (e, eq-eqb (first (reads kind s w key)) 0 z))
+    (λ z. rw (e, ne-eqb (first (reads kind s w key)) 0 z))
 
 -- ---- the proof
 

@@ -1,9 +1,9 @@
 -- Demand 2, on the side of the proofs: what each call that is not turned away answers and leaves is what document 01's rules make of what it finds. A field for each call;
 -- what the rules are stands in the records that the fields name. (On the other side the original Rust is run beside the calls: docs/DIFFERENCES.md.)
 -- Assumes nothing.
-use mathlib.Core.Path.{_≡_, refl, sym, ap, subst, _∙_}
-use mathlib.Core.Bool.{Bool, true, false, cond}
-use mathlib.Core.List.{List, []}
+use mathlib.Core.Path.{_≡_, sym, subst, _∙_}
+use mathlib.Core.Bool.{Bool, true, cond}
+use mathlib.Core.List.{List}
 use mathlib.Core.Logic.{_⊎_, inl, inr}
 use Prim.Native.Nat.{ℕ}
 use lib.Dec.{eqb}
@@ -42,7 +42,7 @@ use Rattle.readout.specs.ReadOut as ReadOut
 use Rattle.readout.specs.ReadOut.{bucketsOf}
 use Rattle.readout.specs.Row.{over}
 use Rattle.readout.specs.declared.ReadOutAnswer.the-variants as readOut
-use Rattle.promises.specs.Refusals.{absoluteInc, plain, suppressedInc, suppressedGet, suppressedFactor, setRate, sets, clears, cleans, cleansBoth, reads}
+use Rattle.promises.specs.Refusals.{absoluteInc, plain, suppressedInc, suppressedGet, suppressedFactor, setRate, sets, clears, cleans, cleansBoth, reads, reads-number}
 use Rattle.promises.specs.Shared.{RateRule, DeleteRule, SetRule, ClearRule, CleanRule, rate-follows, delete-follows, set-follows, clear-follows, clean-follows}
 
 -- cleanup of one room
@@ -100,8 +100,10 @@ cleans-both s a b t stale e =
     }
 
 reads-out : (kind : RoomKind) (s : Settings) (w key : List ℕ) (row : List Bucket) → first (reads kind s w key) ≡ 0 → ReadsOut kind s w key row
-unfolding ReadOut.readOut ReadOut.refusal
-reads-out kind s w key row e = record { answer = rw (eq-eqb (first (reads kind s w key)) 0 e); fills = rw (eq-eqb (first (reads kind s w key)) 0 e) }
+unfolding ReadOut.readOut
+reads-out kind s w key row e =
+    let z = eq-eqb (ReadOut.refusal kind s w key) 0 (reads-number kind s w key ∙ e) in
+    record { answer = rw z; fills = rw z }
 
 -- of the two ways, the one that is left
 unturned : {A : Type 0} (turned : ℕ → A) (w : List ℕ) (n : ℕ) (v : Verdict A) (P : Type 0) → n ≡ 0 → Own.Turned turned w n v ⊎ P → P

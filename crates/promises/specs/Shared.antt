@@ -2,12 +2,12 @@
 -- `Stands` says of a slot its buckets, limit, cached factor and use, that it is sound again, and that every other slot is word for word as it was.
 -- Assumes nothing.
 use mathlib.Core.Path.{_≡_, refl, sym, ap, ap₂, subst, _∙_}
-use mathlib.Core.Bool.{Bool, true, false, not, _&&_, _||_, cond, false≢true, true≢false}
-use mathlib.Core.List.{List, [], _∷_, _++_}
+use mathlib.Core.Bool.{Bool, true, false, cond}
+use mathlib.Core.List.{List, [], _∷_}
 use mathlib.Core.Logic.{_≢_}
 use Prim.Native.Nat.{ℕ, _-_, _≤_, _<_}
 use native.Mathlib.Omega.{arith}
-use lib.Dec.{ltb, leb, eqb}
+use lib.Dec.{eqb}
 use borrow.Author.Tests.{ltb-false, leb-false, not-false}
 use Rattle.common.specs.Comparator.{matches}
 use Rattle.common.specs.Limits.{rateBack}
@@ -29,7 +29,7 @@ use Rattle.common.specs.declared.units.RateLimit.{RateLimit}
 use Rattle.history.specs.Rules.{ahead, live}
 use Rattle.ring.specs.declared.Bucket.{Bucket}
 use Rattle.ring.specs.Ring.{bucket, sumOf, counts, declineds, mostTotal, buckets}
-use Rattle.room.specs.Room.{slotsOf, ringOf, useOf, keyAt, keyOf, bodyOf, vacant, withReading, cleared}
+use Rattle.room.specs.Room.{slotsOf, ringOf, useOf, keyAt, keyOf, bodyOf, withReading, cleared}
 use Rattle.frame.specs.Frame.{Changed}
 use Rattle.frame.specs.Keys.{Bytes}
 use Rattle.frame.specs.Whole.{Cleared, clear-read-run}
@@ -38,7 +38,7 @@ use Rattle.judge.specs.declared.Slot.{Slot}
 use Rattle.judge.specs.Judge.{refusals, Passed}
 use Rattle.judge.specs.Laws.{passed}
 use Rattle.judge.specs.Sound.{divisor, addressed, soundSlot}
-use Rattle.judge.specs.Verdict.{Verdict, verdict, judge}
+use Rattle.judge.specs.Verdict.{Verdict, verdict}
 use Rattle.change.specs.declared.Change.the-variants.{Keep, Update}
 use Rattle.change.specs.declared.Then.the-variants.{Nothing}
 use Rattle.change.specs.Words.{applied}
@@ -52,7 +52,7 @@ use Rattle.calls.specs.Set as Sets
 use Rattle.calls.specs.Set.{idle, liveIn, placeIn}
 use Rattle.cleanup.specs.Cleanup as Cleanup
 use Rattle.cleanup.specs.Laws as CleanupLaws
-use Rattle.views.specs.Calls.{Stands, resetView, keep-words, live-is, declined-live, live-none, delete-gives, delete-frees, delete-keeps, rate-stands, set-keeps, set-frees, set-stands, set-begins-lone, set-begins}
+use Rattle.views.specs.Calls.{Stands, resetView, keep-words, live-is, live-none, delete-gives, delete-frees, delete-keeps, rate-stands, set-keeps, set-frees, set-stands, set-begins-lone, set-begins}
 use Rattle.views.specs.Cleanup.{Cleaned, clean-run, clean-sound}
 use Rattle.views.specs.Follows.{follows, unrefused-early, unrefused-own}
 

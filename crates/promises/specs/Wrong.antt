@@ -1,8 +1,8 @@
 -- What wrong limiters break. A limiter is here any function with the inputs and results of a call; each theorem says which promise one of a wrong kind cannot
 -- keep, by a case that the definitions decide (`Boundary.antt`). The cases are the suppressed limiter's at H = 20, S = 10.
 -- Assumes nothing.
-use mathlib.Core.Path.{_≡_, refl, sym, ap, ap₂, subst, _∙_}
-use mathlib.Core.Bool.{Bool, true, false, _&&_, _||_, cond}
+use mathlib.Core.Path.{_≡_, refl, sym, ap, subst, _∙_}
+use mathlib.Core.Bool.{Bool, _&&_, _||_, cond}
 use mathlib.Core.List.{List, [], _∷_}
 use mathlib.Core.Logic.{_≢_}
 use Prim.Native.Nat.{ℕ, _+_, _≤_}
@@ -11,12 +11,10 @@ use lib.Dec.{eqb}
 use lib.ListN.{length, getD, set}
 use Rattle.common.specs.Answers.{refusedRow, decisionRow, snapshotRow}
 use Rattle.common.specs.Ranges.{one}
-use Rattle.common.specs.Refusals.{first}
 use Rattle.common.specs.Settings.{defaults, withWindow}
 use Rattle.common.specs.declared.answers.RateLimitDecision.{RateLimitDecision}
-use Rattle.common.specs.declared.answers.RateLimitDecision.the-variants.{Allowed, Suppressed}
+use Rattle.common.specs.declared.answers.RateLimitDecision.the-variants.{Allowed}
 use Rattle.common.specs.declared.answers.SnapshotAnswer.{SnapshotAnswer}
-use Rattle.common.specs.declared.answers.SnapshotAnswer.the-variants as snapshot
 use Rattle.common.specs.declared.settings.Settings.{Settings}
 use Rattle.common.specs.declared.units.RateLimit.{RateLimit}
 use Rattle.ring.specs.declared.Bucket.{Bucket}
@@ -26,7 +24,7 @@ use Rattle.judge.specs.Verdict.{Verdict, Told}
 use Rattle.suppressed.specs.Calls as Own
 use Rattle.readout.specs.ReadOut.{bucketsOf}
 use Rattle.promises.specs.Lowest.{Lowest, TurnedBy, numberOf, lowest-first, lowest-positive, first-lowest}
-use Rattle.promises.specs.Refusals.{suppressedInc, rises}
+use Rattle.promises.specs.Refusals.{suppressedInc, rises, demand1}
 use Rattle.promises.specs.Cases.{hardBy, perSecond, key, room, sinc, sget, single, twenty}
 use Rattle.promises.specs.Boundary.{boundary, further}
 
@@ -66,6 +64,13 @@ spent f w (c ∷ cs) = cond (admits (at0 f w c .answer)) c 0 + spent f (at0 f w 
 -- demand 3's ceiling over the shortest of spans, a single reading: at most H of whatever counts come
 abbrev pub Ceiling : Inc → Type 0
 Ceiling f = (counts : List ℕ) → spent f room counts ≤ 20
+
+-- the limiter itself keeps them; that it keeps the ceiling is demand 3
+pub own-rules : ByRules Own.inc
+own-rules s w t k rate count draw = record { answer = refl; words = refl }
+
+pub own-table : ByTable Own.inc
+own-table = demand1 .suppressed-inc
 
 -- ---- refuses every call
 
