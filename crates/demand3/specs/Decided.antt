@@ -17,11 +17,11 @@ use Rattle.common.specs.declared.answers.RateLimitDecision.{RateLimitDecision}
 use Rattle.common.specs.declared.answers.RateLimitDecision.the-variants.{Allowed, Suppressed, Refused}
 use Rattle.common.specs.declared.settings.Settings.{Settings}
 use Rattle.judge.specs.declared.Slot.{Slot}
-use Rattle.suppressed.specs.declared.factor.Asked.{Asked}
-use Rattle.suppressed.specs.declared.forecast.Reach.{Reach}
-use Rattle.suppressed.specs.declared.forecast.Reach.the-variants.{Hard, Soft, Over, Between}
-use Rattle.suppressed.specs.Factor.{asked}
-use Rattle.suppressed.specs.Forecast.{reachOf, drawn, outcomeOf, outcome}
+use Rattle.suppressed_rules.specs.declared.factor.Asked.{Asked}
+use Rattle.suppressed_rules.specs.declared.forecast.Reach.{Reach}
+use Rattle.suppressed_rules.specs.declared.forecast.Reach.the-variants.{Hard, Soft, Over, Between}
+use Rattle.suppressed_rules.specs.Factor.{asked}
+use Rattle.suppressed_rules.specs.Forecast.{reachOf, drawn, outcomeOf, outcome}
 use Rattle.demand3.specs.History.{numberOf, admits}
 
 -- ---- the cases of a decision

@@ -39,14 +39,14 @@ use Rattle.plan.specs.Plan.{evicting, opening}
 use Rattle.calls.specs.Calls.{slotIn, hasSlot}
 use Rattle.calls.specs.Rate.{limitIn}
 use Rattle.calls.specs.SetLaws.{known-has}
-use Rattle.suppressed.specs.declared.factor.Caching.{Caching}
-use Rattle.suppressed.specs.declared.forecast.Outcome.{Outcome}
+use Rattle.suppressed_rules.specs.declared.factor.Caching.{Caching}
+use Rattle.suppressed_rules.specs.declared.forecast.Outcome.{Outcome}
 use Rattle.suppressed.specs.Calls.{unperceived, limitFor, incOutcome, incOwn, incDoes, incOn, inc}
-use Rattle.suppressed.specs.Edits.{recached, incEdit, incChange}
-use Rattle.suppressed.specs.Factor.{accepted}
-use Rattle.suppressed.specs.Forecast.{forecast}
+use Rattle.suppressed_edits.specs.Edits.{recached, incEdit, incChange}
+use Rattle.suppressed_rules.specs.Factor.{accepted}
+use Rattle.suppressed_rules.specs.Forecast.{forecast}
 use Rattle.suppressed.specs.Laws.{inc-applies, place-used}
-use Rattle.suppressed.specs.Refusals.{placeOf, incLate}
+use Rattle.suppressed_edits.specs.Refusals.{placeOf, incLate}
 use Rattle.suppressed.specs.Standing.{unknown, unperceived-is}
 use Rattle.spans.specs.Good.{good-record, good-floor}
 use Rattle.spans.specs.Log.{Entry, noted, aged}

@@ -38,13 +38,13 @@ use Rattle.plan.specs.Plan.{keeping, evicting}
 use Rattle.calls.specs.Calls.{slotIn, hasSlot, known-at}
 use Rattle.calls.specs.Rate.{limitIn, forgotten, usedWith, relimited, limiting, rateOwnOf, limits, setRateLimit, rate-applies}
 use Rattle.calls.specs.SetLaws.{known-has}
-use Rattle.suppressed.specs.declared.factor.Caching.{Caching}
-use Rattle.suppressed.specs.declared.factor.Caching.the-variants.{Left, Cached}
+use Rattle.suppressed_rules.specs.declared.factor.Caching.{Caching}
+use Rattle.suppressed_rules.specs.declared.factor.Caching.the-variants.{Left, Cached}
 use Rattle.suppressed.specs.Calls.{asking, getOwn, getDoes, getOn, get, factorOwn, factorDoes, factorOn, getFactor}
-use Rattle.suppressed.specs.Edits.{useLeft, useAfter, recached, getChange, loneEdit, loneChange, factorChange}
-use Rattle.suppressed.specs.Factor.{stays}
+use Rattle.suppressed_edits.specs.Edits.{useLeft, useAfter, recached, getChange, loneEdit, loneChange, factorChange}
+use Rattle.suppressed_rules.specs.Factor.{stays}
 use Rattle.suppressed.specs.Laws.{get-applies, factor-applies, place-used}
-use Rattle.suppressed.specs.Refusals.{placeOf}
+use Rattle.suppressed_edits.specs.Refusals.{placeOf}
 use Rattle.spans.specs.Good.{good-later, good-evict}
 use Rattle.spans.specs.Log.{Entry}
 use Rattle.demand3.specs.History.{IsKey}

@@ -34,10 +34,10 @@ use Rattle.calls.specs.Delete.{deleting}
 use Rattle.calls.specs.Rate.{usedWith, relimited, limiting}
 use Rattle.calls.specs.Set.{met, vain, already, idle, reset, begins, newly, stored, setting, placeIn}
 use Rattle.calls.specs.SetLaws.{known-has, cached-has, place-own}
-use Rattle.suppressed.specs.declared.factor.Caching.{Caching}
-use Rattle.suppressed.specs.declared.factor.Caching.the-variants.{Left, Cached}
-use Rattle.suppressed.specs.Edits.{recached, getChange, loneEdit, loneBy, loneChange, factorChange, incEdit, incChange}
-use Rattle.suppressed.specs.Refusals.{placeOf}
+use Rattle.suppressed_rules.specs.declared.factor.Caching.{Caching}
+use Rattle.suppressed_rules.specs.declared.factor.Caching.the-variants.{Left, Cached}
+use Rattle.suppressed_edits.specs.Edits.{recached, getChange, loneEdit, loneBy, loneChange, factorChange, incEdit, incChange}
+use Rattle.suppressed_edits.specs.Refusals.{placeOf}
 use Rattle.demand3.specs.Kept.{Has}
 use Rattle.demand3.specs.Placed.{Owns, Lacks, Placed}
 

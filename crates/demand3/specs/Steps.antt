@@ -57,16 +57,16 @@ use Rattle.calls.specs.Delete.{deletes, noOwn, delete, delete-applies}
 use Rattle.calls.specs.Rate.{limitIn, forgotten, usedWith, relimited, limiting, rateOwnOf, limits, setRateLimit, rate-applies}
 use Rattle.calls.specs.Set.{idle, setOwn, setOwnOf, sets, set, placeIn, full}
 use Rattle.calls.specs.SetLaws.{known-has, set-applies}
-use Rattle.suppressed.specs.declared.factor.Asked.{Asked}
-use Rattle.suppressed.specs.declared.factor.Caching.{Caching}
-use Rattle.suppressed.specs.declared.factor.Caching.the-variants.{Left, Cached}
-use Rattle.suppressed.specs.declared.forecast.Outcome.{Outcome}
+use Rattle.suppressed_rules.specs.declared.factor.Asked.{Asked}
+use Rattle.suppressed_rules.specs.declared.factor.Caching.{Caching}
+use Rattle.suppressed_rules.specs.declared.factor.Caching.the-variants.{Left, Cached}
+use Rattle.suppressed_rules.specs.declared.forecast.Outcome.{Outcome}
 use Rattle.suppressed.specs.Calls.{unperceived, asking, getOwn, getDoes, getOn, get, factorOwn, factorDoes, factorOn, getFactor, limitFor, incOutcome, incOwn, incDoes, incOn, inc}
-use Rattle.suppressed.specs.Edits.{useLeft, useAfter, recached, getChange, loneEdit, loneBy, loneChange, factorChange, incEdit, incChange}
-use Rattle.suppressed.specs.Factor.{stays}
-use Rattle.suppressed.specs.Forecast.{forecast}
+use Rattle.suppressed_edits.specs.Edits.{useLeft, useAfter, recached, getChange, loneEdit, loneBy, loneChange, factorChange, incEdit, incChange}
+use Rattle.suppressed_rules.specs.Factor.{stays}
+use Rattle.suppressed_rules.specs.Forecast.{forecast}
 use Rattle.suppressed.specs.Laws.{get-applies, factor-applies, inc-applies, place-used, with-series}
-use Rattle.suppressed.specs.Refusals.{placeOf, incLate}
+use Rattle.suppressed_edits.specs.Refusals.{placeOf, incLate}
 use Rattle.suppressed.specs.Standing.{unknown, unperceived-is}
 use Rattle.views.specs.Calls.{keep-words}
 use Rattle.spans.specs.Good.{Good, good-later, good-evict, good-record, good-floor}
