@@ -80,6 +80,8 @@
  *                            2 UNKNOWN key     -                   -                   -
  *   set_if, set_if_preserve  1 VALUE           1 matched, 0 not    total before        total after
  *   clear, cleanup           1 DONE            -                   -                   -
+ *   bucket                   1 VALUE           count               declined of it      its start, ms
+ *                            2 UNKNOWN place   -                   -                   -
  *
  * "bits" are those of a double; frostaxle_double() turns them back. REJECTED: after the wait the oldest bucket, which
  * holds row[4], is at the window's edge, and one millisecond later it is out, so ask again at wait + 1. SUPPRESSED with
@@ -255,6 +257,20 @@ uint64_t frostaxle_suppressed_set_if_preserve_history(uint64_t window, uint64_t 
 /* As for the absolute limiter; a cached factor stays only if it is younger than `stale`. */
 uint64_t frostaxle_suppressed_cleanup(uint64_t window, uint64_t bucket, uint64_t cache, double factor, uint64_t *room,
                                       size_t room_len, uint64_t reading, uint64_t stale, uint64_t row[5]);
+
+/* ---- the read-out */
+
+/*
+ * Bucket `at` of a key, counted from 0, the oldest; expired ones that are still stored too. UNKNOWN past the newest, and
+ * for an unknown key: ask from 0 on until UNKNOWN. No reading, and nothing changes; refusals are 1 to 5 and 7.
+ */
+uint64_t frostaxle_absolute_bucket(uint64_t window, uint64_t bucket, uint64_t cache, double factor,
+                                   const uint64_t *room, size_t room_len, const uint8_t *key, size_t key_len,
+                                   size_t at, uint64_t row[5]);
+
+uint64_t frostaxle_suppressed_bucket(uint64_t window, uint64_t bucket, uint64_t cache, double factor,
+                                     const uint64_t *room, size_t room_len, const uint8_t *key, size_t key_len,
+                                     size_t at, uint64_t row[5]);
 
 /* ---- both */
 

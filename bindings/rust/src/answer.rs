@@ -48,6 +48,16 @@ pub struct Snapshot {
     pub suppression_factor: f64,
 }
 
+/// What a key counted close together.
+#[derive(Clone, Copy, Debug, PartialEq, Eq)]
+pub struct Bucket {
+    pub count: u64,
+    /// How much of the count was declined; 0 in an absolute room.
+    pub declined: u64,
+    /// The reading at which it was added.
+    pub time: u64,
+}
+
 /// Whether a set's comparator was met, and the live totals before and after.
 #[derive(Clone, Copy, Debug, PartialEq, Eq)]
 pub struct SetOutcome {
@@ -134,6 +144,15 @@ pub(crate) fn values(row: Row) -> Result<[u64; 3], Refusal> {
 pub(crate) fn known(row: Row) -> Result<Option<u64>, Refusal> {
     match case(row)? {
         (1, [value, _, _]) => Ok(Some(value)),
+        (2, _) => Ok(None),
+        _ => Err(UNKNOWN_CASE),
+    }
+}
+
+/// A bucket, or none past the last.
+pub(crate) fn bucket(row: Row) -> Result<Option<Bucket>, Refusal> {
+    match case(row)? {
+        (1, [count, declined, time]) => Ok(Some(Bucket { count, declined, time })),
         (2, _) => Ok(None),
         _ => Err(UNKNOWN_CASE),
     }

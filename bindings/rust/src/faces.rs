@@ -9,6 +9,32 @@ extern "C" {
 
     pub fn frostaxle_make(room: *mut u64, room_len: usize, slots: u64, ring: u64) -> u64;
 
+    pub fn frostaxle_absolute_bucket(
+        window: u64,
+        bucket: u64,
+        cache: u64,
+        factor: f64,
+        room: *const u64,
+        room_len: usize,
+        key: *const u8,
+        key_len: usize,
+        at: usize,
+        row: *mut Row,
+    ) -> u64;
+
+    pub fn frostaxle_suppressed_bucket(
+        window: u64,
+        bucket: u64,
+        cache: u64,
+        factor: f64,
+        room: *const u64,
+        room_len: usize,
+        key: *const u8,
+        key_len: usize,
+        at: usize,
+        row: *mut Row,
+    ) -> u64;
+
     pub fn frostaxle_provider_cleanup(
         window: u64,
         bucket: u64,

@@ -30,7 +30,7 @@ mod limiters;
 mod refusal;
 mod room;
 
-pub use answer::{Comparator, Decision, Preservation, SetOutcome, Snapshot};
+pub use answer::{Bucket, Comparator, Decision, Preservation, SetOutcome, Snapshot};
 pub use limiters::{Absolute, Provider, Settings, Suppressed};
 pub use refusal::Refusal;
 pub use room::Room;

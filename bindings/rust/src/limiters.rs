@@ -1,5 +1,5 @@
 //! The limiters over rooms that they own.
-use crate::answer::{self, Comparator, Decision, Preservation, SetOutcome, Snapshot};
+use crate::answer::{self, Bucket, Comparator, Decision, Preservation, SetOutcome, Snapshot};
 use crate::faces::{self, Row};
 use crate::refusal::Refusal;
 use crate::room::Room;
@@ -50,7 +50,7 @@ macro_rules! call {
 
 /// The calls that both limiters have, under their faces' names.
 macro_rules! shared {
-    ($limiter:ident, $set_rate_limit:ident, $delete:ident, $clear:ident, $set_if:ident, $preserve:ident, $cleanup:ident) => {
+    ($limiter:ident, $set_rate_limit:ident, $delete:ident, $clear:ident, $set_if:ident, $preserve:ident, $cleanup:ident, $bucket:ident) => {
         impl $limiter {
             /// A limiter over a room. Settings and room are judged by each call.
             pub fn new(settings: Settings, room: Room) -> Self {
@@ -63,6 +63,37 @@ macro_rules! shared {
 
             pub fn into_room(self) -> Room {
                 self.room
+            }
+
+            /// A key's buckets, oldest first, expired ones that are still stored too; none for an unknown key.
+            pub fn buckets(&self, key: &[u8]) -> Result<Vec<Bucket>, Refusal> {
+                let mut buckets = Vec::new();
+                while let Some(bucket) = self.bucket(key, buckets.len())? {
+                    buckets.push(bucket);
+                }
+                Ok(buckets)
+            }
+
+            fn bucket(&self, key: &[u8], at: usize) -> Result<Option<Bucket>, Refusal> {
+                let settings = self.settings;
+                let room = self.room.words();
+                let mut row: Row = [0; 5];
+                // SAFETY: as in `call`; the room is only read.
+                unsafe {
+                    faces::$bucket(
+                        settings.window_seconds,
+                        settings.bucket_millis,
+                        settings.cache_millis,
+                        settings.hard_limit_factor,
+                        room.as_ptr(),
+                        room.len(),
+                        key.as_ptr(),
+                        key.len(),
+                        at,
+                        &mut row,
+                    )
+                };
+                answer::bucket(row)
             }
 
             /// Gives a known key another limit, and its old rate back; none for an unknown key.
@@ -159,7 +190,8 @@ shared!(
     frostaxle_absolute_clear,
     frostaxle_absolute_set_if,
     frostaxle_absolute_set_if_preserve_history,
-    frostaxle_absolute_cleanup
+    frostaxle_absolute_cleanup,
+    frostaxle_absolute_bucket
 );
 
 /// Lets a share of calls through between a soft limit, rate * window, and a hard one.
@@ -195,7 +227,8 @@ shared!(
     frostaxle_suppressed_clear,
     frostaxle_suppressed_set_if,
     frostaxle_suppressed_set_if_preserve_history,
-    frostaxle_suppressed_cleanup
+    frostaxle_suppressed_cleanup,
+    frostaxle_suppressed_bucket
 );
 
 /// Both limiters under the same settings, and their common cleanup.

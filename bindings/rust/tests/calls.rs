@@ -1,6 +1,7 @@
 //! Every call through the archive, and every refusal that the safe types can meet.
 use frostaxle::{
-    Absolute, Comparator, Decision, Preservation, Provider, Refusal, Room, SetOutcome, Settings, Snapshot, Suppressed,
+    Absolute, Bucket, Comparator, Decision, Preservation, Provider, Refusal, Room, SetOutcome, Settings, Snapshot,
+    Suppressed,
 };
 use std::time::Duration;
 
@@ -205,6 +206,35 @@ fn shared_calls_in_a_suppressed_room() {
     limiter.inc(1_000, KEY, 1.0, 1, 0).unwrap();
     assert_eq!(limiter.clear(1_001), Ok(()));
     assert_eq!(limiter.delete(1_001, KEY), Ok(None));
+}
+
+// ---- the read-out
+
+#[test]
+fn buckets_oldest_first() {
+    let mut limiter = absolute();
+    assert_eq!(limiter.buckets(KEY), Ok(vec![]));
+    limiter.inc(0, KEY, 1.0, 6).unwrap();
+    limiter.inc(100, KEY, 1.0, 1).unwrap();
+    limiter.inc(2_000, KEY, 1.0, 2).unwrap();
+    let first = Bucket { count: 7, declined: 0, time: 0 };
+    let second = Bucket { count: 2, declined: 0, time: 2_000 };
+    assert_eq!(limiter.buckets(KEY), Ok(vec![first, second]));
+    // expired ones stay until a call takes them out
+    limiter.is_allowed(50_000, b"other").unwrap();
+    assert_eq!(limiter.buckets(KEY), Ok(vec![first, second]));
+    assert_eq!(limiter.get(50_000, KEY), Ok(0));
+    assert_eq!(limiter.buckets(KEY), Ok(vec![]));
+    assert_eq!(limiter.buckets(&[0; 33]), Err(Refusal::LongKey));
+    let mut limiter = suppressed();
+    limiter.inc(0, KEY, 1.0, 8, 0).unwrap();
+    limiter.inc(1_500, KEY, 1.0, 2, 0).unwrap();
+    limiter.inc(1_700, KEY, 1.0, 5, HALF).unwrap();
+    let buckets = limiter.buckets(KEY).unwrap();
+    assert_eq!(buckets.len(), 3);
+    assert_eq!(buckets[2], Bucket { count: 5, declined: 5, time: 1_700 });
+    let short = Suppressed::new(double(), Room::from_words(vec![1, 1]));
+    assert_eq!(short.buckets(KEY), Err(Refusal::BadRoom));
 }
 
 // ---- both

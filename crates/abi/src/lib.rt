@@ -14,8 +14,9 @@ ghost use Rattle.cleanup.specs.Cleanup as Cleanup;
 ghost use Rattle.absolute.specs.Calls as AbsoluteCalls;
 ghost use Rattle.suppressed.specs.Calls as SuppressedCalls;
 ghost use Rattle.provider.specs.Provider as Provider;
-ghost use Rattle.plain.specs.Plain.{settings, rated, comparisonOf, replacing, preserving};
+ghost use Rattle.plain.specs.Plain.{Given, settings, rated, comparisonOf, replacing, preserving};
 ghost use Rattle.abi.specs.Faces.{Faced, shown, shownBoth, shownSet, roomWords, makeNumber};
+ghost use Rattle.abi.specs.ReadOut.{bucketRow};
 use common::HistoryUpdateMode;
 use common::RateLimit;
 use common::Settings;
@@ -524,4 +525,61 @@ pub extern "C" fn frostaxle_provider_cleanup(
     let settings = plain::settings(window, bucket, cache, factor);
     let answer = provider::cleanup(settings, absolute, suppressed, reading, stale);
     plain::give(plain::done_row(answer), row)
+}
+
+// ---- the read-out
+
+// Bucket `at` of a key, from the oldest.
+fn bucket_row(kind: RoomKind, settings: Settings, room: &[u64], key: &[u8], at: usize) -> [u64; 5]
+    ensures { λ r. ⌜ r ≡ bucketRow kind settings (now (room .entry)) (now (key .entry)) at ⌝ }
+{
+    let found = readout::find_series(kind, settings, room, key);
+    let code = found.code;
+    let slot = found.slot;
+    let count = found.count;
+    if code != 0 {
+        return plain::refused_row(code);
+    }
+    if count <= at {
+        return [0, 2, 0, 0, 0];
+    }
+    let bucket = readout::bucket_at(room, slot, at);
+    [0, 1, bucket.count, bucket.declined, bucket.time]
+}
+
+#[no_mangle]
+pub extern "C" fn frostaxle_absolute_bucket(
+    window: u64,
+    bucket: u64,
+    cache: u64,
+    factor: f64,
+    room: &[u64],
+    key: &[u8],
+    at: usize,
+    row: &mut [u64; 5],
+) -> u64
+    ensures { λ n. ⌜ Given (bucketRow Absolute (settings window bucket cache factor) (now (room .entry)) (now (key .entry)) at) n (now (row .exit)) ⌝ }
+{
+    let settings = plain::settings(window, bucket, cache, factor);
+    plain::give(bucket_row(RoomKind::Absolute, settings, room, key, at), row)
+}
+
+#[no_mangle]
+pub extern "C" fn frostaxle_suppressed_bucket(
+    window: u64,
+    bucket: u64,
+    cache: u64,
+    factor: f64,
+    room: &[u64],
+    key: &[u8],
+    at: usize,
+    row: &mut [u64; 5],
+) -> u64
+    ensures { λ n. ⌜ Given (bucketRow Suppressed (settings window bucket cache factor) (now (room .entry)) (now (key .entry)) at) n (now (row .exit)) ⌝ }
+{
+    let settings = plain::settings(window, bucket, cache, factor);
+    plain::give(
+        bucket_row(RoomKind::Suppressed, settings, room, key, at),
+        row,
+    )
 }

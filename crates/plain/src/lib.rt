@@ -14,6 +14,7 @@ pub use rows::done_row;
 pub use rows::factor_row;
 pub use rows::give;
 pub use rows::old_rate_row;
+pub use rows::refused_row;
 pub use rows::set_row;
 pub use rows::snapshot_row;
 pub use rows::total_row;

@@ -12,7 +12,7 @@ use common::SnapshotAnswer;
 use common::TotalAnswer;
 
 // A refusal: its number, with zeros elsewhere.
-fn refused_row(number: u64) -> [u64; 5]
+pub fn refused_row(number: u64) -> [u64; 5]
     ensures { λ r. ⌜ r ≡ refusedRow number ⌝ }
 {
     [number, 0, 0, 0, 0]
