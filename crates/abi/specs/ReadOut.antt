@@ -1,4 +1,4 @@
--- The read-out through a face: one bucket at a call, by its place from the oldest, since records do not cross. It takes no reading and changes no word.
+-- The read-out through a face: one bucket at a call, by its place from the oldest, in an answer row. It takes no reading and changes no word.
 -- Assumes nothing.
 use mathlib.Core.Path.{_≡_, refl, sym, ap, _∙_}
 use mathlib.Core.Bool.{Bool, true, false, cond}
