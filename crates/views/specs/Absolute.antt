@@ -187,7 +187,7 @@ module _ (s : Settings) (w : List ℕ) (t : ℕ) (key : List ℕ) (p : Passed Ab
       sym (k .declined-is ∙ k .now .declined) ∙ eqb-true (slotIn s w t key .declined) 0 (k .right)
 
   -- an edit of the key's slot that leaves its limit, factor words and use
-  pub record Same (e : Edit) : Type 0 where
+  record Same (e : Edit) : Type 0 where
     pub limit-same : e .limit ≡ slotIn s w t key .limit
     pub factor-same : e .factor ≡ slotIn s w t key .factor
     pub time-same : e .«factor_time» ≡ slotIn s w t key .«factor_time»

@@ -3,16 +3,17 @@
 use mathlib.Core.Path.{_≡_, refl, sym, ap, ap₂, _∙_}
 use mathlib.Core.Bool.{Bool, true, false, not, _&&_, _||_, cond}
 use mathlib.Core.List.{List, [], _∷_}
-use Prim.Native.Nat.{ℕ, _+_, _-_}
+use Prim.Native.Nat.{ℕ, suc, _+_, _-_, _≤_, _<_}
 use native.Mathlib.Nat.{add-zero}
 use native.Mathlib.Omega.{arith}
 use lib.ListN.{length, getD, drop, length-drop}
 use lib.Seq.{getD-drop}
 use lib.Dec.{leb, ltb}
-use borrow.Author.Tests.{lt-ltb, le-ltb}
+use borrow.Author.Tests.{lt-ltb, le-ltb, ltb-false}
 use Rattle.common.specs.declared.answers.RateLimitDecision.{RateLimitDecision}
 use Rattle.common.specs.declared.answers.RateLimitDecision.the-variants as decision
 use Rattle.common.specs.declared.units.WindowSize.{WindowSize}
+use Rattle.history.specs.Rules as history
 use Rattle.history.specs.Rules.{windowTicks, ahead, gone, live, newest, joins}
 use Rattle.history.specs.Measured.{ahead-after}
 use Rattle.ring.specs.declared.Bucket.{Bucket}
@@ -47,6 +48,21 @@ pub record Sees (W t limit : ℕ) (xs : List Bucket) (x : Slot) : Type 0 where
 -- nothing that is live is expired
 pub live-live : (W t : ℕ) (xs : List Bucket) → live W t (live W t xs) ≡ live W t xs
 live-live W t xs = ap (λ (k : ℕ). drop k (live W t xs)) (ahead-after (windowTicks W) t xs)
+
+-- so the wait that a rejection carries is no cut difference
+not-expired : (w t : ℕ) (x : Bucket) → history.over w t x ≡ false → t - x .time ≤ w
+unfolding history.over
+not-expired w t x e = ltb-false w (t - x .time) e
+
+pub live-age : (W t : ℕ) (xs : List Bucket) → 0 < length (live W t xs) → t - getD (live W t xs) 0 noBucket .time ≤ windowTicks W
+unfolding ahead
+live-age W t [] h = absurd (omega arith)
+live-age W t (x ∷ xs) h = go (history.over (windowTicks W) t x) refl h (live-age W t xs)
+  where
+    go : (o : Bool) → history.over (windowTicks W) t x ≡ o → 0 < length (drop (cond o (suc (gone W t xs)) 0) (x ∷ xs)) → (0 < length (live W t xs) → t - getD (live W t xs) 0 noBucket .time ≤ windowTicks W) →
+        t - getD (drop (cond o (suc (gone W t xs)) 0) (x ∷ xs)) 0 noBucket .time ≤ windowTicks W
+    go true e l f = f l
+    go false e l f = not-expired (windowTicks W) t x e
 
 cleared-live : (r b W t c : ℕ) (xs : List Bucket) → cleared r b W t c (live W t xs) ≡ live W t xs
 unfolding cleared
