@@ -1,27 +1,26 @@
 -- What a call of the suppressed limiter that is not refused leaves, in the rules' own terms (`Stands`): x is the key's slot, a the factor that is asked for, o what an
 -- increment decides. The cached factor's words and the use are those of `factorAfter`, `timeAfter` and `useAfter`.
 -- Assumes nothing.
-use mathlib.Core.Path.{_≡_, refl, sym, ap, ap₂, subst, _∙_}
-use mathlib.Core.Bool.{Bool, true, false, not, _&&_, _||_, cond, false≢true}
+use mathlib.Core.Path.{_≡_, refl, sym, ap, subst, _∙_}
+use mathlib.Core.Bool.{Bool, true, false, not, _&&_, _||_, cond}
 use mathlib.Core.List.{List, []}
 use Prim.Native.Nat.{ℕ, _-_, _<_}
 use native.Mathlib.Omega.{arith}
 use lib.Dec.{leb, ltb, eqb}
 use lib.Ieee.{binary64, ofBits}
 use lib.ListN.{length, drop}
-use borrow.Author.Tests.{not-false, ltb-false}
+use borrow.Author.Tests.{not-false}
 use Rattle.common.specs.Limits.{cutWord, softWord, hardWord}
 use Rattle.common.specs.Ranges.{nil, rateOk}
-use Rattle.common.specs.Refusals.{first, AllFalse, all-false}
+use Rattle.common.specs.Refusals.{first, all-false}
 use Rattle.common.specs.Settings.{windowIn, bucketIn, factorIn, cacheIn}
 use Rattle.common.specs.declared.settings.Settings.{Settings}
 use Rattle.common.specs.declared.units.RateLimit.{RateLimit}
 use Rattle.history.specs.Rules.{joined}
 use Rattle.history.specs.declared.tally.Pass.{Pass}
-use Rattle.ring.specs.declared.Bucket.{Bucket}
 use Rattle.ring.specs.Ring.{buckets}
 use Rattle.room.specs.declared.Key.{Key}
-use Rattle.room.specs.Room.{slotsOf, ringOf, bodyOf, keyAt, keyOf, keyFits, find, withReading}
+use Rattle.room.specs.Room.{slotsOf, ringOf, bodyOf, keyAt, keyOf, find, withReading}
 use Rattle.frame.specs.Distinct.{find-key}
 use Rattle.frame.specs.Frame.{Changed}
 use Rattle.frame.specs.Keys.{Bytes, key-fits}
@@ -31,7 +30,6 @@ use Rattle.judge.specs.Judge.{early, Passed}
 use Rattle.judge.specs.Laws.{passed}
 use Rattle.judge.specs.Right.{addressed-at}
 use Rattle.judge.specs.Sound.{addressed}
-use Rattle.change.specs.declared.Change.{Change}
 use Rattle.change.specs.declared.Change.the-variants.{Keep, Update, Take}
 use Rattle.change.specs.declared.Edit.{Edit}
 use Rattle.change.specs.declared.Then.the-variants.{Nothing, Increment}
@@ -44,7 +42,7 @@ use Rattle.suppressed_rules.specs.declared.factor.FactorRule.{FactorRule}
 use Rattle.suppressed_rules.specs.declared.factor.FactorRule.the-variants.{Nil, One, Worked}
 use Rattle.suppressed_rules.specs.declared.forecast.Outcome.{Outcome}
 use Rattle.suppressed_rules.specs.Factor.{left, accepted, stays, usable, cachedAt, ruleOf, freshBy, blindBy, worked, asked}
-use Rattle.suppressed_rules.specs.Forecast.{forecast, outcome}
+use Rattle.suppressed_rules.specs.Forecast.{forecast}
 use Rattle.suppressed_edits.specs.Edits.{hasSlot, factorAfter, timeAfter, useAfter, recached, getChange, get-series, loneEdit, loneBy, loneChange, factorChange, factor-series, factor-lone, incEdit, incChange}
 use Rattle.suppressed_edits.specs.Refusals.{placeOf, incLate}
 use Rattle.suppressed.specs.Calls.{slotIn, snapshotOf, get, getFactor, limitFor, incOutcome, inc}

@@ -4,21 +4,22 @@
 use mathlib.Core.Path.{_≡_, refl, sym, ap, ap₂, subst, _∙_}
 use mathlib.Core.Bool.{Bool, true, false, not, _&&_, _||_, cond, false≢true}
 use mathlib.Core.List.{List, [], _∷_}
-use Prim.Native.Nat.{ℕ, suc, _+_, _-_, _≤_, _<_}
+use Prim.Native.Nat.{ℕ, zero, suc, _+_, _-_, _≤_, _<_}
+use native.Mathlib.Decide.{decLt}
 use native.Mathlib.Omega.{arith}
 use lib.Dec.{leb, ltb, eqb}
-use lib.Ieee.{Float, binary64, ofBits}
+use lib.Ieee.{binary64, ofBits}
 use lib.ListN.{length, drop}
-use borrow.Author.Tests.{eq-eqb, lt-ltb, eqb-true, leb-true, leb-false, ltb-true, ltb-false}
+use borrow.Author.Tests.{eq-eqb, ne-eqb, le-leb, lt-leb, lt-ltb, le-ltb, eqb-true, leb-true, leb-false, ltb-true, ltb-false}
 use Rattle.common.specs.Factor.{perceivesNothing}
+use Rattle.common.specs.FactorLaws.{nothing-is}
 use Rattle.common.specs.Limits.{cutWord, softWord}
 use Rattle.common.specs.Ranges.{one}
 use Rattle.common.specs.Settings.{windowIn, factorIn, cacheIn}
 use Rattle.common.specs.declared.settings.Settings.{Settings}
 use Rattle.common.specs.declared.answers.RateLimitDecision.{RateLimitDecision}
 use Rattle.common.specs.declared.answers.RateLimitDecision.the-variants.{Allowed, Rejected, Suppressed, Refused}
-use Rattle.history.specs.Rules.{windowTicks, over, within, ahead, live, lastSecond}
-use Rattle.history.specs.Sweep.{unsound}
+use Rattle.history.specs.Rules.{windowTicks, over, within, ahead, gone, live, lastSecond}
 use Rattle.history.specs.declared.tally.Pass.{Pass}
 use Rattle.ring.specs.declared.Bucket.{Bucket}
 use Rattle.ring.specs.Ring.{sumOf, counts, declineds, buckets}
@@ -33,10 +34,10 @@ use Rattle.suppressed_rules.specs.declared.factor.FactorRule.the-variants.{Nil,
 use Rattle.suppressed_rules.specs.declared.forecast.Outcome.{Outcome}
 use Rattle.suppressed_rules.specs.declared.forecast.Reach.{Reach}
 use Rattle.suppressed_rules.specs.declared.forecast.Reach.the-variants.{Hard, Soft, Over, Between}
-use Rattle.suppressed_rules.specs.Factor.{left, accepted, stays, cachedAt, usable, ruleOf, freshBy, blindBy, worked, asked}
+use Rattle.suppressed_rules.specs.Factor.{left, stays, cachedAt, usable, ruleOf, freshBy, blindBy, worked, asked}
 use Rattle.suppressed_rules.specs.Forecast.{forecast, reachOf, declinedBy, drawn, outcomeOf, outcome}
 use Rattle.suppressed.specs.Calls.{slotIn, unperceived}
-use Rattle.suppressed.specs.Standing.{known, unknown, left-length}
+use Rattle.suppressed.specs.Standing.{Sums, known, unknown, left-length}
 
 -- ---- the rules
 
@@ -125,6 +126,52 @@ declined-all Soft a t c draw = refl
 declined-all Over a t c draw = refl
 declined-all Between a t c draw = refl
 
+-- ---- "Refusal 13 is met exactly at S = 0, H at least 1, some bucket, total 0"
+
+and-no : (a : Bool) → a && false ≡ false
+and-no true = refl
+and-no false = refl
+
+not-blind : (r : FactorRule) → blindBy r false ≡ false
+not-blind Nil = refl
+not-blind One = refl
+not-blind Worked = refl
+
+blind-some : (S H : ℕ) (some : Bool) (total : ℕ) → some && (eqb S 0 && (leb 1 H && eqb (suc total) 0)) ≡ false
+blind-some S H some total =
+    ap (λ (z : Bool). some && (eqb S 0 && (leb 1 H && z))) (ne-eqb (suc total) 0 (λ z. omega arith)) ∙ ap (λ (z : Bool). some && (eqb S 0 && z)) (and-no (leb 1 H)) ∙
+    ap (λ (z : Bool). some && z) (and-no (eqb S 0)) ∙ and-no some
+
+-- nothing was counted, in some bucket
+blind-found : (S H : ℕ) → blindBy (clauses S H false 0 0) true ≡ eqb S 0 && (leb 1 H && true)
+blind-found S H = go (decLt 0 H) (decLt 0 S)
+  where
+    go : Dec (0 < H) → Dec (0 < S) → blindBy (cond (leb H 0) One (cond (ltb 0 S) Nil (cond (eqb 0 S && eqb S H) One Worked))) true ≡ eqb S 0 && (leb 1 H && true)
+    go (no h) l =
+        ap (λ (z : Bool). blindBy (cond z One (cond (ltb 0 S) Nil (cond (eqb 0 S && eqb S H) One Worked))) true) (le-leb H 0 (omega arith)) ∙
+        sym (ap (λ (z : Bool). eqb S 0 && (z && true)) (lt-leb 1 H (omega arith)) ∙ and-no (eqb S 0))
+    go (yes h) (yes l) =
+        ap₂ (λ (y z : Bool). blindBy (cond y One (cond z Nil (cond (eqb 0 S && eqb S H) One Worked))) true) (lt-leb H 0 (omega arith)) (lt-ltb 0 S l) ∙
+        sym (ap (λ (z : Bool). z && (leb 1 H && true)) (ne-eqb S 0 (λ z. omega arith)))
+    go (yes h) (no l) =
+        ap₂ (λ (y z : Bool). blindBy (cond y One (cond z Nil (cond (eqb 0 S && eqb S H) One Worked))) true) (lt-leb H 0 (omega arith)) (le-ltb 0 S (omega arith)) ∙
+        ap₂ (λ (y z : Bool). blindBy (cond (y && z) One Worked) true) (eq-eqb 0 S (omega arith)) (ne-eqb S H (λ z. omega arith)) ∙
+        sym (ap₂ (λ (y z : Bool). y && (z && true)) (eq-eqb S 0 (omega arith)) (le-leb 1 H (omega arith)))
+
+blind-none : (S H : ℕ) (none : Bool) → blindBy (clauses S H none 0 0) true ≡ not none && (eqb S 0 && (leb 1 H && true))
+blind-none S H true = refl
+blind-none S H false = blind-found S H
+
+blind-clauses : (S H : ℕ) (none : Bool) (total declined : ℕ) → declined ≤ total → blindBy (clauses S H none total declined) (eqb total 0) ≡ not none && (eqb S 0 && (leb 1 H && eqb total 0))
+blind-clauses S H none zero zero l = blind-none S H none
+blind-clauses S H none zero (suc declined) l = absurd (omega arith)
+blind-clauses S H none (suc total) declined l =
+    ap (blindBy (clauses S H none (suc total) declined)) (ne-eqb (suc total) 0 (λ z. omega arith)) ∙ not-blind (clauses S H none (suc total) declined) ∙ sym (blind-some S H (not none) total)
+
+-- the fresh factor of xs is worked out at perceived rate zero
+abbrev pub unseen : ℕ → ℕ → List Bucket → Bool
+unseen S H xs = not (eqb (length xs) 0) && (eqb S 0 && (leb 1 H && eqb (counts xs) 0))
+
 -- ---- the opened slot says the same of the live buckets
 
 -- the buckets of a key's series x; "A key is unknown while it has no series"
@@ -166,6 +213,16 @@ module _ (s : Settings) (w : List ℕ) (t : ℕ) (key : List ℕ) (q : Passed ki
   pub live-unknown : x .series ≡ false → [] ≡ liveBy s w t x
   unfolding ahead
   live-unknown e = sym (ap (λ (z : Bool). live (windowIn s) t (cond z (buckets (ringOf w) (bodyOf w (x .at))) [])) e)
+
+  -- "Evict if the oldest is expired, and then forget the cached factor": it stays where nothing is taken out
+  pub stays-is : stays x ≡ x .cached && eqb (gone (windowIn s) t (heldBy w x)) 0
+  unfolding stays ahead
+  stays-is = ap (λ (n : ℕ). x .cached && eqb n 0) (go (x .series) refl)
+    where
+      go : (z : Bool) → x .series ≡ z → x .pass .expired ≡ gone (windowIn s) t (heldBy w x)
+      go true e = known s w t key q x p e .measured .expired-are ∙ ap (gone (windowIn s) t) (sym (held-known e))
+      go false e =
+          ap (λ (y : Pass). y .expired) (unknown s w t key q x p e) ∙ sym (ap (λ (z : Bool). gone (windowIn s) t (cond z (buckets (ringOf w) (bodyOf w (x .at))) [])) e)
 
   sees-known : x .series ≡ true → Sees t x (liveBy s w t x)
   sees-known e =
@@ -219,3 +276,24 @@ module _ (s : Settings) (t : ℕ) (x : Slot) (xs : List Bucket) (o : Sees t x xs
       let S : ℕ = softWord (factorIn s) limit in
       ap₂ (λ (m n : ℕ). outcomeOf (reachOf (m - n + c) S (cutWord limit)) (asked s t x limit (unperceived s x)) t c draw) (o .total) (o .declined) ∙
       ap (λ (a : Asked). outcomeOf (reachOf (forecastOn xs c) S (cutWord limit)) a t c draw) (asked-seen limit)
+
+  -- 13, exactly
+  pub blind-is : Sums x → 1 ≤ windowIn s → windowIn s ≤ 33554432 → (there : Bool) (f u limit : ℕ) →
+      askedOn s t there f u limit xs .blind ≡ not (there && ltb (t - u) (cacheIn s)) && unseen (softWord (factorIn s) limit) (cutWord limit) xs
+  unfolding askedOn ruleOn
+  blind-is n low high there f u limit = go (there && ltb (t - u) (cacheIn s))
+    where
+      e : perceivesNothing (counts xs) (windowIn s) (lastSecond t xs) ≡ eqb (counts xs) 0
+      e = nothing-is (counts xs) (windowIn s) (lastSecond t xs) (omega (arith, n .recent, o .recent, o .total)) (omega (arith, n .most, o .total)) low high
+
+      fresh : blindBy (ruleOn (softWord (factorIn s) limit) (cutWord limit) xs) (perceivesNothing (counts xs) (windowIn s) (lastSecond t xs)) ≡ unseen (softWord (factorIn s) limit) (cutWord limit) xs
+      fresh =
+          ap (blindBy (ruleOn (softWord (factorIn s) limit) (cutWord limit) xs)) e ∙
+          blind-clauses (softWord (factorIn s) limit) (cutWord limit) (eqb (length xs) 0) (counts xs) (declineds xs) (omega (arith, n .declined, o .declined, o .total))
+
+      go : (z : Bool) →
+          cond z (record { blind = false; factor = ofBits binary64 f; caching = Left })
+          (freshly (ruleOn (softWord (factorIn s) limit) (cutWord limit) xs) (softWord (factorIn s) limit) (windowIn s) t (counts xs) (lastSecond t xs)) .blind ≡
+          not z && unseen (softWord (factorIn s) limit) (cutWord limit) xs
+      go true = refl
+      go false = fresh

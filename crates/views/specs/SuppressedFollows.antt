@@ -2,20 +2,19 @@
 -- buckets (`liveBy`). What an increment admits does not pass the hard limit, and what stays within the soft one is allowed.
 -- Assumes nothing.
 use mathlib.Core.Path.{_≡_, refl, sym, ap, ap₂, subst, _∙_}
-use mathlib.Core.Bool.{Bool, true, false, _&&_, cond, false≢true}
-use mathlib.Core.List.{List, [], _∷_}
+use mathlib.Core.Bool.{Bool, true, false, not, _&&_, cond, false≢true}
+use mathlib.Core.List.{List, []}
 use mathlib.Core.Logic.{_⊎_, inl, inr}
 use Prim.Native.Nat.{ℕ, _-_, _≤_, _<_}
 use native.Mathlib.Decide.{ℕ-discrete}
 use native.Mathlib.Omega.{arith}
 use lib.Dec.{leb, ltb, eqb}
-use lib.Ieee.{Float}
 use Rattle.common.specs.HistoryMode.{noSnapshot}
 use Rattle.common.specs.LimitLaws.{soft-le-hard}
 use Rattle.common.specs.Limits.{cutWord, softWord}
 use Rattle.common.specs.Ranges.{nil, one}
-use Rattle.common.specs.Refusals.{first, AllFalse, all-false, none-first}
-use Rattle.common.specs.Settings.{windowIn, bucketIn, factorIn, cacheIn, Proper}
+use Rattle.common.specs.Refusals.{first, all-false, none-first}
+use Rattle.common.specs.Settings.{bucketIn, factorIn, cacheIn, Proper}
 use Rattle.common.specs.declared.answers.FactorAnswer.{FactorAnswer}
 use Rattle.common.specs.declared.answers.FactorAnswer.the-variants as factor
 use Rattle.common.specs.declared.answers.RateLimitDecision.{RateLimitDecision}
@@ -26,7 +25,6 @@ use Rattle.common.specs.declared.history_mode.SuppressedRateLimitSnapshot.{Supp
 use Rattle.common.specs.declared.settings.Settings.{Settings}
 use Rattle.common.specs.declared.units.RateLimit.{RateLimit}
 use Rattle.history.specs.Rules.{joined}
-use Rattle.ring.specs.declared.Bucket.{Bucket}
 use Rattle.ring.specs.Ring.{counts, declineds}
 use Rattle.room.specs.Room.{slotsOf, ringOf, keyOf, withReading}
 use Rattle.frame.specs.Keys.{Bytes}
@@ -34,22 +32,23 @@ use Rattle.judge.specs.declared.RoomKind.{RoomKind}
 use Rattle.judge.specs.declared.RoomKind.the-variants as kind
 use Rattle.judge.specs.declared.Slot.{Slot}
 use Rattle.judge.specs.Judge.{refusals, early, Passed}
-use Rattle.judge.specs.Laws.{passed, refused-early, refused-own}
-use Rattle.judge.specs.Verdict.{Verdict, Told, call, told-turned}
+use Rattle.judge.specs.Laws.{passed}
+use Rattle.judge.specs.Verdict.{Verdict, call, told-turned}
 use Rattle.change.specs.Words.{applied}
 use Rattle.suppressed_rules.specs.declared.factor.Asked.{Asked}
 use Rattle.suppressed_rules.specs.declared.forecast.Outcome.{Outcome}
 use Rattle.suppressed_rules.specs.Factor.{stays, usable, asked}
-use Rattle.suppressed_rules.specs.Forecast.{forecast, reachOf, declinedBy, outcomeOf, outcome}
+use Rattle.suppressed_rules.specs.Forecast.{forecast, reachOf, declinedBy, outcomeOf}
 use Rattle.suppressed_edits.specs.Edits.{factorAfter, timeAfter, useAfter, getChange, factorChange, incChange}
 use Rattle.suppressed_edits.specs.Refusals.{placeOf, incLate}
 use Rattle.suppressed.specs.Calls.{slotIn, unperceived, asking, snapshotOf, getOwn, getDoes, getOn, get, factorOwn, factorDoes, factorOn, getFactor, limitFor, incOutcome, incOwn, incDoes, incOn, inc}
 use Rattle.suppressed.specs.Laws.{get-done, factor-done, inc-done}
-use Rattle.suppressed.specs.Standing.{unperceived-is}
+use Rattle.suppressed.specs.Standing.{sums, unperceived-is}
 use Rattle.views.specs.Calls.{Stands}
+use Rattle.views.specs.Follows.{unrefused-early, unrefused-own}
 use Rattle.views.specs.Unit.{DecisionOk}
-use Rattle.views.specs.OnBuckets.{Sees, sees, liveBy, forecastOn, askedOn, outcomeOn, asked-seen, outcome-seen, admits, reach-admits, reach-soft, reach-hard, reach-over, declined-all}
-use Rattle.views.specs.Leaves.{stays-lone, asked-again, asked-anew, get-stands, get-keeps, factor-stands, factor-keeps, factor-lone-stands, decision-ok, inc-stands}
+use Rattle.views.specs.OnBuckets.{Sees, sees, liveBy, forecastOn, askedOn, outcomeOn, unseen, blind-is, asked-seen, outcome-seen, admits, reach-admits, reach-soft, reach-hard, reach-over, declined-all}
+use Rattle.views.specs.Leaves.{stays-lone, asked-anew, get-stands, get-keeps, factor-stands, factor-keeps, factor-lone-stands, decision-ok, inc-stands}
 
 -- ---- refused, or not
 
@@ -60,18 +59,11 @@ pub record Turned {A : Type 0} (turned : ℕ → A) (w : List ℕ) (n : ℕ) (v 
   pub words : v .words ≡ w
 
 module _ {A : Type 0} (turned : ℕ → A) (kind : RoomKind) (s : Settings) (w : List ℕ) (t : ℕ) (key : List ℕ) (own : List (ℕ × Bool)) (v : Verdict A) where
-  not-early : first (refusals kind s w t key own) ≡ 0 → early kind s w t key ≡ 0
-  not-early e = go (ℕ-discrete (early kind s w t key) 0)
-    where
-      go : Dec (early kind s w t key ≡ 0) → early kind s w t key ≡ 0
-      go (yes h) = h
-      go (no h) = sym (refused-early kind s w t key own h) ∙ e
-
   pub either-way : (P : Type 0) → (early kind s w t key ≡ 0 → first own ≡ 0 → P) → Turned turned w (first (refusals kind s w t key own)) (call turned kind s w t key own v) ⊎ P
   either-way P f = go (ℕ-discrete (first (refusals kind s w t key own)) 0)
     where
       go : Dec (first (refusals kind s w t key own) ≡ 0) → Turned turned w (first (refusals kind s w t key own)) (call turned kind s w t key own v) ⊎ P
-      go (yes h) = inr (f (not-early h) (sym (refused-own kind s w t key own (not-early h)) ∙ h))
+      go (yes h) = inr (f (unrefused-early kind s w t key own h) (unrefused-own kind s w t key own h))
       go (no h) =
           let o = told-turned turned (first (refusals kind s w t key own)) w v h in
           inl (record { some = h; answer = sym (o .answer); words = sym (o .words) })
@@ -140,6 +132,14 @@ module _ (s : Settings) (w : List ℕ) (t : ℕ) (key : List ℕ) where
 
     asked-is : askedIn s w t (slotIn s w t key) ≡ asked s t (slotIn s w t key) (slotIn s w t key .limit) (eqb (slotIn s w t key .pass .«live_total») 0)
     asked-is = let x = slotIn s w t key in sym asking-is ∙ ap (asked s t x (x .limit)) (unperceived-is s w t key q x refl)
+
+    -- "Refusal 13 is met exactly at S = 0, H at least 1, some bucket, total 0", where a fresh factor is asked for at this limit
+    pub thirteen : (limit : ℕ) → askedOn s t (stays (slotIn s w t key)) (slotIn s w t key .factor) (slotIn s w t key .«factor_time») limit (liveBy s w t (slotIn s w t key)) .blind ≡
+        not (usable (cacheIn s) t (slotIn s w t key)) && unseen (softWord (factorIn s) limit) (cutWord limit) (liveBy s w t (slotIn s w t key))
+    unfolding usable
+    thirteen limit =
+        let x = slotIn s w t key in
+        blind-is s t x (liveBy s w t x) seen (sums s w t key q x refl) (q .settings .window-low) (q .settings .window-high) (stays x) (x .factor) (x .«factor_time») limit
 
     -- ---- get
     gets : Bytes key → first (getOwn (asking s t (slotIn s w t key))) ≡ 0 → Gets s w t key (slotIn s w t key) (askedIn s w t (slotIn s w t key)) (get s w t key)
