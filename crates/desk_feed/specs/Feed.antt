@@ -1,0 +1,145 @@
+-- `desk` on bytes. A line's bytes are held until its newline comes; then the line is taken and what it prints is put out.
+-- a and b are the words of the absolute and the suppressed room.
+-- Assumes nothing.
+use mathlib.Core.Bool.{Bool, true, false, cond, _||_}
+use mathlib.Core.List.{List, [], _∷_, _++_}
+use Prim.Native.Nat.{ℕ, zero, suc, _+_}
+use lib.ListN.{length, take, set}
+use lib.Dec.{ltb, eqb}
+use Rattle.common.specs.declared.settings.Settings.{Settings}
+use Rattle.answers.specs.Answers.{showAnswer}
+use Rattle.answers.specs.declared.AnswerLine.{AnswerLine}
+use Rattle.desk_step.specs.Desk.{Step, stepped, refusedLine, openingOf}
+use Rattle.desk_step.specs.declared.Opening.{Opening}
+use Rattle.desk_step.specs.declared.Opening.the-variants as opening
+use Rattle.desk_feed.specs.declared.Phase.{Phase}
+use Rattle.desk_feed.specs.declared.Phase.the-variants.{Waiting, Open, Ended}
+use Rattle.desk_feed.specs.declared.Desk.{Desk}
+
+abbrev pub newline : ℕ
+newline = 10
+
+-- room enough for a line with its newline
+abbrev pub roomy : ℕ
+roomy = 241
+
+unfoldable pub shown : AnswerLine → List ℕ
+shown l = showAnswer l ++ (newline ∷ [])
+
+-- ---- a line: the phase after it, the rooms after it, and what it prints
+
+pub record Effect : Type 0 where
+  pub phase : Phase
+  pub absolute : List ℕ
+  pub suppressed : List ℕ
+  pub prints : List ℕ
+
+-- nothing happens
+abbrev pub idle : Phase → List ℕ → List ℕ → Effect
+idle p a b = record { phase = p; absolute = a; suppressed = b; prints = [] }
+
+-- "A bad or missing settings line prints one line .. and ends."
+abbrev pub phaseIn : Opening → Phase
+phaseIn (opening.Open s) = Open s
+phaseIn (opening.Refused n) = Ended
+
+abbrev pub printsIn : Opening → List ℕ
+printsIn (opening.Open s) = []
+printsIn (opening.Refused n) = shown (refusedLine 0 n)
+
+-- "Otherwise a line per call"
+abbrev pub called : Settings → Step → Effect
+called s v = record { phase = Open s; absolute = v .absolute; suppressed = v .suppressed; prints = shown (v .answer) }
+
+unfoldable pub turn : Phase → List ℕ → List ℕ → List ℕ → Effect
+turn Waiting a b line = record { phase = phaseIn (openingOf line); absolute = a; suppressed = b; prints = printsIn (openingOf line) }
+turn (Open s) a b line = called s (stepped s a b line)
+turn Ended a b line = idle Ended a b
+
+-- ---- the whole desk between two bytes: the first `held` bytes of hold are those of the line so far
+
+pub record Whole : Type 0 where
+  pub desk : Desk
+  pub absolute : List ℕ
+  pub suppressed : List ℕ
+  pub hold : List ℕ
+
+abbrev pub whole : Desk → List ℕ → List ℕ → List ℕ → Whole
+whole d a b h = record { desk = d; absolute = a; suppressed = b; hold = h }
+
+abbrev pub fresh : Desk
+fresh = record { phase = Waiting; held = 0 }
+
+-- no byte is held
+abbrev pub rested : Phase → Desk
+rested p = record { phase = p; held = 0 }
+
+-- the whole desk after a byte, and what was printed
+pub record After : Type 0 where
+  pub whole : Whole
+  pub prints : List ℕ
+
+-- the line so far
+abbrev pub lineOf : Whole → List ℕ
+lineOf w = take (w .desk .held) (w .hold)
+
+abbrev pub afterLine : Effect → List ℕ → After
+afterLine v h = record { whole = whole (rested (v .phase)) (v .absolute) (v .suppressed) h; prints = v .prints }
+
+-- a byte more of a line: where hold is full, it is passed over
+abbrev pub heldMore : Desk → List ℕ → ℕ
+heldMore d h = cond (ltb (d .held) (length h)) (d .held + 1) (d .held)
+
+abbrev pub keeping : Whole → ℕ → Whole
+keeping w b = whole (record { phase = w .desk .phase; held = heldMore (w .desk) (w .hold) }) (w .absolute) (w .suppressed) (set (w .hold) (w .desk .held) b)
+
+abbrev pub ending : Whole → Effect
+ending w = turn (w .desk .phase) (w .absolute) (w .suppressed) (lineOf w)
+
+abbrev pub byteAs : Bool → Whole → ℕ → After
+byteAs true w b = afterLine (ending w) (w .hold)
+byteAs false w b = record { whole = keeping w b; prints = [] }
+
+unfoldable pub byte : Whole → ℕ → After
+byte w b = byteAs (eqb b newline) w b
+
+-- ---- bytes, one after the other
+
+abbrev pub andThen : After → After → After
+andThen f g = record { whole = g .whole; prints = f .prints ++ g .prints }
+
+unfoldable pub feed : Whole → List ℕ → After
+feed w [] = record { whole = w; prints = [] }
+feed w (b ∷ bs) = andThen (byte w b) (feed (byte w b .whole) bs)
+
+-- how many of them are taken where l bytes may be put and p are: while a line more has room
+unfoldable pub takes : ℕ → Whole → ℕ → List ℕ → ℕ
+takes l w p [] = 0
+takes l w p (b ∷ bs) = cond (ltb l (p + roomy)) 0 (suc (takes l (byte w b .whole) (p + length (byte w b .prints)) bs))
+
+-- ---- the end of the input: "The last newline may be missing"; without a settings line there is a bad one
+
+abbrev pub overIn : Phase → ℕ → Bool
+overIn Waiting held = false
+overIn (Open s) held = eqb held 0
+overIn Ended held = true
+
+unfoldable pub isOver : Desk → Bool
+isOver d = overIn (d .phase) (d .held)
+
+abbrev pub finishAs : Bool → Whole → Effect
+finishAs true w = idle (w .desk .phase) (w .absolute) (w .suppressed)
+finishAs false w = ending w
+
+-- with l bytes to put the line
+unfoldable pub finishing : ℕ → Whole → Effect
+finishing l w = finishAs (ltb l roomy || isOver (w .desk)) w
+
+-- "and ends"
+abbrev pub endedIn : Phase → Bool
+endedIn Waiting = false
+endedIn (Open s) = false
+endedIn Ended = true
+
+unfoldable pub hasEnded : Desk → Bool
+hasEnded d = endedIn (d .phase)

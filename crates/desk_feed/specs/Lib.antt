@@ -1,0 +1,3 @@
+pub mod Feed
+pub mod Contracts
+pub mod Laws
