@@ -1,23 +1,21 @@
 -- `inc` keeps what holds of a key: of another key it changes another slot; of the key itself the count joins the live buckets, and the log what is admitted.
 -- Assumes nothing.
 use mathlib.Core.Path.{_≡_, refl, sym, ap, subst, _∙_}
-use mathlib.Core.Bool.{Bool, true, false, _||_, cond, true≢false}
+use mathlib.Core.Bool.{Bool, true, false, cond, true≢false}
 use mathlib.Core.List.{List, []}
 use mathlib.Core.Logic.{_≢_}
 use Prim.Native.Nat.{ℕ, _+_, _-_, _≤_, _<_}
 use native.Mathlib.Omega.{arith}
-use lib.Dec.{leb, eqb}
+use lib.Dec.{leb}
 use lib.ListN.{drop}
 use borrow.Author.Tests.{leb-false}
 use Rattle.common.specs.Limits.{hardWord, cutWord, softWord}
 use Rattle.common.specs.Refusals.{first, all-false, none-first}
 use Rattle.common.specs.Settings.{windowIn, bucketIn, factorIn}
-use Rattle.common.specs.declared.answers.RateLimitDecision.{RateLimitDecision}
 use Rattle.common.specs.declared.answers.RateLimitDecision.the-variants as decided
 use Rattle.common.specs.declared.settings.Settings.{Settings}
 use Rattle.common.specs.declared.units.RateLimit.{RateLimit}
 use Rattle.history.specs.Rules.{windowTicks, within, joined}
-use Rattle.history.specs.Sweep.{unsound}
 use Rattle.history.specs.declared.tally.Pass.{Pass}
 use Rattle.ring.specs.declared.Bucket.{Bucket}
 use Rattle.ring.specs.Order.{Fine}
@@ -34,7 +32,6 @@ use Rattle.judge.specs.declared.RoomKind.the-variants as kind
 use Rattle.judge.specs.declared.Slot.{Slot}
 use Rattle.judge.specs.Judge.{early, Passed}
 use Rattle.judge.specs.Laws.{passed}
-use Rattle.judge.specs.Verdict.{Verdict}
 use Rattle.plan.specs.Plan.{evicting, opening}
 use Rattle.calls.specs.Calls.{slotIn, hasSlot}
 use Rattle.calls.specs.Rate.{limitIn}
@@ -43,20 +40,19 @@ use Rattle.suppressed_rules.specs.declared.factor.Caching.{Caching}
 use Rattle.suppressed_rules.specs.declared.forecast.Outcome.{Outcome}
 use Rattle.suppressed.specs.Calls.{unperceived, limitFor, incOutcome, incOwn, incDoes, incOn, inc}
 use Rattle.suppressed_edits.specs.Edits.{recached, incEdit, incChange}
-use Rattle.suppressed_rules.specs.Factor.{accepted}
 use Rattle.suppressed_rules.specs.Forecast.{forecast}
 use Rattle.suppressed.specs.Laws.{inc-applies, place-used}
 use Rattle.suppressed_edits.specs.Refusals.{placeOf, incLate}
 use Rattle.suppressed.specs.Standing.{unknown, unperceived-is}
 use Rattle.spans.specs.Good.{good-record, good-floor}
 use Rattle.spans.specs.Log.{Entry, noted, aged}
-use Rattle.demand3.specs.History.{IsKey, numberOf, admits}
+use Rattle.demand3.specs.History.{IsKey, numberOf, admitsCount}
 use Rattle.demand3.specs.Decided.{admits-refused, number-refused, declines, admits-hard, allows-soft}
 use Rattle.demand3.specs.Kept.{GoodAt, Kept}
 use Rattle.demand3.specs.Placed.{Placed, Own, own-either}
 use Rattle.demand3.specs.Places.{inc-placed}
 use Rattle.demand3.specs.Steps.{call-either, other-kept}
-use Rattle.demand3.specs.Owned.{after-series, Leaves, edit-kept, limit-known, good-known, live-is, live-fine, live-sums, good-live, good-bare}
+use Rattle.demand3.specs.Owned.{after-series, edit-kept, limit-known, good-known, live-is, live-fine, live-sums, good-live, good-bare}
 
 -- ---- the edit and the limit, of a known key and of one that begins
 
@@ -185,13 +181,13 @@ module _ (s : Settings) (le : bucketIn s ≤ windowTicks (windowIn s)) (limit : 
         let m = ap (λ (y : Pass). y .«live_total») u in
         omega arith
 
-    below : Passed kind.Suppressed s w t key → admits (out .decision) ≡ true → forecast slot c ≤ cutWord limit
+    below : Passed kind.Suppressed s w t key → admitsCount (out .decision) ≡ true → forecast slot c ≤ cutWord limit
     below p y =
         subst (λ (l : ℕ). forecast slot c ≤ cutWord l) (limit-is p)
         (admits-hard s t slot (limitFor s slot rate) (unperceived s slot) (forecast slot c) c draw (p .settings .factor) y)
 
     done-kept : (e : early kind.Suppressed s w t key ≡ 0) → first (incOwn s w t rate c draw slot out) ≡ 0 →
-        Kept s (keyOf key) limit (applied w (placeOf w slot) key (bucketIn s) t (incChange slot (limitFor s slot rate) c (out .declined) (out .caching))) (noted (admits (out .decision)) t c log)
+        Kept s (keyOf key) limit (applied w (placeOf w slot) key (bucketIn s) t (incChange slot (limitFor s slot rate) c (out .declined) (out .caching))) (noted (admitsCount (out .decision)) t c log)
     done-kept e f = go (slot .series) refl
       where
         p : Passed kind.Suppressed s w t key
@@ -200,26 +196,26 @@ module _ (s : Settings) (le : bucketIn s ≤ windowTicks (windowIn s)) (limit : 
         v : List ℕ
         v = applied w (placeOf w slot) key (bucketIn s) t (incChange slot (limitFor s slot rate) c (out .declined) (out .caching))
 
-        q : out .declined ≡ cond (admits (out .decision)) 0 c
+        q : out .declined ≡ cond (admitsCount (out .decision)) 0 c
         q = declines s t slot (limitFor s slot rate) (unperceived s slot) (forecast slot c) c draw
 
-        go : (z : Bool) → slot .series ≡ z → Kept s (keyOf key) limit v (noted (admits (out .decision)) t c log)
+        go : (z : Bool) → slot .series ≡ z → Kept s (keyOf key) limit v (noted (admitsCount (out .decision)) t c log)
         go true h =
-            joins-known p c (out .declined) (admits (out .decision)) q v (out .caching) h (below p)
+            joins-known p c (out .declined) (admitsCount (out .decision)) q v (out .caching) h (below p)
             (subst (λ (y : Edit). Own w v (slot .at) (bucketIn s) t (keyOf key) (recached slot (out .caching) y)) (edit-known s slot rate (limitFor s slot rate) c (out .declined) h)
             (subst (λ (i : ℕ). Own w v i (bucketIn s) t (keyOf key) (recached slot (out .caching) (incEdit slot (limitFor s slot rate) c (out .declined)))) (place-used s w t key e slot refl (known-has slot h))
             (own s w t key rate c draw e f (a .distinct))))
         go false h =
-            joins-new p c (out .declined) (admits (out .decision)) q v (out .caching) (placeOf w slot) (limitFor s slot rate) (slot .factor) (slot .«factor_time») (slot .used) h (limit-is p)
+            joins-new p c (out .declined) (admitsCount (out .decision)) q v (out .caching) (placeOf w slot) (limitFor s slot rate) (slot .factor) (slot .«factor_time») (slot .used) h (limit-is p)
             (λ y. omega (arith, below p y, nothing p h))
             (subst (λ (y : Edit). Own w v (placeOf w slot) (bucketIn s) t (keyOf key) (recached slot (out .caching) y)) (edit-new s slot rate (limitFor s slot rate) c (out .declined) h)
             (own s w t key rate c draw e f (a .distinct)))
 
-    pub inc-own : Kept s (keyOf key) limit (inc s w t key rate c draw .words) (noted (admits (inc s w t key rate c draw .answer)) t c log)
+    pub inc-own : Kept s (keyOf key) limit (inc s w t key rate c draw .words) (noted (admitsCount (inc s w t key rate c draw .answer)) t c log)
     unfolding inc incOn
     inc-own =
         call-either decided.Refused kind.Suppressed s w t key (incOwn s w t rate c draw slot out) (incDoes s w t key rate c slot out)
-        (λ v. Kept s (keyOf key) limit (v .words) (noted (admits (v .answer)) t c log))
+        (λ v. Kept s (keyOf key) limit (v .words) (noted (admitsCount (v .answer)) t c log))
         (λ m z. subst (λ (y : Bool). Kept s (keyOf key) limit w (noted y t c log)) (sym (admits-refused m)) a) done-kept
 
     -- ---- what is at most S, with all admitted at ages up to the window, is Allowed

@@ -7,3 +7,6 @@ pub mod Cleans
 pub mod Steps
 pub mod Owned
 pub mod Increments
+pub mod Folds
+pub mod Sharp
+pub mod Demand3

@@ -1,10 +1,9 @@
 -- The key's own calls but `inc` keep what holds of it: they evict, store the same limit again, or cache a factor.
 -- Assumes nothing.
 use mathlib.Core.Path.{_≡_, refl, sym, ap, ap₂, subst, _∙_}
-use mathlib.Core.Bool.{Bool, true, false, _||_, cond, false≢true, true≢false}
+use mathlib.Core.Bool.{Bool, true, false, cond, false≢true, true≢false}
 use mathlib.Core.List.{List, []}
-use Prim.Native.Nat.{ℕ, _-_, _≤_, _<_}
-use native.Mathlib.Omega.{arith}
+use Prim.Native.Nat.{ℕ, _-_, _≤_}
 use lib.Dec.{leb, eqb}
 use lib.ListN.{drop}
 use borrow.Author.Tests.{leb-false}
@@ -21,9 +20,8 @@ use Rattle.ring.specs.declared.Bucket.{Bucket}
 use Rattle.ring.specs.Order.{Fine, fine-drop}
 use Rattle.ring.specs.Ring.{counts, declineds, buckets}
 use Rattle.room.specs.declared.Key.{Key}
-use Rattle.room.specs.Room.{Room, slotsOf, ringOf, lastOf, useOf, keyOf, bodyOf}
-use Rattle.change.specs.declared.Change.{Change}
-use Rattle.change.specs.declared.Change.the-variants.{Keep, Update, Take}
+use Rattle.room.specs.Room.{slotsOf, ringOf, keyOf, bodyOf}
+use Rattle.change.specs.declared.Change.the-variants.{Keep, Update}
 use Rattle.change.specs.declared.Edit.{Edit}
 use Rattle.change.specs.declared.Then.the-variants as then
 use Rattle.change.specs.Laws.{edited-is}
@@ -35,7 +33,7 @@ use Rattle.judge.specs.Laws.{passed}
 use Rattle.judge.specs.Sound.{hasSeries}
 use Rattle.plan.specs.Known.{Known}
 use Rattle.plan.specs.Plan.{keeping, evicting}
-use Rattle.calls.specs.Calls.{slotIn, hasSlot, known-at}
+use Rattle.calls.specs.Calls.{slotIn, known-at}
 use Rattle.calls.specs.Rate.{limitIn, forgotten, usedWith, relimited, limiting, rateOwnOf, limits, setRateLimit, rate-applies}
 use Rattle.calls.specs.SetLaws.{known-has}
 use Rattle.suppressed_rules.specs.declared.factor.Caching.{Caching}
@@ -48,7 +46,7 @@ use Rattle.suppressed_edits.specs.Refusals.{placeOf}
 use Rattle.spans.specs.Good.{good-later, good-evict}
 use Rattle.spans.specs.Log.{Entry}
 use Rattle.demand3.specs.History.{IsKey}
-use Rattle.demand3.specs.Kept.{Has, GoodAt, Kept, kept-own}
+use Rattle.demand3.specs.Kept.{GoodAt, Kept, kept-own}
 use Rattle.demand3.specs.Placed.{Placed, Own, own-either}
 use Rattle.demand3.specs.Places.{owns, series-has, has-series, factor-placed}
 use Rattle.demand3.specs.Steps.{call-either, keep-kept, not-full}

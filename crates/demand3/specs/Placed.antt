@@ -1,20 +1,18 @@
 -- Where a call with a key changes a room: at the key's own slot, or at a free one where the key has none. So every other key's slot stands, and a key stands in one slot.
 -- Assumes nothing.
-use mathlib.Core.Path.{_≡_, refl, sym, ap, subst, _∙_}
+use mathlib.Core.Path.{_≡_, refl, sym, subst, _∙_}
 use mathlib.Core.Bool.{Bool, true, false, cond}
 use mathlib.Core.List.{List}
 use mathlib.Core.Logic.{_≢_}
-use Prim.Native.Nat.{ℕ, _≤_, _<_}
-use native.Mathlib.Omega.{arith}
+use Prim.Native.Nat.{ℕ, _≤_}
 use Rattle.room.specs.declared.Key.{Key}
-use Rattle.room.specs.Room.{Room, slotsOf, ringOf, lastOf, useOf, keyAt, keyOf, find, bodyOf, withReading}
+use Rattle.room.specs.Room.{Room, slotsOf, ringOf, useOf, keyAt, keyOf, find, bodyOf, withReading}
 use Rattle.frame.specs.Distinct.{Distinct, find-none, distinct-taken, distinct-kept, distinct-freed, distinct-still}
 use Rattle.frame.specs.Frame.{Changed, read-run}
 use Rattle.change.specs.declared.Change.{Change}
 use Rattle.change.specs.declared.Change.the-variants.{Keep, Free, Update, Take}
 use Rattle.change.specs.declared.Edit.{Edit}
 use Rattle.change.specs.Words.{edited, applied, Applies, EditsAt}
-use Rattle.judge.specs.Sound.{hasSeries}
 use Rattle.views.specs.Calls.{keep-words, free-changed, update-changed, take-changed}
 use Rattle.demand3.specs.Kept.{Has, free-has, Same, changed-same, still-same}
 

@@ -10,33 +10,30 @@ use native.Mathlib.Omega.{arith}
 use lib.Dec.{eqb}
 use lib.ListN.{length}
 use borrow.Author.Tests.{le-ltb}
-use Rattle.common.specs.Settings.{windowIn, bucketIn}
+use Rattle.common.specs.Settings.{bucketIn}
 use Rattle.common.specs.declared.comparator.RateLimitComparator.{RateLimitComparator}
 use Rattle.common.specs.declared.history_mode.HistoryUpdateMode.{HistoryUpdateMode}
 use Rattle.common.specs.declared.settings.Settings.{Settings}
-use Rattle.room.specs.declared.Key.{Key}
-use Rattle.room.specs.Room.{slotsOf, useOf, keyAt, keyOf, find, vacant}
+use Rattle.room.specs.Room.{slotsOf, useOf, keyOf, find, vacant}
 use Rattle.frame.specs.Distinct.{Distinct, find-use, find-key, find-where, vacant-free}
-use Rattle.change.specs.declared.Change.{Change}
 use Rattle.change.specs.declared.Change.the-variants.{Keep, Free, Update, Take}
 use Rattle.change.specs.declared.Then.the-variants as then
-use Rattle.change.specs.declared.Edit.{Edit}
 use Rattle.change.specs.Words.{Applies}
 use Rattle.judge.specs.declared.RoomKind.the-variants as kind
 use Rattle.judge.specs.declared.Slot.{Slot}
 use Rattle.judge.specs.Judge.{Passed}
 use Rattle.judge.specs.Right.{addressed-at}
-use Rattle.judge.specs.Sound.{hasSeries, hasCached, rightUse, addressed}
-use Rattle.plan.specs.Known.{Found, found, at-as, series-is, cached-is, use-right}
+use Rattle.judge.specs.Sound.{hasSeries, rightUse, addressed}
+use Rattle.plan.specs.Known.{Found, found, series-is, cached-is, use-right}
 use Rattle.plan.specs.Plan.{keeping, evicting}
 use Rattle.calls.specs.Calls.{slotIn, hasSlot, found-at, slot-within, true-or}
 use Rattle.calls.specs.Delete.{deleting}
 use Rattle.calls.specs.Rate.{usedWith, relimited, limiting}
-use Rattle.calls.specs.Set.{met, vain, already, idle, reset, begins, newly, stored, setting, placeIn}
-use Rattle.calls.specs.SetLaws.{known-has, cached-has, place-own}
+use Rattle.calls.specs.Set.{met, already, idle, reset, begins, stored, setting, placeIn}
+use Rattle.calls.specs.SetLaws.{known-has, cached-has}
 use Rattle.suppressed_rules.specs.declared.factor.Caching.{Caching}
 use Rattle.suppressed_rules.specs.declared.factor.Caching.the-variants.{Left, Cached}
-use Rattle.suppressed_edits.specs.Edits.{recached, getChange, loneEdit, loneBy, loneChange, factorChange, incEdit, incChange}
+use Rattle.suppressed_edits.specs.Edits.{recached, getChange, loneBy, loneChange, factorChange, incEdit, incChange}
 use Rattle.suppressed_edits.specs.Refusals.{placeOf}
 use Rattle.demand3.specs.Kept.{Has}
 use Rattle.demand3.specs.Placed.{Owns, Lacks, Placed}

@@ -1,19 +1,16 @@
 -- Every call that leaves a key to the limiter keeps what holds of the key and its log (`Kept`).
 -- Assumes nothing.
-use mathlib.Core.Path.{_≡_, refl, sym, ap, ap₂, subst, _∙_}
-use mathlib.Core.Bool.{Bool, true, false, not, _&&_, _||_, cond, false≢true, true≢false}
-use mathlib.Core.List.{List, [], _∷_, _++_}
+use mathlib.Core.Path.{_≡_, refl, sym, subst, _∙_}
+use mathlib.Core.Bool.{Bool, true, false, cond}
+use mathlib.Core.List.{List}
 use mathlib.Core.Logic.{_≢_}
-use Prim.Native.Nat.{ℕ, _+_, _-_, _≤_, _<_}
+use Prim.Native.Nat.{ℕ, _-_, _≤_}
 use native.Mathlib.Decide.{ℕ-discrete}
 use native.Mathlib.Omega.{arith}
-use lib.Dec.{leb, ltb, eqb}
-use lib.ListN.{length, drop}
-use borrow.Author.Tests.{eq-eqb, eqb-true, eqb-false, ltb-false, leb-false}
-use Rattle.common.specs.Limits.{hardWord, cutWord, softWord}
-use Rattle.common.specs.Ranges.{rateOk}
-use Rattle.common.specs.Refusals.{first, all-false, none-first}
-use Rattle.common.specs.Settings.{windowIn, bucketIn, factorIn}
+use lib.Dec.{leb, eqb}
+use borrow.Author.Tests.{eqb-true, eqb-false, ltb-false, leb-false}
+use Rattle.common.specs.Refusals.{first, all-false}
+use Rattle.common.specs.Settings.{windowIn, bucketIn}
 use Rattle.common.specs.declared.comparator.RateLimitComparator.{RateLimitComparator}
 use Rattle.common.specs.declared.history_mode.HistoryUpdateMode.{HistoryUpdateMode}
 use Rattle.common.specs.declared.settings.Settings.{Settings}
@@ -21,61 +18,38 @@ use Rattle.common.specs.declared.units.RateLimit.{RateLimit}
 use Rattle.common.specs.declared.answers.DeleteAnswer.the-variants as deleted
 use Rattle.common.specs.declared.answers.FactorAnswer.the-variants as factored
 use Rattle.common.specs.declared.answers.OldRateAnswer.the-variants as rated
-use Rattle.common.specs.declared.answers.RateLimitDecision.{RateLimitDecision}
-use Rattle.common.specs.declared.answers.RateLimitDecision.the-variants as decided
 use Rattle.common.specs.declared.answers.SetAnswer.the-variants as answered
 use Rattle.common.specs.declared.answers.SnapshotAnswer.the-variants as gotten
-use Rattle.history.specs.Measured.{evicted-live}
-use Rattle.history.specs.Rules.{windowTicks, within, joined}
-use Rattle.history.specs.Sweep.{unsound}
-use Rattle.history.specs.declared.tally.Pass.{Pass}
-use Rattle.ring.specs.declared.Bucket.{Bucket}
-use Rattle.ring.specs.Order.{Fine, fine-drop}
-use Rattle.ring.specs.Ring.{mostTotal, counts, declineds, sumOf, buckets}
-use Rattle.room.specs.declared.Key.{Key}
-use Rattle.room.specs.Room.{Room, slotsOf, ringOf, lastOf, useOf, keyAt, keyOf, bodyOf}
-use Rattle.frame.specs.Distinct.{Distinct, distinct-still}
+use Rattle.history.specs.Rules.{windowTicks}
+use Rattle.ring.specs.Ring.{mostTotal}
+use Rattle.room.specs.Room.{Room, slotsOf, lastOf, keyOf}
+use Rattle.frame.specs.Distinct.{distinct-still}
 use Rattle.frame.specs.Keys.{Bytes, key-injective}
 use Rattle.change.specs.declared.Change.{Change}
-use Rattle.change.specs.declared.Change.the-variants.{Keep, Free, Update, Take}
-use Rattle.change.specs.declared.Edit.{Edit}
-use Rattle.change.specs.declared.Then.{Then}
-use Rattle.change.specs.declared.Then.the-variants as then
-use Rattle.change.specs.Laws.{edited-is}
-use Rattle.change.specs.Words.{startedView, actedView, editedView, edited, applied, Applies, EditsAt}
+use Rattle.change.specs.declared.Change.the-variants.{Keep}
+use Rattle.change.specs.Words.{applied, Applies}
 use Rattle.judge.specs.declared.RoomKind.{RoomKind}
 use Rattle.judge.specs.declared.RoomKind.the-variants as kind
 use Rattle.judge.specs.declared.Slot.{Slot}
 use Rattle.judge.specs.Judge.{refusals, early, Passed}
 use Rattle.judge.specs.Laws.{passed, refused-early, refused-own}
-use Rattle.judge.specs.Sound.{limitOf, hasSeries}
 use Rattle.judge.specs.Verdict.{Verdict, verdict, judge, call}
-use Rattle.plan.specs.Known.{Known, keeping-edits}
-use Rattle.plan.specs.Plan.{keeping, evicting, opening}
-use Rattle.calls.specs.Calls.{slotIn, hasSlot, known-at, found-at, true-or}
+use Rattle.calls.specs.Calls.{slotIn}
 use Rattle.calls.specs.Delete.{deletes, noOwn, delete, delete-applies}
-use Rattle.calls.specs.Rate.{limitIn, forgotten, usedWith, relimited, limiting, rateOwnOf, limits, setRateLimit, rate-applies}
-use Rattle.calls.specs.Set.{idle, setOwn, setOwnOf, sets, set, placeIn, full}
-use Rattle.calls.specs.SetLaws.{known-has, set-applies}
+use Rattle.calls.specs.Rate.{limitIn, rateOwnOf, limits, setRateLimit, rate-applies}
+use Rattle.calls.specs.Set.{idle, setOwn, setOwnOf, sets, set, placeIn}
+use Rattle.calls.specs.SetLaws.{set-applies}
 use Rattle.suppressed_rules.specs.declared.factor.Asked.{Asked}
-use Rattle.suppressed_rules.specs.declared.factor.Caching.{Caching}
-use Rattle.suppressed_rules.specs.declared.factor.Caching.the-variants.{Left, Cached}
-use Rattle.suppressed_rules.specs.declared.forecast.Outcome.{Outcome}
-use Rattle.suppressed.specs.Calls.{unperceived, asking, getOwn, getDoes, getOn, get, factorOwn, factorDoes, factorOn, getFactor, limitFor, incOutcome, incOwn, incDoes, incOn, inc}
-use Rattle.suppressed_edits.specs.Edits.{useLeft, useAfter, recached, getChange, loneEdit, loneBy, loneChange, factorChange, incEdit, incChange}
-use Rattle.suppressed_rules.specs.Factor.{stays}
-use Rattle.suppressed_rules.specs.Forecast.{forecast}
-use Rattle.suppressed.specs.Laws.{get-applies, factor-applies, inc-applies, place-used, with-series}
-use Rattle.suppressed_edits.specs.Refusals.{placeOf, incLate}
-use Rattle.suppressed.specs.Standing.{unknown, unperceived-is}
+use Rattle.suppressed.specs.Calls.{asking, getOwn, getDoes, getOn, get, factorOwn, factorDoes, factorOn, getFactor}
+use Rattle.suppressed_edits.specs.Edits.{getChange, factorChange}
+use Rattle.suppressed.specs.Laws.{get-applies, factor-applies}
+use Rattle.suppressed_edits.specs.Refusals.{placeOf}
 use Rattle.views.specs.Calls.{keep-words}
-use Rattle.spans.specs.Good.{Good, good-later, good-evict, good-record, good-floor}
-use Rattle.spans.specs.Log.{Entry, noted, aged}
-use Rattle.demand3.specs.History.{IsKey, numberOf, admits}
-use Rattle.demand3.specs.Decided.{admits-refused, number-refused, declines, admits-hard, allows-soft}
-use Rattle.demand3.specs.Kept.{Has, GoodAt, Kept, Same, Stored, still-same, kept-same, kept-own}
-use Rattle.demand3.specs.Placed.{Placed, Own, own-either, read-change, placed-distinct, placed-same}
-use Rattle.demand3.specs.Places.{series-has, has-series, delete-placed, rate-placed, set-placed, get-placed, factor-placed, inc-placed}
+use Rattle.spans.specs.Log.{Entry}
+use Rattle.demand3.specs.History.{IsKey}
+use Rattle.demand3.specs.Kept.{Kept, still-same, kept-same}
+use Rattle.demand3.specs.Placed.{Placed, read-change, placed-distinct, placed-same}
+use Rattle.demand3.specs.Places.{delete-placed, rate-placed, set-placed, get-placed, factor-placed}
 
 -- ---- a call with a key is refused, and every word stays, or nothing refuses it
 

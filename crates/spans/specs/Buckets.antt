@@ -1,14 +1,14 @@
 -- A key's buckets as a log of what each has admitted: what eviction, an increment and a drop of the series make of it.
 -- w is the window in milliseconds, t the reading, b the bucket size, c the count, d how much of it is declined.
 -- Assumes nothing.
-use mathlib.Core.Path.{_≡_, refl, ap, _∙_}
-use mathlib.Core.Bool.{Bool, true, false, _&&_, cond}
+use mathlib.Core.Path.{_≡_, refl, ap}
+use mathlib.Core.Bool.{Bool, true, false, cond}
 use mathlib.Core.List.{List, [], _∷_, _++_}
-use Prim.Native.Nat.{ℕ, zero, suc, _+_, _-_, _≤_, _<_}
+use Prim.Native.Nat.{ℕ, suc, _+_, _-_, _≤_, _<_}
 use native.Mathlib.Decide.{decLe}
 use native.Mathlib.Omega.{arith}
 use lib.ListN.{length, getD, set}
-use lib.Dec.{leb, ltb}
+use lib.Dec.{leb}
 use borrow.Author.Tests.{leb-true, lt-ltb, ltb-true, ltb-false}
 use Rattle.history.specs.Rules.{over, within, newest, raised, joins, joined}
 use Rattle.ring.specs.declared.Bucket.{Bucket}

@@ -46,6 +46,10 @@ pick-mono (yes p) (no q) n f = absurd (q (f p))
 pick-mono (no p) (yes q) n f = omega arith
 pick-mono (no p) (no q) n f = omega arith
 
+pub pick-all : {P : Type 0} (p : Dec P) (n : ℕ) → P → pick p n ≡ n
+pick-all (yes p) n h = refl
+pick-all (no p) n h = absurd (p h)
+
 pub pick-le : {P : Type 0} (p : Dec P) (n : ℕ) → pick p n ≤ n
 pick-le (yes p) n = omega arith
 pick-le (no p) n = omega arith
