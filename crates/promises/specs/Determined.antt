@@ -26,6 +26,9 @@ use Rattle.absolute.specs.Calls as Absolute
 use Rattle.suppressed.specs.Calls as Suppressed
 use Rattle.provider.specs.Provider as Provider
 use Rattle.readout.specs.ReadOut as ReadOut
+use Rattle.plain.specs.Plain.{Given}
+use Rattle.abi.specs.Faces.{Face, Faced}
+use Rattle.desk_step.specs.Desk.{Step, Answered}
 use Rattle.answers.specs.Printing.{Printed}
 use Rattle.answers.specs.declared.AnswerLine.{AnswerLine}
 
@@ -81,6 +84,11 @@ pub record Determined : Type 1 where
   pub read-out : (kind : RoomKind) (s : Settings) (w key : List ℕ) (row : List Bucket) → Once {R = ReadOut.Filled} (λ x. ReadOut.Shown (ReadOut.readOut kind s w key row) (x .answer) (x .row))
   -- making a room: yes or no, and the words
   pub make : (slots ring : ℕ) (w : List ℕ) → Once {R = Bool × List ℕ} (λ x. Made slots ring w (x .0) (x .1))
+  -- the faces for C and Rust: the number, the answer row and the words of the room, or of both; and a row that is handed over
+  pub faces : {W : Type 0} (f : Face W) → Once {R = ℕ × Face W} (λ x. Faced f (x .0) (x .1 .row) (x .1 .words))
+  pub give : (row : List ℕ) → Once {R = ℕ × List ℕ} (λ x. Given row (x .0) (x .1))
+  -- a line of `desk`: the line to print, and both rooms
+  pub step : (v : Step) → Once {R = Step} (λ x. Answered v (x .answer) (x .absolute) (x .suppressed))
   -- printing an answer: how long, and the bytes
   pub print : (line : AnswerLine) (out : List ℕ) → Once {R = ℕ × List ℕ} (λ x. Printed line out (x .1) (x .0))
   -- whether words are a room's, and a body a ring's; where a body starts
@@ -108,6 +116,9 @@ determined = record {
   provider-cleanup = λ s a b t stale x y p q i. record { answer = (p .answer ∙ sym (q .answer)) i; absolute = (p .absolute ∙ sym (q .absolute)) i; suppressed = (p .suppressed ∙ sym (q .suppressed)) i };
   read-out = λ kind s w key row x y p q i. record { answer = (p .answer ∙ sym (q .answer)) i; row = (p .row ∙ sym (q .row)) i };
   make = λ slots ring w x y p q i. ((p .answer ∙ sym (q .answer)) i, (p .words ∙ sym (q .words)) i);
+  faces = λ f x y p q i. ((p .number ∙ sym (q .number)) i, record { row = (p .answer ∙ sym (q .answer)) i; words = (p .left ∙ sym (q .left)) i });
+  give = λ row x y p q i. ((p .number ∙ sym (q .number)) i, (p .answer ∙ sym (q .answer)) i);
+  step = λ v x y p q i. record { answer = (p .answer ∙ sym (q .answer)) i; absolute = (p .absolute ∙ sym (q .absolute)) i; suppressed = (p .suppressed ∙ sym (q .suppressed)) i };
   print = λ line out x y p q i. ((p .long ∙ sym (q .long)) i, (p .bytes ∙ sym (q .bytes)) i);
   sized = λ w. decides-one (Room w);
   fit = λ r b. decides-one (Shape r b);
