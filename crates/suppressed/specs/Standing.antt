@@ -44,7 +44,7 @@ within-le w t (x ∷ xs) = go (over w t x) (within-le w t xs)
     go true h = omega arith
     go false h = omega arith
 
-over-more : (v w t : ℕ) (x : Bucket) → v ≤ w → over w t x ≡ true → over v t x ≡ true
+pub over-more : (v w t : ℕ) (x : Bucket) → v ≤ w → over w t x ≡ true → over v t x ≡ true
 unfolding over
 over-more v w t x h e = lt-ltb v (t - x .time) (omega (arith, ltb-true w (t - x .time) e))
 

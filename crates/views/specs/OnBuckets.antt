@@ -14,7 +14,7 @@ use borrow.Author.Tests.{eq-eqb, ne-eqb, le-leb, lt-leb, lt-ltb, le-ltb, eqb-tru
 use Rattle.common.specs.Factor.{perceivesNothing}
 use Rattle.common.specs.FactorLaws.{nothing-is}
 use Rattle.common.specs.Limits.{cutWord, softWord}
-use Rattle.common.specs.Ranges.{one}
+use Rattle.common.specs.Ranges.{one, and-no}
 use Rattle.common.specs.Settings.{windowIn, factorIn, cacheIn}
 use Rattle.common.specs.declared.settings.Settings.{Settings}
 use Rattle.common.specs.declared.answers.RateLimitDecision.{RateLimitDecision}
@@ -37,7 +37,7 @@ use Rattle.suppressed_rules.specs.declared.forecast.Reach.the-variants.{Hard, S
 use Rattle.suppressed_rules.specs.Factor.{left, stays, cachedAt, usable, ruleOf, freshBy, blindBy, worked, asked}
 use Rattle.suppressed_rules.specs.Forecast.{forecast, reachOf, declinedBy, drawn, outcomeOf, outcome}
 use Rattle.suppressed.specs.Calls.{slotIn, unperceived}
-use Rattle.suppressed.specs.Standing.{Sums, known, unknown, left-length}
+use Rattle.suppressed.specs.Standing.{Sums, over-more, known, unknown, left-length}
 
 -- ---- the rules
 
@@ -128,10 +128,6 @@ declined-all Between a t c draw = refl
 
 -- ---- "Refusal 13 is met exactly at S = 0, H at least 1, some bucket, total 0"
 
-and-no : (a : Bool) → a && false ≡ false
-and-no true = refl
-and-no false = refl
-
 not-blind : (r : FactorRule) → blindBy r false ≡ false
 not-blind Nil = refl
 not-blind One = refl
@@ -188,10 +184,6 @@ pub record Sees (t : ℕ) (x : Slot) (xs : List Bucket) : Type 0 where
   pub recent : x .pass .«last_second» ≡ lastSecond t xs
 
 -- the last second is within what is live
-over-more : (v w t : ℕ) (x : Bucket) → v ≤ w → over w t x ≡ true → over v t x ≡ true
-unfolding over
-over-more v w t x h e = lt-ltb v (t - x .time) (omega (arith, ltb-true w (t - x .time) e))
-
 within-live : (v w t : ℕ) → v ≤ w → (xs : List Bucket) → within v t xs ≡ within v t (drop (ahead w t xs) xs)
 unfolding within ahead
 within-live v w t h [] = refl
