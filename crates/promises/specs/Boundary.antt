@@ -49,6 +49,7 @@ use Rattle.suppressed_edits.specs.Edits as Edits
 use Rattle.suppressed_rules.specs.Factor as FactorRules
 use Rattle.suppressed_rules.specs.Forecast as Forecast
 use Rattle.suppressed_edits.specs.Refusals as SuppressedRefusals
+use Rattle.demand3.specs.History.{hardOf}
 use Rattle.readout.specs.ReadOut as ReadOut
 use Rattle.readout.specs.ReadOut.{bucketsOf}
 use Rattle.promises.specs.Refusals.{suppressedInc}
@@ -100,6 +101,8 @@ pub record Further : Type 0 where
   -- nothing is turned away: 20 on an empty room; and 1 is the first number: a window of 0
   pub passes : first (suppressedInc (hardBy 2) room 0 key (perSecond one) 20 0) ≡ 0
   pub faulty : first (suppressedInc (withWindow defaults (record { 0 = 0 })) room 0 key (perSecond one) 20 0) ≡ 1
+  -- the hard limit
+  pub hard-20 : hardOf (hardBy 2) (perSecond one) ≡ 20
   -- an empty room, and one with a series of one bucket
   pub empty-use : useOf room 0 ≡ 0
   pub empty-buckets : bucketsOf room key ≡ []
@@ -152,6 +155,7 @@ computed = record {
   further = record {
     passes = refl;
     faulty = refl;
+    hard-20 = refl;
     empty-use = refl;
     empty-buckets = refl;
     single-allowed = refl;

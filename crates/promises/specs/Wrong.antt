@@ -1,13 +1,12 @@
 -- What wrong limiters break. A limiter is here any function with the inputs and results of a call; each theorem says which promise one of a wrong kind cannot
 -- keep, by a case that the definitions decide (`Boundary.antt`). The cases are the suppressed limiter's at H = 20, S = 10.
 -- Assumes nothing.
-use mathlib.Core.Path.{_≡_, refl, sym, ap, subst, _∙_}
-use mathlib.Core.Bool.{Bool, _&&_, _||_, cond}
+use mathlib.Core.Path.{_≡_, refl, sym, ap, ap₂, subst, _∙_}
 use mathlib.Core.List.{List, [], _∷_}
 use mathlib.Core.Logic.{_≢_}
-use Prim.Native.Nat.{ℕ, _+_, _≤_}
+use Prim.Native.Nat.{ℕ, zero, suc, _+_, _≤_}
+use native.Mathlib.Decide.{decLe}
 use native.Mathlib.Omega.{arith}
-use lib.Dec.{eqb}
 use lib.ListN.{length, getD, set}
 use Rattle.common.specs.Answers.{refusedRow, decisionRow, snapshotRow}
 use Rattle.common.specs.Ranges.{one}
@@ -21,7 +20,11 @@ use Rattle.ring.specs.declared.Bucket.{Bucket}
 use Rattle.ring.specs.Ring.{sumOf, counts}
 use Rattle.room.specs.Room.{useOf}
 use Rattle.judge.specs.Verdict.{Verdict, Told}
+use Rattle.frame.specs.Keys.{Bytes}
 use Rattle.suppressed.specs.Calls as Own
+use Rattle.spans.specs.Log.{Entry, noted, pick, pick-all, inSpan}
+use Rattle.demand3.specs.History.{Call, inc, words, admitsCount, admitted, AllSpare}
+use Rattle.demand3.specs.Demand3.{lessBucket, ceiling}
 use Rattle.readout.specs.ReadOut.{bucketsOf}
 use Rattle.promises.specs.Lowest.{Lowest, TurnedBy, numberOf, lowest-first, lowest-positive, first-lowest}
 use Rattle.promises.specs.Refusals.{suppressedInc, rises, demand1}
@@ -49,28 +52,76 @@ ByTable f =
     (s : Settings) (w : List ℕ) (t : ℕ) (k : List ℕ) (rate : RateLimit) (count draw : ℕ) →
     TurnedBy (suppressedInc s w t k rate count draw) (decisionRow (f s w t k rate count draw .answer)) w (f s w t k rate count draw .words)
 
--- counts at reading 0 on the words w, at H = 20: the increment, and what is admitted of it by its answer
-abbrev pub at0 : Inc → List ℕ → ℕ → Verdict RateLimitDecision
-at0 f w count = f (hardBy 2) w 0 key (perSecond one) count 0
+-- increments of one key at H = 20, S = 10, newest first, on a room that was empty: the words after them, and the log of what was admitted, by the answers given
+pub record Shot : Type 0 where
+  pub reading : ℕ
+  pub count : ℕ
+  pub draw : ℕ
 
-abbrev pub admits : RateLimitDecision → Bool
-admits d = eqb (getD (decisionRow d) 1 0) 1 || (eqb (getD (decisionRow d) 1 0) 3 && eqb (getD (decisionRow d) 3 0) 1)
+abbrev pub shotBy : Inc → List ℕ → Shot → Verdict RateLimitDecision
+shotBy f w c = f (hardBy 2) w (c .reading) key (perSecond one) (c .count) (c .draw)
 
--- what is admitted of increments with these counts, one after the other, counted from the answers given
-abbrev pub spent : Inc → List ℕ → List ℕ → ℕ
-spent f w [] = 0
-spent f w (c ∷ cs) = cond (admits (at0 f w c .answer)) c 0 + spent f (at0 f w c .words) cs
+abbrev pub wordsBy : Inc → List Shot → List ℕ
+wordsBy f [] = room
+wordsBy f (c ∷ cs) = shotBy f (wordsBy f cs) c .words
 
--- demand 3's ceiling over the shortest of spans, a single reading: at most H of whatever counts come
+abbrev pub logBy : Inc → List Shot → List Entry
+logBy f [] = []
+logBy f (c ∷ cs) = noted (admitsCount (shotBy f (wordsBy f cs) c .answer)) (c .reading) (c .count) (logBy f cs)
+
+-- demand 3's ceiling of them: in any span of window less bucket at most H is admitted
 abbrev pub Ceiling : Inc → Type 0
-Ceiling f = (counts : List ℕ) → spent f room counts ≤ 20
+Ceiling f = (shots : List Shot) (from : ℕ) → inSpan from (from + lessBucket (hardBy 2)) (logBy f shots) ≤ 20
 
--- the limiter itself keeps them; that it keeps the ceiling is demand 3
+-- ---- the limiter itself keeps them
+
 pub own-rules : ByRules Own.inc
 own-rules s w t k rate count draw = record { answer = refl; words = refl }
 
 pub own-table : ByTable Own.inc
 own-table = demand1 .suppressed-inc
+
+-- as a history of demand 3
+abbrev calls : List Shot → List Call
+calls [] = []
+calls (c ∷ cs) = record { reading = c .reading; op = inc key (perSecond one) (c .count) (c .draw) } ∷ calls cs
+
+key-bytes : Bytes key
+key-bytes zero = omega arith
+key-bytes (suc i) = omega arith
+
+calls-spare : (shots : List Shot) → AllSpare (hardBy 2) key (perSecond one) (calls shots)
+calls-spare [] = tt
+calls-spare (c ∷ cs) = ((key-bytes, λ e. refl), calls-spare cs)
+
+same-words : (shots : List Shot) → words (hardBy 2) room (calls shots) ≡ wordsBy Own.inc shots
+same-words [] = refl
+same-words (c ∷ cs) = ap (λ (w : List ℕ). shotBy Own.inc w c .words) (same-words cs)
+
+same-log : (shots : List Shot) → admitted (hardBy 2) key room (calls shots) ≡ logBy Own.inc shots
+same-log [] = refl
+same-log (c ∷ cs) = ap₂ (λ (w : List ℕ) (l : List Entry). noted (admitsCount (shotBy Own.inc w c .answer)) (c .reading) (c .count) l) (same-words cs) (same-log cs)
+
+pub own-ceiling : Ceiling Own.inc
+own-ceiling shots from =
+    let g = ceiling (hardBy 2) 1 3 key (perSecond one) (calls shots) (record { bytes = key-bytes; short = omega arith }) (omega arith) (calls-spare shots) from in
+    subst (λ (l : List Entry). inSpan from (from + lessBucket (hardBy 2)) l ≤ 20) (same-log shots) (omega (arith, g, further .hard-20))
+
+-- ---- shots at reading 0 lie in the span from 0 on
+
+abbrev at0 : ℕ → Shot
+at0 n = record { reading = 0; count = n; draw = 0 }
+
+abbrev spent : Inc → List Shot → ℕ
+spent f shots = inSpan 0 (0 + lessBucket (hardBy 2)) (logBy f shots)
+
+-- one that is allowed adds its count
+adds : (f : Inc) (n : ℕ) (cs : List Shot) → shotBy f (wordsBy f cs) (at0 n) .answer ≡ Allowed → n + spent f cs ≤ spent f (at0 n ∷ cs)
+unfolding decisionRow
+adds f n cs e =
+    let z : ℕ = 0 + lessBucket (hardBy 2) in
+    subst (λ (d : RateLimitDecision). n + spent f cs ≤ inSpan 0 z (noted (admitsCount d) 0 n (logBy f cs))) (sym e)
+    (omega (arith, pick-all (decLe 0 0) (pick (decLe 0 z) n) (omega arith), pick-all (decLe 0 z) n (omega arith)))
 
 -- ---- refuses every call
 
@@ -111,11 +162,9 @@ module _ (f : Inc) (allows : (s : Settings) (w : List ℕ) (t : ℕ) (k : List �
 
   -- 20 and 20 again
   pub allowing-breaks-the-ceiling : Ceiling f → ⊥
-  unfolding decisionRow
   allowing-breaks-the-ceiling p =
-      let w = at0 f room 20 .words in
-      let e : spent f room (20 ∷ 20 ∷ []) ≡ 40 = rw (allows (hardBy 2) room 0 key (perSecond one) 20 0, allows (hardBy 2) w 0 key (perSecond one) 20 0) in
-      omega (arith, p (20 ∷ 20 ∷ []), e)
+      let one-more = adds f 20 (at0 20 ∷ []) (allows (hardBy 2) (wordsBy f (at0 20 ∷ [])) 0 key (perSecond one) 20 0) in
+      omega (arith, p (at0 20 ∷ at0 20 ∷ []) 0, adds f 20 [] (allows (hardBy 2) room 0 key (perSecond one) 20 0), one-more)
 
 -- ---- changes nothing
 
@@ -128,11 +177,10 @@ module _ (f : Inc) (leaves : (s : Settings) (w : List ℕ) (t : ℕ) (k : List �
 
   -- with the rules' answers to the words that it has: 20 and 20 again
   pub idling-breaks-the-ceiling : ((s : Settings) (w : List ℕ) (t : ℕ) (k : List ℕ) (rate : RateLimit) (count draw : ℕ) → f s w t k rate count draw .answer ≡ Own.inc s w t k rate count draw .answer) → Ceiling f → ⊥
-  unfolding decisionRow
   idling-breaks-the-ceiling q p =
-      let a : at0 f room 20 .answer ≡ Allowed = q (hardBy 2) room 0 key (perSecond one) 20 0 ∙ boundary .forecast-20 in
-      let e : spent f room (20 ∷ 20 ∷ []) ≡ 40 = rw (leaves (hardBy 2) room 0 key (perSecond one) 20 0, a) in
-      omega (arith, p (20 ∷ 20 ∷ []), e)
+      let a : shotBy f room (at0 20) .answer ≡ Allowed = q (hardBy 2) room 0 key (perSecond one) 20 0 ∙ boundary .forecast-20 in
+      let b = ap (λ (w : List ℕ). shotBy f w (at0 20) .answer) (leaves (hardBy 2) room 0 key (perSecond one) 20 0) ∙ a in
+      omega (arith, p (at0 20 ∷ at0 20 ∷ []) 0, adds f 20 [] a, adds f 20 (at0 20 ∷ []) b)
 
 -- ---- counts the first increment only: the rules' answers, and words that change while the key has no bucket
 
@@ -151,16 +199,25 @@ module _ (f : Inc)
       let c : _≡_ {A = ℕ} 1 10 = ap (λ (xs : List Bucket). counts xs) (sym (further .single-buckets) ∙ ap (λ (w : List ℕ). bucketsOf w key) e ∙ further .more-buckets) in
       omega (arith, c)
 
-  -- 1, and 9 three times
+  -- 1, and 9 three times: each time the room is as it was after the 1
   pub once-breaks-the-ceiling : Ceiling f → ⊥
-  unfolding decisionRow
   once-breaks-the-ceiling p =
-      let w : at0 f room 1 .words ≡ single = begins (hardBy 2) room 0 key (perSecond one) 1 0 (further .empty-buckets) in
-      let v : at0 f single 9 .words ≡ single = ends (hardBy 2) single 0 key (perSecond one) 9 0 some-held in
-      let a : at0 f room 1 .answer ≡ Allowed = answers (hardBy 2) room 0 key (perSecond one) 1 0 ∙ further .single-allowed in
-      let b : at0 f single 9 .answer ≡ Allowed = answers (hardBy 2) single 0 key (perSecond one) 9 0 ∙ further .more-allowed in
-      let e : spent f room (1 ∷ 9 ∷ 9 ∷ 9 ∷ []) ≡ 28 = rw (w, v, v, a, b) in
-      omega (arith, p (1 ∷ 9 ∷ 9 ∷ 9 ∷ []), e)
+      let a : shotBy f room (at0 1) .answer ≡ Allowed = answers (hardBy 2) room 0 key (perSecond one) 1 0 ∙ further .single-allowed in
+      let b : shotBy f single (at0 9) .answer ≡ Allowed = answers (hardBy 2) single 0 key (perSecond one) 9 0 ∙ further .more-allowed in
+      let v : shotBy f single (at0 9) .words ≡ single = ends (hardBy 2) single 0 key (perSecond one) 9 0 some-held in
+      let again : (w : List ℕ) → w ≡ single → shotBy f w (at0 9) .words ≡ single = λ w e. ap (λ (u : List ℕ). shotBy f u (at0 9) .words) e ∙ v in
+      let allowed : (w : List ℕ) → w ≡ single → shotBy f w (at0 9) .answer ≡ Allowed = λ w e. ap (λ (u : List ℕ). shotBy f u (at0 9) .answer) e ∙ b in
+      let e : wordsBy f (at0 1 ∷ []) ≡ single = begins (hardBy 2) room 0 key (perSecond one) 1 0 (further .empty-buckets) in
+      let g : wordsBy f (at0 9 ∷ at0 1 ∷ []) ≡ single = again _ e in
+      let h : wordsBy f (at0 9 ∷ at0 9 ∷ at0 1 ∷ []) ≡ single = again _ g in
+      omega (
+        arith,
+        p (at0 9 ∷ at0 9 ∷ at0 9 ∷ at0 1 ∷ []) 0,
+        adds f 1 [] a,
+        adds f 9 (at0 1 ∷ []) (allowed _ e),
+        adds f 9 (at0 9 ∷ at0 1 ∷ []) (allowed _ g),
+        adds f 9 (at0 9 ∷ at0 9 ∷ at0 1 ∷ []) (allowed _ h),
+      )
 
 -- ---- made-up totals
 
