@@ -137,9 +137,9 @@ module _ (w₀ : Whole) (block old : List ℕ) (w : Whole) (new : List ℕ) (i p
   stands-next c r a b h new′ e k g o l =
       let q : take (i + 1) block ≡ take i block ++ (c ∷ []) = ap (λ (j : ℕ). take j block) (add-one i) ∙ take-suc block i 0 k ∙ ap (λ (x : ℕ). take i block ++ (x ∷ [])) (sym e) in
       let f : feed w₀ (take (i + 1) block) ≡ andThen (feed w₀ (take i block)) (byte w c) =
-          ap (feed w₀) q ∙ feed-snoc w₀ (take i block) c ∙ ap (λ (x : Whole). andThen (feed w₀ (take i block)) (byte x c)) (sym (s .after)) in
+      ap (feed w₀) q ∙ feed-snoc w₀ (take i block) c ∙ ap (λ (x : Whole). andThen (feed w₀ (take i block)) (byte x c)) (sym (s .after)) in
       let t : takes (length old) (whole (r .desk) a b h) (r .next) (drop (i + 1) block) ≡ takes (length old) (byte w c .whole) (p + length (byte w c .prints)) (drop (i + 1) block) =
-          ap (λ (x : Whole). takes (length old) x (r .next) (drop (i + 1) block)) (o .after) ∙ ap (λ (x : ℕ). takes (length old) (byte w c .whole) x (drop (i + 1) block)) (o .put .past) in
+      ap (λ (x : Whole). takes (length old) x (r .next) (drop (i + 1) block)) (o .after) ∙ ap (λ (x : ℕ). takes (length old) (byte w c .whole) x (drop (i + 1) block)) (o .put .past) in
       record {
         inside = omega arith;
         same = l ∙ s .same;

@@ -254,15 +254,7 @@ pub fn feed(
                 put,
             };
         }
-        let fed = feed_byte(
-            state,
-            absolute,
-            suppressed,
-            hold,
-            block[taken],
-            out,
-            put,
-        );
+        let fed = feed_byte(state, absolute, suppressed, hold, block[taken], out, put);
         state = fed.desk;
         put = fed.next;
         taken += 1;

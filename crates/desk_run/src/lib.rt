@@ -24,14 +24,7 @@ fn pump(
     let mut state = desk;
     let mut at = 0;
     while at < block.len() {
-        let progress = desk_feed::feed(
-            state,
-            absolute,
-            suppressed,
-            hold,
-            &block[at..],
-            out,
-        );
+        let progress = desk_feed::feed(state, absolute, suppressed, hold, &block[at..], out);
         let taken = progress.taken;
         write_put(out, progress.put);
         state = progress.desk;
@@ -49,15 +42,14 @@ fn end(desk: Desk, absolute: &mut [u64], suppressed: &mut [u64], hold: &[u8], ou
     write_put(out, turn.next);
 }
 
-// Standard input to standard output: all answers to what was read are written before the next read.
-pub fn run(
+// All answers to what was read are written before the next read.
+fn serve(
     absolute: &mut [u64],
     suppressed: &mut [u64],
     hold: &mut [u8],
     block: &mut [u8],
     out: &mut [u8],
 ) {
-    desk_feed::make_rooms(absolute, suppressed);
     let mut desk = desk_feed::start();
     let mut turns = u64::MAX;
     while turns > 0 {
@@ -73,4 +65,16 @@ pub fn run(
         }
         turns -= 1;
     }
+}
+
+// Standard input to standard output, with the two rooms made anew. `hold` keeps a line that a block cuts.
+pub fn run(
+    absolute: &mut [u64],
+    suppressed: &mut [u64],
+    hold: &mut [u8],
+    block: &mut [u8],
+    out: &mut [u8],
+) {
+    desk_feed::make_rooms(absolute, suppressed);
+    serve(absolute, suppressed, hold, block, out);
 }

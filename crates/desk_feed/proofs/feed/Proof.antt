@@ -78,9 +78,12 @@ loop-again c =
     let a = c .before .before .before .before .before .before .before .before .before .before .before .before .before .before .before .before .before .before .before .before .before .before .before .before .args in
     let k = c .before .before .before .before .before .before .before .before .before .before .before .before .before .before .before .before .before .before .loop in
     let f = c .before .before .before .before .before .before .before .before .before .feed-byte in
-    let s = k .inv .0 in
-    (stands-next (whole (a .desk) (a .absolute .now) (a .suppressed .now) (a .hold .now)) (a .block .now) (a .out .now) _ _ _ _ s _ (f .result) _ _ _ _ refl (c .before .before .before .before .before .before .before .before .before .before .before .before .before .before .before .before .before .loop-test .taken) (omega (arith, s .same, c .before .before .before .before .before .before .before .before .before .before .before .before .before .before .before .if2 .left, c .before .before .before .before .before .before .before .before .before .before .before .before .before .before .before .before .if1 .left)) (f .ensures) (f .kept .1 .1 .1 .1 .1 .0),
-    f .kept .1 .0 ∙ k .inv .1, f .kept .1 .1 .0 ∙ k .inv .2, f .kept .1 .1 .1 .0 ∙ k .inv .3)
+    let s = k .inv .0 in (
+      stands-next (whole (a .desk) (a .absolute .now) (a .suppressed .now) (a .hold .now)) (a .block .now) (a .out .now) _ _ _ _ s _ (f .result) _ _ _ _ refl (c .before .before .before .before .before .before .before .before .before .before .before .before .before .before .before .before .before .loop-test .taken) (omega (arith, s .same, c .before .before .before .before .before .before .before .before .before .before .before .before .before .before .before .if2 .left, c .before .before .before .before .before .before .before .before .before .before .before .before .before .before .before .before .if1 .left)) (f .ensures) (f .kept .1 .1 .1 .1 .1 .0),
+      f .kept .1 .0 ∙ k .inv .1,
+      f .kept .1 .1 .0 ∙ k .inv .2,
+      f .kept .1 .1 .1 .0 ∙ k .inv .3,
+    )
 
 same-length-9 : tie.Need-same-length-9 Inv-loop μ-loop
 same-length-9 c = c .before .loop .inv .1

@@ -37,7 +37,7 @@ same-length-3 c = search needs
 
 returns-3 : tie.Need-returns-3
 unfolding finishing
-returns-3 c =     rw (le-ltb _ _ (c .before .before .before .before .before .before .before .before .before .before .before .before .if1 .left), ← c .before .before .before .before .before .before .before .before .before .before .before .is-over .ensures, c .before .before .before .before .before .before .before .before .before .before .if2 .left) (c .before .before .before .before .before .before .end-line .ensures)
+returns-3 c = rw (le-ltb _ _ (c .before .before .before .before .before .before .before .before .before .before .before .before .if1 .left), ← c .before .before .before .before .before .before .before .before .before .before .before .is-over .ensures, c .before .before .before .before .before .before .before .before .before .before .if2 .left) (c .before .before .before .before .before .before .end-line .ensures)
 
 pub finish-spec : {M : Type 1} → statement M
 finish-spec =

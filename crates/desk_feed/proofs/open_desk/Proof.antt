@@ -30,7 +30,7 @@ same-length : tie.Need-same-length
 same-length c = search needs
 
 returns-2 : tie.Need-returns-2
-returns-2 c =     rw (sym (c .before .before .before .before .before .before .before .before .begin .ensures) ∙ c .before .before .before .before .before .before .opening2 .given .1) (record { phase = refl; put = rw (c .before .before .before .before .refusal .ensures) at (c .before .before .put-line .ensures) })
+returns-2 c = rw (sym (c .before .before .before .before .before .before .before .before .begin .ensures) ∙ c .before .before .before .before .before .before .opening2 .given .1) (record { phase = refl; put = rw (c .before .before .before .before .refusal .ensures) at (c .before .before .put-line .ensures) })
 
 pub open-desk-spec : {M : Type 1} → statement M
 open-desk-spec =

@@ -1,0 +1,19 @@
+-- The first n bytes are n.
+-- Assumes nothing.
+use mathlib.Core.Path.{sym}
+use lib.Seq.{length-take-le}
+use borrow.Author.Needs.{needs}
+use Rattle.desk_run.proofs.write_put.Statement.{statement}
+use Rattle.desk_run.proofs.write_put.Tie as tie
+
+slice-aggregate-write-all : tie.Need-slice-aggregate-write-all
+slice-aggregate-write-all c = let a = c .before .before in sym (length-take-le (a .args .n) (a .args .out .now) (a .pre))
+
+write-all-requires : tie.Need-write-all-requires
+write-all-requires c κs = search needs
+
+returns : tie.Need-returns
+returns c = search needs
+
+pub write-put-spec : {M : Type 1} → statement M
+write-put-spec = tie.close (tie.spec slice-aggregate-write-all write-all-requires returns)
