@@ -1,10 +1,11 @@
 -- Each public contract leaves one result: whatever two results it allows, answers and everything lent, are equal. Demand 1 says what a refusal is, and
 -- this that there is nothing else a caller could be told, refusals included.
 -- Assumes nothing.
-use mathlib.Core.Path.{_≡_, refl, sym, subst, _∙_}
+use mathlib.Core.Path.{_≡_, refl, sym, ap, subst, _∙_}
 use mathlib.Core.Bool.{Bool, true, false}
 use mathlib.Core.List.{List}
-use Prim.Native.Nat.{ℕ}
+use Prim.Native.Nat.{ℕ, _+_}
+use lib.ListN.{length, take}
 use lib.Ieee.{Float}
 use Rattle.base.specs.Decides.{Decides}
 use Rattle.common.specs.Limits.{rateBack}
@@ -29,7 +30,11 @@ use Rattle.readout.specs.ReadOut as ReadOut
 use Rattle.plain.specs.Plain.{Given}
 use Rattle.abi.specs.Faces.{Face, Faced}
 use Rattle.desk_step.specs.Desk.{Step, Answered}
-use Rattle.answers.specs.Printing.{Printed}
+use Rattle.desk_feed.specs.declared.Progress.{Progress}
+use Rattle.desk_feed.specs.declared.Turn.{Turn}
+use Rattle.desk_feed.specs.Feed.{Effect, Whole, whole, feed}
+use Rattle.desk_feed.specs.Contracts.{Took, Feeding, BothMade}
+use Rattle.answers.specs.Printing.{pasted, Printed}
 use Rattle.answers.specs.declared.AnswerLine.{AnswerLine}
 
 -- what a contract C allows is one result
@@ -87,6 +92,10 @@ pub record Determined : Type 1 where
   -- the faces for C and Rust: the number, the answer row and the words of the room, or of both; and a row that is handed over
   pub faces : {W : Type 0} (f : Face W) → Once {R = ℕ × Face W} (λ x. Faced f (x .0) (x .1 .row) (x .1 .words))
   pub give : (row : List ℕ) → Once {R = ℕ × List ℕ} (λ x. Given row (x .0) (x .1))
+  -- the bytes of `desk`: both rooms made; a block taken, of which as much goes in as there is room to print for; the last line; each with what is printed and kept
+  pub desk-rooms : (a b : List ℕ) → Once {R = Bool × List ℕ × List ℕ} (λ x. BothMade a b (x .0) (x .1) (x .2))
+  pub desk-feed : (w : Whole) (block out : List ℕ) → Once {R = Progress × List ℕ × List ℕ × List ℕ × List ℕ} (λ x. Feeding w block out (x .0) (x .1) (x .2) (x .3) (x .4))
+  pub desk-finish : (v : Effect) (out : List ℕ) (at : ℕ) → Once {R = Turn × List ℕ × List ℕ × List ℕ} (λ x. Took v out at (x .0) (x .1) (x .2) (x .3))
   -- a line of `desk`: the line to print, and both rooms
   pub step : (v : Step) → Once {R = Step} (λ x. Answered v (x .answer) (x .absolute) (x .suppressed))
   -- printing an answer: how long, and the bytes
@@ -99,6 +108,16 @@ pub record Determined : Type 1 where
   pub from-stored-window-limit : (W : ℕ) (F : Float) (limit : ℕ) → Once {R = RateLimit} (λ r. r .0 ≡ rateBack W F limit)
   -- every other public function says `r ≡ ..`, or `exit ≡ ..` where it answers nothing
   pub others : {A : Type 0} (v : A) → Once {R = A} (λ r. r ≡ v)
+
+-- how much of a block is taken decides the rest
+feeding-one : (w : Whole) (block out : List ℕ) → Once {R = Progress × List ℕ × List ℕ × List ℕ × List ℕ} (λ x. Feeding w block out (x .0) (x .1) (x .2) (x .3) (x .4))
+feeding-one w block out x y p q =
+    let t : x .0 .taken ≡ y .0 .taken = p .taken ∙ sym (q .taken) in
+    let after : whole (x .0 .desk) (x .1) (x .2) (x .3) ≡ whole (y .0 .desk) (y .1) (y .2) (y .3) = p .after ∙ ap (λ (n : ℕ). feed w (take n block) .whole) t ∙ sym (q .after) in
+    let prints : List ℕ → ℕ = λ (b : List ℕ). 0 + length b in
+    let next : x .0 .put ≡ y .0 .put = p .put .past ∙ ap (λ (n : ℕ). prints (feed w (take n block) .prints)) t ∙ sym (q .put .past) in
+    let bytes : x .4 ≡ y .4 = p .put .is ∙ ap (λ (n : ℕ). pasted out 0 (feed w (take n block) .prints)) t ∙ sym (q .put .is) in
+    λ i. (record { desk = after i .desk; taken = t i; put = next i }, after i .absolute, after i .suppressed, after i .hold, bytes i)
 
 pub determined : Determined
 determined = record {
@@ -118,6 +137,10 @@ determined = record {
   make = λ slots ring w x y p q i. ((p .answer ∙ sym (q .answer)) i, (p .words ∙ sym (q .words)) i);
   faces = λ f x y p q i. ((p .number ∙ sym (q .number)) i, record { row = (p .answer ∙ sym (q .answer)) i; words = (p .left ∙ sym (q .left)) i });
   give = λ row x y p q i. ((p .number ∙ sym (q .number)) i, (p .answer ∙ sym (q .answer)) i);
+  desk-rooms = λ a b x y p q i. ((p .answer ∙ sym (q .answer)) i, (p .absolute ∙ sym (q .absolute)) i, (p .suppressed ∙ sym (q .suppressed)) i);
+  desk-feed = feeding-one;
+  desk-finish = λ v out at x y p q i.
+      (record { phase = (p .phase ∙ sym (q .phase)) i; next = (p .put .past ∙ sym (q .put .past)) i }, (p .absolute ∙ sym (q .absolute)) i, (p .suppressed ∙ sym (q .suppressed)) i, (p .put .is ∙ sym (q .put .is)) i);
   step = λ v x y p q i. record { answer = (p .answer ∙ sym (q .answer)) i; absolute = (p .absolute ∙ sym (q .absolute)) i; suppressed = (p .suppressed ∙ sym (q .suppressed)) i };
   print = λ line out x y p q i. ((p .long ∙ sym (q .long)) i, (p .bytes ∙ sym (q .bytes)) i);
   sized = λ w. decides-one (Room w);
