@@ -6,18 +6,20 @@ use mathlib.Core.Bool.{Bool, true, false, cond, false≢true}
 use mathlib.Core.List.{List, [], _∷_}
 use Prim.Native.Nat.{ℕ, suc, _+_, _-_, _≤_}
 use native.Mathlib.Omega.{arith}
-use lib.ListN.{length, getD, drop, length-drop}
-use lib.Dec.{leb, eqb}
-use borrow.Author.Tests.{le-leb, leb-true, le-ltb, ltb-false, eq-eqb, eqb-true}
+use lib.ListN.{length, getD, drop}
+use lib.Dec.{leb, ltb, eqb}
+use borrow.Author.Tests.{le-leb, leb-true, lt-ltb, le-ltb, ltb-true, ltb-false, eq-eqb, eqb-true}
+use Rattle.base.specs.Decides.{both-ways}
 use Rattle.ring.specs.declared.Bucket.{Bucket}
-use Rattle.ring.specs.Ring.{noBucket, sumOf, countOf, deniedOf, counts, declineds, totalOf, declinedOf, lenOf, buckets, Shape}
+use Rattle.ring.specs.Ring.{noBucket, sumOf, counts, declineds, totalOf, declinedOf, lenOf, buckets, Shape}
 use Rattle.ring.specs.Order.{Fine, and-true}
-use Rattle.ring.specs.View.{view-length}
 use Rattle.ring.specs.Sound.{soundBuckets, Sound, false-of, sound-true, true-sound}
 use Rattle.history.specs.declared.tally.Tally.{Tally}
+use Rattle.history.specs.declared.tally.Swept.{Swept}
+use Rattle.history.specs.declared.tally.Gone.{Gone}
 use Rattle.history.specs.declared.tally.Pass.{Pass}
-use Rattle.history.specs.Rules.{ticksPerSecond, over, within, ahead, lastSecond}
-use Rattle.history.specs.Sweep.{when, goodOf, stepOf, swept, begun, sweepOf, wholeOf, found, unsound, pick, passOf}
+use Rattle.history.specs.Rules.{ticksPerSecond, over, within, ahead}
+use Rattle.history.specs.Sweep.{behind, goodOf, stepOf, endedOf, off, swept, begun, sweepOf, wholeOf, fewer, goneFrom, goneNone, goneOf, found, unsound, pick, passOf}
 
 -- ---- where times do not fall, the buckets over w are the oldest ones
 
@@ -46,171 +48,173 @@ ahead-le w t (x ∷ xs) = go (over w t x) (ahead-le w t xs)
     go true h = omega arith
     go false h = omega arith
 
--- ---- the sums that a sweep leaves
+-- ---- the expired
 
--- what is over w
-unfoldable outs : (Bucket → ℕ) → ℕ → ℕ → List Bucket → ℕ
-outs f w t [] = 0
-outs f w t (x ∷ xs) = when (over w t x) (f x) + outs f w t xs
-
-outs-within : (f : Bucket → ℕ) (w t : ℕ) (xs : List Bucket) → sumOf f xs ≡ outs f w t xs + sumOf f (within w t xs)
-unfolding outs within sumOf
-outs-within f w t [] = refl
-outs-within f w t (x ∷ xs) = go (over w t x) (outs-within f w t xs)
+gone-ahead : (w t : ℕ) (g : Gone) (xs : List Bucket) → goneFrom w t g xs .buckets ≡ g .buckets + ahead w t xs
+unfolding goneFrom ahead
+gone-ahead w t g [] = omega arith
+gone-ahead w t g (x ∷ xs) = go (over w t x) (gone-ahead w t (fewer g x) xs)
   where
-    go : (o : Bool) → sumOf f xs ≡ outs f w t xs + sumOf f (within w t xs) → f x + sumOf f xs ≡ when o (f x) + outs f w t xs + sumOf f (cond o (within w t xs) (x ∷ within w t xs))
-    go true i = omega arith
+    go : (o : Bool) → goneFrom w t (fewer g x) xs .buckets ≡ g .buckets + 1 + ahead w t xs → cond o (goneFrom w t (fewer g x) xs) g .buckets ≡ g .buckets + cond o (suc (ahead w t xs)) 0
+    go true i = omega (arith, i)
     go false i = omega arith
 
-each : Bucket → ℕ
-each x = 1
+gone-total : (w t : ℕ) (g : Gone) (xs : List Bucket) → counts xs ≡ g .total → goneFrom w t g xs .total ≡ counts (drop (ahead w t xs) xs)
+unfolding goneFrom ahead sumOf
+gone-total w t g [] e = sym e
+gone-total w t g (x ∷ xs) e = go (over w t x) (gone-total w t (fewer g x) xs (omega (arith, e)))
+  where
+    go : (o : Bool) → goneFrom w t (fewer g x) xs .total ≡ counts (drop (ahead w t xs) xs) → cond o (goneFrom w t (fewer g x) xs) g .total ≡ counts (drop (cond o (suc (ahead w t xs)) 0) (x ∷ xs))
+    go true i = i
+    go false i = sym e
 
-each-length : (xs : List Bucket) → sumOf each xs ≡ length xs
-unfolding sumOf each
-each-length [] = refl
-each-length (x ∷ xs) = omega (arith, each-length xs)
+gone-declined : (w t : ℕ) (g : Gone) (xs : List Bucket) → declineds xs ≡ g .declined → goneFrom w t g xs .declined ≡ declineds (drop (ahead w t xs) xs)
+unfolding goneFrom ahead sumOf
+gone-declined w t g [] e = sym e
+gone-declined w t g (x ∷ xs) e = go (over w t x) (gone-declined w t (fewer g x) xs (omega (arith, e)))
+  where
+    go : (o : Bool) → goneFrom w t (fewer g x) xs .declined ≡ declineds (drop (ahead w t xs) xs) → cond o (goneFrom w t (fewer g x) xs) g .declined ≡ declineds (drop (cond o (suc (ahead w t xs)) 0) (x ∷ xs))
+    go true i = i
+    go false i = sym e
 
-record Sums (w t : ℕ) (a : Tally) (xs : List Bucket) (y : Tally) : Type 0 where
-  pub left : y .left ≡ a .left - counts xs
-  pub spare : y .spare ≡ a .spare - declineds xs
-  pub live : y .live ≡ a .live - outs each w t xs
-  pub total : y .total ≡ a .total - outs countOf w t xs
-  pub declined : y .declined ≡ a .declined - outs deniedOf w t xs
-  pub recent : y .recent ≡ a .recent - outs countOf ticksPerSecond t xs
-
-sums-on : (last t w : ℕ) (a : Tally) (x : Bucket) (xs : List Bucket) (y : Tally) → Sums w t (stepOf last t w a x) xs y → Sums w t a (x ∷ xs) y
-unfolding stepOf sumOf outs each
-sums-on last t w a x xs y i = record { left = omega (arith, i .left); spare = omega (arith, i .spare); live = omega (arith, i .live); total = omega (arith, i .total); declined = omega (arith, i .declined); recent = omega (arith, i .recent) }
-
-sums : (last t w : ℕ) (a : Tally) (xs : List Bucket) → Sums w t a xs (swept last t w a xs)
-unfolding swept sumOf outs
-sums last t w a [] = record { left = omega arith; spare = omega arith; live = omega arith; total = omega arith; declined = omega arith; recent = omega arith }
-sums last t w a (x ∷ xs) = sums-on last t w a x xs (swept last t w (stepOf last t w a x) xs) (sums last t w (stepOf last t w a x) xs)
-
--- ---- a sweep stays sound exactly where the buckets are in order and within the totals
+-- ---- a sweep stays sound exactly where the buckets are in order and the totals are their sums
 
 record Keeps (last : ℕ) (a : Tally) (xs : List Bucket) : Type 0 where
-  pub on : a .sound ≡ true
+  pub past : a .lo ≤ last
   pub order : Fine (a .lo) xs last
-  pub left : counts xs ≤ a .left
-  pub spare : declineds xs ≤ a .spare
+  pub left : counts xs ≡ a .left
+  pub spare : declineds xs ≡ a .spare
 
-record Good (last : ℕ) (a : Tally) (x : Bucket) : Type 0 where
-  pub on : a .sound ≡ true
+record Good (a : Tally) (x : Bucket) : Type 0 where
   pub up : a .lo ≤ x .time
-  pub past : x .time ≤ last
   pub most : x .declined ≤ x .count
   pub left : x .count ≤ a .left
   pub spare : x .declined ≤ a .spare
 
-good-true : (last : ℕ) (a : Tally) (x : Bucket) → goodOf last a x ≡ true → Good last a x
+good-true : (a : Tally) (x : Bucket) → goodOf a x ≡ true → Good a x
 unfolding goodOf
-good-true last a x e =
-    let p = and-true (a .sound) _ e in
-    let q = and-true (leb (a .lo) (x .time)) _ (p .1) in
-    let s = and-true (leb (x .time) last) _ (q .1) in
-    let u = and-true (leb (x .declined) (x .count)) _ (s .1) in
-    let v = and-true (leb (x .count) (a .left)) _ (u .1) in
-    record { on = p .0; up = leb-true _ _ (q .0); past = leb-true _ _ (s .0); most = leb-true _ _ (u .0); left = leb-true _ _ (v .0); spare = leb-true _ _ (v .1) }
+good-true a x e =
+    let p = and-true (leb (a .lo) (x .time)) _ e in
+    let q = and-true (leb (x .declined) (x .count)) _ (p .1) in
+    let s = and-true (leb (x .count) (a .left)) _ (q .1) in
+    record { up = leb-true _ _ (p .0); most = leb-true _ _ (q .0); left = leb-true _ _ (s .0); spare = leb-true _ _ (s .1) }
 
-true-good : (last : ℕ) (a : Tally) (x : Bucket) → Good last a x → goodOf last a x ≡ true
+true-good : (a : Tally) (x : Bucket) → Good a x → goodOf a x ≡ true
 unfolding goodOf
-true-good last a x g = simp (g .on, le-leb _ _ (g .up), le-leb _ _ (g .past), le-leb _ _ (g .most), le-leb _ _ (g .left), le-leb _ _ (g .spare))
+true-good a x g = simp (le-leb _ _ (g .up), le-leb _ _ (g .most), le-leb _ _ (g .left), le-leb _ _ (g .spare))
 
-keeps-on : (last t w : ℕ) (a : Tally) (x : Bucket) (xs : List Bucket) → Keeps last (stepOf last t w a x) xs → Keeps last a (x ∷ xs)
+keeps-on : (last e : ℕ) (a : Tally) (x : Bucket) (xs : List Bucket) → Good a x → Keeps last (stepOf e a x) xs → Keeps last a (x ∷ xs)
 unfolding stepOf sumOf
-keeps-on last t w a x xs k =
-    let g = good-true last a x (k .on) in
-    record { on = g .on; order = (g .up, g .past, g .most, k .order); left = omega (arith, g .left, k .left); spare = omega (arith, g .spare, k .spare) }
+keeps-on last e a x xs g k = record { past = omega (arith, g .up, k .past); order = (g .up, k .past, g .most, k .order); left = omega (arith, g .left, k .left); spare = omega (arith, g .spare, k .spare) }
 
-keeps-back : (last t w : ℕ) (a : Tally) (x : Bucket) (xs : List Bucket) → Keeps last a (x ∷ xs) → Keeps last (stepOf last t w a x) xs
+keeps-good : (last : ℕ) (a : Tally) (x : Bucket) (xs : List Bucket) → Keeps last a (x ∷ xs) → goodOf a x ≡ true
+unfolding sumOf
+keeps-good last a x xs k = true-good a x (record { up = k .order .0; most = k .order .2; left = omega (arith, k .left); spare = omega (arith, k .spare) })
+
+keeps-back : (last e : ℕ) (a : Tally) (x : Bucket) (xs : List Bucket) → Keeps last a (x ∷ xs) → Keeps last (stepOf e a x) xs
 unfolding stepOf sumOf
-keeps-back last t w a x xs k =
-    let g : Good last a x = record { on = k .on; up = k .order .0; past = k .order .1; most = k .order .2; left = omega (arith, k .left); spare = omega (arith, k .spare) } in
-    record { on = true-good last a x g; order = k .order .3; left = omega (arith, k .left); spare = omega (arith, k .spare) }
+keeps-back last e a x xs k = record { past = k .order .1; order = k .order .3; left = omega (arith, k .left); spare = omega (arith, k .spare) }
 
-keeps-true : (last t w : ℕ) (a : Tally) (xs : List Bucket) → swept last t w a xs .sound ≡ true → Keeps last a xs
-unfolding swept sumOf
-keeps-true last t w a [] e = record { on = e; order = tt; left = omega arith; spare = omega arith }
-keeps-true last t w a (x ∷ xs) e = keeps-on last t w a x xs (keeps-true last t w (stepOf last t w a x) xs e)
-
-true-keeps : (last t w : ℕ) (a : Tally) (xs : List Bucket) → Keeps last a xs → swept last t w a xs .sound ≡ true
+-- so a step of a sweep that keeps
+kept-step : (last e : ℕ) (a : Tally) (x : Bucket) (xs : List Bucket) → Keeps last a (x ∷ xs) → swept last e a (x ∷ xs) ≡ swept last e (stepOf e a x) xs
 unfolding swept
-true-keeps last t w a [] k = k .on
-true-keeps last t w a (x ∷ xs) k = true-keeps last t w (stepOf last t w a x) xs (keeps-back last t w a x xs k)
+kept-step last e a x xs k = ap (λ (g : Bool). cond g (swept last e (stepOf e a x) xs) off) (keeps-good last a x xs k)
+
+keeps-true : (last e : ℕ) (a : Tally) (xs : List Bucket) → swept last e a xs .sound ≡ true → Keeps last a xs
+unfolding swept endedOf sumOf
+keeps-true last e a [] h =
+    let p = and-true (leb (a .lo) last) _ h in
+    let q = and-true (eqb (a .left) 0) _ (p .1) in
+    record { past = leb-true _ _ (p .0); order = tt; left = sym (eqb-true _ _ (q .0)); spare = sym (eqb-true _ _ (q .1)) }
+keeps-true last e a (x ∷ xs) h = go (goodOf a x) refl (keeps-true last e (stepOf e a x) xs) h
+  where
+    go : (g : Bool) → goodOf a x ≡ g → (swept last e (stepOf e a x) xs .sound ≡ true → Keeps last (stepOf e a x) xs) → cond g (swept last e (stepOf e a x) xs) off .sound ≡ true → Keeps last a (x ∷ xs)
+    go true g i h = keeps-on last e a x xs (good-true a x g) (i h)
+    go false g i h = absurd (false≢true h)
+
+true-keeps : (last e : ℕ) (a : Tally) (xs : List Bucket) → Keeps last a xs → swept last e a xs .sound ≡ true
+unfolding swept endedOf sumOf
+true-keeps last e a [] k = simp (le-leb _ _ (k .past), eq-eqb _ _ (sym (k .left)), eq-eqb _ _ (sym (k .spare)))
+true-keeps last e a (x ∷ xs) k = ap (λ (s : Swept). s .sound) (kept-step last e a x xs k) ∙ true-keeps last e (stepOf e a x) xs (keeps-back last e a x xs k)
+
+-- ---- the last second
+
+-- an age is over w exactly where the time is before t - w
+before-over : (w t time : ℕ) → ltb time (t - w) ≡ ltb w (t - time)
+before-over w t time = both-ways (ltb time (t - w)) (ltb w (t - time)) (λ h. lt-ltb w (t - time) (omega (arith, ltb-true time (t - w) h))) (λ h. lt-ltb time (t - w) (omega (arith, ltb-true w (t - time) h)))
+
+-- where none is before e, what was left stays
+recent-stays : (last e : ℕ) (a : Tally) (xs : List Bucket) → Keeps last a xs → e ≤ a .lo → swept last e a xs .recent ≡ a .recent
+unfolding swept stepOf behind
+recent-stays last e a [] k h = refl
+recent-stays last e a (x ∷ xs) k h =
+    let u : e ≤ x .time = omega (arith, k .order .0) in
+    ap (λ (s : Swept). s .recent) (kept-step last e a x xs k) ∙ recent-stays last e (stepOf e a x) xs (keeps-back last e a x xs k) u ∙ ap (λ (f : Bool). cond f (a .left - x .count) (a .recent)) (le-ltb _ _ u)
+
+step-late : (e : ℕ) (a : Tally) (x : Bucket) → ltb (x .time) e ≡ true → stepOf e a x .recent ≡ stepOf e a x .left
+unfolding stepOf behind
+step-late e a x o = ap (λ (f : Bool). cond f (a .left - x .count) (a .recent)) o
+
+recent-young : (last e : ℕ) (a : Tally) (x : Bucket) (xs : List Bucket) → Keeps last a (x ∷ xs) → ltb (x .time) e ≡ false → swept last e (stepOf e a x) xs .recent ≡ a .recent
+unfolding stepOf behind
+recent-young last e a x xs k o = recent-stays last e (stepOf e a x) xs (keeps-back last e a x xs k) (ltb-false _ _ o) ∙ ap (λ (f : Bool). cond f (a .left - x .count) (a .recent)) o
+
+recent-is : (last w t : ℕ) (a : Tally) (xs : List Bucket) → Keeps last a xs → a .recent ≡ a .left → swept last (t - w) a xs .recent ≡ counts (within w t xs)
+unfolding swept within over
+recent-is last w t a [] k h = h ∙ sym (k .left)
+recent-is last w t a (x ∷ xs) k h =
+    ap (λ (s : Swept). s .recent) (kept-step last (t - w) a x xs k) ∙
+    go (ltb w (t - x .time)) refl (recent-is last w t (stepOf (t - w) a x) xs (keeps-back last (t - w) a x xs k))
+  where
+    go : (o : Bool) → ltb w (t - x .time) ≡ o → (stepOf (t - w) a x .recent ≡ stepOf (t - w) a x .left → swept last (t - w) (stepOf (t - w) a x) xs .recent ≡ counts (within w t xs)) →
+        swept last (t - w) (stepOf (t - w) a x) xs .recent ≡ counts (cond o (within w t xs) (x ∷ within w t xs))
+    go true o i = i (step-late (t - w) a x (before-over w t (x .time) ∙ o))
+    go false o i =
+        recent-young last (t - w) a x xs k (before-over w t (x .time) ∙ o) ∙ h ∙ sym (k .left) ∙
+        ap (λ (ys : List Bucket). counts (x ∷ ys)) (sym (young-all w t (x .time) last xs (k .order .3) (ltb-false w (t - x .time) o)))
 
 -- ---- the pass
 
 module _ (r : ℕ) (b : List ℕ) (last t w : ℕ) (sh : Shape r b) where
-  whole-true : wholeOf (sweepOf r b last t w) (totalOf b) ≡ true → Sound r b last
+  whole-keeps : wholeOf (sweepOf r b last t) (totalOf b) ≡ true → Keeps last (begun (totalOf b) (declinedOf b)) (buckets r b)
+  unfolding wholeOf
+  whole-keeps e = keeps-true last (t - ticksPerSecond) (begun (totalOf b) (declinedOf b)) (buckets r b) (and-true (sweepOf r b last t .sound) _ e .0)
+
+  whole-true : wholeOf (sweepOf r b last t) (totalOf b) ≡ true → Sound r b last
   unfolding wholeOf
   whole-true e =
-      let y = sweepOf r b last t w in
-      let xs = buckets r b in
-      let s = sums last t w (begun (lenOf b) (totalOf b) (declinedOf b)) xs in
-      let p = and-true (y .sound) _ e in
-      let q = and-true (eqb (y .left) 0) _ (p .1) in
-      let u = and-true (eqb (y .spare) 0) _ (q .1) in
-      let k = keeps-true last t w (begun (lenOf b) (totalOf b) (declinedOf b)) xs (p .0) in
-      let z : y .left ≡ 0 = eqb-true _ _ (q .0) in
-      let v : y .spare ≡ 0 = eqb-true _ _ (u .0) in
-      record { shape = sh; each = k .order; total = omega (arith, s .left, k .left, z); declined = omega (arith, s .spare, k .spare, v); most = leb-true _ _ (u .1) }
+      let k = whole-keeps e in
+      record { shape = sh; each = k .order; total = sym (k .left); declined = sym (k .spare); most = leb-true _ _ (and-true (sweepOf r b last t .sound) _ e .1) }
 
-  true-whole : Sound r b last → wholeOf (sweepOf r b last t w) (totalOf b) ≡ true
+  true-whole : Sound r b last → wholeOf (sweepOf r b last t) (totalOf b) ≡ true
   unfolding wholeOf
-  true-whole h =
-      let y = sweepOf r b last t w in
-      let xs = buckets r b in
-      let s = sums last t w (begun (lenOf b) (totalOf b) (declinedOf b)) xs in
-      let k = true-keeps last t w (begun (lenOf b) (totalOf b) (declinedOf b)) xs (record { on = refl; order = h .each; left = omega (arith, h .total); spare = omega (arith, h .declined) }) in
-      let z : y .left ≡ 0 = omega (arith, s .left, h .total) in
-      let v : y .spare ≡ 0 = omega (arith, s .spare, h .declined) in
-      simp (k, eq-eqb _ _ z, eq-eqb _ _ v, le-leb _ _ (h .most))
+  true-whole h = simp (true-keeps last (t - ticksPerSecond) (begun (totalOf b) (declinedOf b)) (buckets r b) (record { past = omega arith; order = h .each; left = sym (h .total); spare = sym (h .declined) }), le-leb _ _ (h .most))
 
   -- a sweep that is not whole, and a body that does not fit, find nothing
-  pub pass-not : wholeOf (sweepOf r b last t w) (totalOf b) ≡ false → unsound ≡ passOf r b last t w
+  pub pass-not : wholeOf (sweepOf r b last t) (totalOf b) ≡ false → unsound ≡ passOf r b last t w
   unfolding passOf
   pass-not e = let n : soundBuckets r b last ≡ false = false-of _ (λ h. false≢true (sym e ∙ true-whole (sound-true r b last h))) in sym (ap (λ (f : Bool). pick f (found (lenOf b) (buckets r b) t w) unsound) n)
 
-  -- a whole one finds what the rules say
-  pub record Finds (y : Tally) : Type 0 where
-    pub sound : Sound r b last
-    pub is : found (lenOf b) (buckets r b) t w ≡ passOf r b last t w
-    pub expired : lenOf b - y .live ≡ ahead w t (buckets r b)
-    pub total : y .total ≡ counts (drop (ahead w t (buckets r b)) (buckets r b))
-    pub declined : y .declined ≡ declineds (drop (ahead w t (buckets r b)) (buckets r b))
-    pub recent : y .recent ≡ lastSecond t (buckets r b)
-
-  pub pass-finds : wholeOf (sweepOf r b last t w) (totalOf b) ≡ true → Finds (sweepOf r b last t w)
+  whole-is : wholeOf (sweepOf r b last t) (totalOf b) ≡ true → found (lenOf b) (buckets r b) t w ≡ passOf r b last t w
   unfolding passOf
-  pass-finds e =
-      let h = whole-true e in
-      let xs = buckets r b in
-      let s = sums last t w (begun (lenOf b) (totalOf b) (declinedOf b)) xs in
-      let d = within-drop w t 0 last xs (h .each) in
-      record {
-        sound = h;
-        is = sym (ap (λ (f : Bool). pick f (found (lenOf b) xs t w) unsound) (true-sound r b last h));
-        expired = omega (arith, s .live, outs-within each w t xs, each-length xs, each-length (within w t xs), ap length d, length-drop (ahead w t xs) xs, ahead-le w t xs, view-length r b);
-        total = omega (arith, s .total, outs-within countOf w t xs, ap counts d, h .total);
-        declined = omega (arith, s .declined, outs-within deniedOf w t xs, ap declineds d, h .declined);
-        recent = omega (arith, s .recent, outs-within countOf ticksPerSecond t xs, h .total);
-      }
+  whole-is e = sym (ap (λ (f : Bool). pick f (found (lenOf b) (buckets r b) t w) unsound) (true-sound r b last (whole-true e)))
 
-  -- the fields as the code has them
-  pub pass-is : (y : Tally) → y ≡ sweepOf r b last t w → wholeOf y (totalOf b) ≡ true → (n e d : ℕ) (o m : Bucket) →
-      n ≡ lenOf b → e ≡ n - y .live → d ≡ n - 1 → o ≡ getD (buckets r b) e noBucket → m ≡ getD (buckets r b) d noBucket →
-      _≡_ {A = Pass} (record { sound = true; buckets = n; expired = e; «live_total» = y .total; «live_declined» = y .declined; «last_second» = y .recent; oldest = o; newest = m }) (passOf r b last t w)
-  pass-is y s h n e d o m a x z u v =
-      let g = pass-finds (sym (ap (λ (y : Tally). wholeOf y (totalOf b)) s) ∙ h) in
+  -- a whole one finds what the rules say; the fields as the code has them
+  pub pass-is : (s : Swept) → s ≡ sweepOf r b last t → wholeOf s (totalOf b) ≡ true → (g : Gone) → g ≡ goneOf r b t w → (n d : ℕ) (o m : Bucket) →
+      n ≡ lenOf b → d ≡ n - 1 → o ≡ getD (buckets r b) (g .buckets) noBucket → m ≡ getD (buckets r b) d noBucket →
+      _≡_ {A = Pass} (record { sound = true; buckets = n; expired = g .buckets; «live_total» = g .total; «live_declined» = g .declined; «last_second» = s .recent; oldest = o; newest = m }) (passOf r b last t w)
+  pass-is s p h g q n d o m a z u v =
+      let e = sym (ap (λ (y : Swept). wholeOf y (totalOf b)) p) ∙ h in
+      let k = whole-keeps e in
       let xs = buckets r b in
-      let ex : e ≡ ahead w t xs = omega (arith, ap (λ (y : Tally). y .live) s, g .expired) in
-      let to = ap (λ (y : Tally). y .total) s ∙ g .total in
-      let de = ap (λ (y : Tally). y .declined) s ∙ g .declined in
-      let re = ap (λ (y : Tally). y .recent) s ∙ g .recent in
+      let y = goneNone (totalOf b) (declinedOf b) in
+      let ex : g .buckets ≡ ahead w t xs = omega (arith, ap (λ (g : Gone). g .buckets) q, gone-ahead w t y xs) in
+      let to = ap (λ (g : Gone). g .total) q ∙ gone-total w t y xs (k .left) in
+      let de = ap (λ (g : Gone). g .declined) q ∙ gone-declined w t y xs (k .spare) in
+      let re = ap (λ (s : Swept). s .recent) p ∙ recent-is last ticksPerSecond t (begun (totalOf b) (declinedOf b)) xs k refl in
       let old = u ∙ ap (λ (i : ℕ). getD xs i noBucket) ex in
       let new = v ∙ ap (λ (i : ℕ). getD xs i noBucket) (z ∙ ap (λ (i : ℕ). i - 1) a) in
-      (λ i. record { sound = true; buckets = a i; expired = ex i; «live_total» = to i; «live_declined» = de i; «last_second» = re i; oldest = old i; newest = new i }) ∙ g .is
+      (λ i. record { sound = true; buckets = a i; expired = ex i; «live_total» = to i; «live_declined» = de i; «last_second» = re i; oldest = old i; newest = new i }) ∙ whole-is e
 
 -- words that do not fit
 pub pass-unfit : (r : ℕ) (b : List ℕ) (last t w : ℕ) → (Shape r b → ⊥) → unsound ≡ passOf r b last t w

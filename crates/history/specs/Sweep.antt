@@ -3,51 +3,64 @@
 -- Assumes nothing.
 use mathlib.Core.Bool.{Bool, true, false, _&&_, cond}
 use mathlib.Core.List.{List, [], _∷_}
-use Prim.Native.Nat.{ℕ, _-_}
+use Prim.Native.Nat.{ℕ, _+_, _-_}
 use lib.ListN.{getD, drop}
-use lib.Dec.{leb, eqb}
+use lib.Dec.{leb, ltb, eqb}
 use Rattle.ring.specs.declared.Bucket.{Bucket}
 use Rattle.ring.specs.Ring.{noBucket, counts, declineds, mostTotal, totalOf, declinedOf, lenOf, buckets}
 use Rattle.ring.specs.Sound.{soundBuckets}
 use Rattle.history.specs.declared.tally.Tally.{Tally}
+use Rattle.history.specs.declared.tally.Swept.{Swept}
+use Rattle.history.specs.declared.tally.Gone.{Gone}
 use Rattle.history.specs.declared.tally.Pass.{Pass}
 use Rattle.history.specs.Rules.{ticksPerSecond, over, ahead, lastSecond}
 
--- n, where f is true
-abbrev pub when : Bool → ℕ → ℕ
-when f n = cond f n 0
+-- what the counts have left behind the last bucket before e
+unfoldable pub behind : ℕ → ℕ → ℕ → ℕ → ℕ
+behind e time left recent = cond (ltb time e) left recent
 
 -- whether the next bucket keeps the pass sound
-unfoldable pub goodOf : ℕ → Tally → Bucket → Bool
-goodOf last a x =
-    a .sound && (leb (a .lo) (x .time) && (leb (x .time) last && (leb (x .declined) (x .count) && (leb (x .count) (a .left) && leb (x .declined) (a .spare)))))
+unfoldable pub goodOf : Tally → Bucket → Bool
+goodOf a x = leb (a .lo) (x .time) && (leb (x .declined) (x .count) && (leb (x .count) (a .left) && leb (x .declined) (a .spare)))
 
-unfoldable pub stepOf : ℕ → ℕ → ℕ → Tally → Bucket → Tally
-stepOf last t w a x = record {
-  sound = goodOf last a x;
-  lo = x .time;
-  left = a .left - x .count;
-  spare = a .spare - x .declined;
-  live = a .live - when (over w t x) 1;
-  total = a .total - when (over w t x) (x .count);
-  declined = a .declined - when (over w t x) (x .declined);
-  recent = a .recent - when (over ticksPerSecond t x) (x .count);
-}
+unfoldable pub stepOf : ℕ → Tally → Bucket → Tally
+stepOf e a x = record { lo = x .time; left = a .left - x .count; spare = a .spare - x .declined; recent = behind e (x .time) (a .left - x .count) (a .recent) }
 
-unfoldable pub swept : ℕ → ℕ → ℕ → Tally → List Bucket → Tally
-swept last t w a [] = a
-swept last t w a (x ∷ xs) = swept last t w (stepOf last t w a x) xs
+-- behind the last: times do not fall, so the last one tells for all
+unfoldable pub endedOf : ℕ → Tally → Bool
+endedOf last a = leb (a .lo) last && (eqb (a .left) 0 && eqb (a .spare) 0)
 
--- before the first: n buckets, with these totals
-abbrev pub begun : ℕ → ℕ → ℕ → Tally
-begun n total declined = record { sound = true; lo = 0; left = total; spare = declined; live = n; total = total; declined = declined; recent = total }
+abbrev pub off : Swept
+off = record { sound = false; recent = 0 }
 
-abbrev pub sweepOf : ℕ → List ℕ → ℕ → ℕ → ℕ → Tally
-sweepOf r b last t w = swept last t w (begun (lenOf b) (totalOf b) (declinedOf b)) (buckets r b)
+unfoldable pub swept : ℕ → ℕ → Tally → List Bucket → Swept
+swept last e a [] = record { sound = endedOf last a; recent = a .recent }
+swept last e a (x ∷ xs) = cond (goodOf a x) (swept last e (stepOf e a x) xs) off
+
+-- before the first, with these totals
+abbrev pub begun : ℕ → ℕ → Tally
+begun total declined = record { lo = 0; left = total; spare = declined; recent = total }
+
+abbrev pub sweepOf : ℕ → List ℕ → ℕ → ℕ → Swept
+sweepOf r b last t = swept last (t - ticksPerSecond) (begun (totalOf b) (declinedOf b)) (buckets r b)
 
 -- whether the whole is sound: all in order, and the totals are the sums and at most 2^53
-unfoldable pub wholeOf : Tally → ℕ → Bool
-wholeOf a total = a .sound && (eqb (a .left) 0 && (eqb (a .spare) 0 && leb total mostTotal))
+unfoldable pub wholeOf : Swept → ℕ → Bool
+wholeOf s total = s .sound && leb total mostTotal
+
+-- the oldest that are over w, and the totals without them
+abbrev pub fewer : Gone → Bucket → Gone
+fewer g x = record { buckets = g .buckets + 1; total = g .total - x .count; declined = g .declined - x .declined }
+
+unfoldable pub goneFrom : ℕ → ℕ → Gone → List Bucket → Gone
+goneFrom w t g [] = g
+goneFrom w t g (x ∷ xs) = cond (over w t x) (goneFrom w t (fewer g x) xs) g
+
+abbrev pub goneNone : ℕ → ℕ → Gone
+goneNone total declined = record { buckets = 0; total = total; declined = declined }
+
+abbrev pub goneOf : ℕ → List ℕ → ℕ → ℕ → Gone
+goneOf r b t w = goneFrom w t (goneNone (totalOf b) (declinedOf b)) (buckets r b)
 
 -- what is found where the buckets are sound, and where not
 abbrev pub found : ℕ → List Bucket → ℕ → ℕ → Pass

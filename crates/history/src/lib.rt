@@ -4,7 +4,7 @@ ghost use Prim.Native.Nat.{_-_, _<_};
 ghost use lib.Dec.{ltb};
 ghost use Rattle.ring.specs.Ring.{Shape, noBucket, buckets};
 ghost use Rattle.history.specs.Rules.{joins, keptEnd};
-ghost use Rattle.history.specs.Sweep.{when, goodOf, stepOf, sweepOf, wholeOf, unsound, passOf};
+ghost use Rattle.history.specs.Sweep.{behind, goodOf, stepOf, endedOf, sweepOf, wholeOf, goneOf, unsound, passOf};
 ghost use Rattle.history.specs.Words.{Raises, raisedWords, Takes, incremented, Sets, replacedWords, Grows, grownWords, lostAt, Walked, outWords, Parts, partWords, Shrinks, shrunkWords, preservedWords};
 ghost use Rattle.history.specs.Preserves.{OutLeaves};
 use common::HistoryPreservation;
@@ -13,7 +13,9 @@ use ring::Bucket;
 mod tally;
 
 use tally::Cut;
+use tally::Gone;
 pub use tally::Pass;
+use tally::Swept;
 use tally::Tally;
 
 const MOST_TOTAL: u64 = 9007199254740992;
@@ -27,31 +29,24 @@ fn over(w: u64, reading: u64, time: u64) -> bool
     w < ring::less(reading, time)
 }
 
-// `a` without `n`, where `f` is true.
-fn less_when(a: u64, f: bool, n: u64) -> u64
-    ensures { λ x. ⌜ x ≡ a - when f n ⌝ }
+// What the counts have left behind the last bucket before `edge`: `left`, if this is one.
+fn behind(edge: u64, time: u64, left: u64, recent: u64) -> u64
+    ensures { λ x. ⌜ x ≡ behind edge time left recent ⌝ }
 {
-    if f { ring::less(a, n) } else { a }
+    if time < edge { left } else { recent }
 }
 
 // Whether the next bucket keeps all in order and within the totals.
-fn good(a: Tally, x: Bucket, last: u64) -> bool
-    ensures { λ y. ⌜ y ≡ goodOf last a x ⌝ }
+fn good(a: Tally, x: Bucket) -> bool
+    ensures { λ y. ⌜ y ≡ goodOf a x ⌝ }
 {
-    let sound = a.sound;
     let lo = a.lo;
     let left = a.left;
     let spare = a.spare;
     let c = x.count;
     let d = x.declined;
     let t = x.time;
-    if !sound {
-        return false;
-    }
     if t < lo {
-        return false;
-    }
-    if last < t {
         return false;
     }
     if c < d {
@@ -67,79 +62,109 @@ fn good(a: Tally, x: Bucket, last: u64) -> bool
 }
 
 // One bucket further.
-fn step(a: Tally, x: Bucket, last: u64, reading: u64, window: u64) -> Tally
-    ensures { λ y. ⌜ y ≡ stepOf last reading window a x ⌝ }
+fn step(a: Tally, x: Bucket, edge: u64) -> Tally
+    ensures { λ y. ⌜ y ≡ stepOf edge a x ⌝ }
 {
-    let c = x.count;
-    let d = x.declined;
     let t = x.time;
-    let old = over(window, reading, t);
-    let late = over(TICKS_PER_SECOND, reading, t);
-    let sound = good(a, x, last);
-    let left = ring::less(a.left, c);
-    let spare = ring::less(a.spare, d);
-    let live = less_when(a.live, old, 1);
-    let total = less_when(a.total, old, c);
-    let declined = less_when(a.declined, old, d);
-    let recent = less_when(a.recent, late, c);
+    let left = ring::less(a.left, x.count);
+    let spare = ring::less(a.spare, x.declined);
+    let recent = behind(edge, t, left, a.recent);
     Tally {
-        sound,
         lo: t,
         left,
         spare,
-        live,
-        total,
-        declined,
         recent,
     }
 }
 
-// The pass itself.
-fn sweep(b: &[u64], r: usize, last: u64, reading: u64, window: u64) -> Tally
-    requires { ⌜ Shape r (now b) ⌝ }
-    ensures { λ y. ⌜ y ≡ sweepOf r (now (b .entry)) last reading window ⌝ }
+// Whether no time is past `last`, and the totals are spent.
+fn ended(a: Tally, last: u64) -> bool
+    ensures { λ y. ⌜ y ≡ endedOf last a ⌝ }
 {
-    let n = ring::len(b, r);
-    let total = b[ring::TOTAL];
-    let declined = b[ring::DECLINED];
-    let mut a = Tally {
-        sound: true,
-        lo: 0,
-        left: total,
-        spare: declined,
-        live: n as u64,
-        total,
-        declined,
-        recent: total,
-    };
-    let mut k = 0;
-    while k < n {
-        a = step(a, ring::nth(b, r, k), last, reading, window);
-        k += 1;
-    }
-    a
-}
-
-// Whether the whole is sound: in order, with totals that are the sums and at most 2^53.
-fn whole(a: Tally, total: u64) -> bool
-    ensures { λ y. ⌜ y ≡ wholeOf a total ⌝ }
-{
-    let sound = a.sound;
+    let lo = a.lo;
     let left = a.left;
     let spare = a.spare;
-    if !sound {
+    if last < lo {
         return false;
     }
     if left != 0 {
         return false;
     }
-    if spare != 0 {
+    spare == 0
+}
+
+// The pass itself, up to a bucket that is not in order. A bucket is over a second if its time is before `edge`.
+fn sweep(b: &[u64], r: usize, last: u64, reading: u64) -> Swept
+    requires { ⌜ Shape r (now b) ⌝ }
+    ensures { λ y. ⌜ y ≡ sweepOf r (now (b .entry)) last reading ⌝ }
+{
+    let n = ring::len(b, r);
+    let total = b[ring::TOTAL];
+    let declined = b[ring::DECLINED];
+    let edge = ring::less(reading, TICKS_PER_SECOND);
+    let mut a = Tally {
+        lo: 0,
+        left: total,
+        spare: declined,
+        recent: total,
+    };
+    let mut k = 0;
+    while k < n {
+        let x = ring::nth(b, r, k);
+        if !good(a, x) {
+            return Swept {
+                sound: false,
+                recent: 0,
+            };
+        }
+        a = step(a, x, edge);
+        k += 1;
+    }
+    Swept {
+        sound: ended(a, last),
+        recent: a.recent,
+    }
+}
+
+// Whether the whole is sound: in order, with totals that are the sums and at most 2^53.
+fn whole(s: Swept, total: u64) -> bool
+    ensures { λ y. ⌜ y ≡ wholeOf s total ⌝ }
+{
+    let sound = s.sound;
+    if !sound {
         return false;
     }
-    if MOST_TOTAL < total {
-        return false;
+    total <= MOST_TOTAL
+}
+
+// The oldest buckets that are over `window`; only these are read, and the next.
+fn expire(b: &[u64], r: usize, reading: u64, window: u64) -> Gone
+    requires { ⌜ Shape r (now b) ⌝ }
+    ensures { λ y. ⌜ y ≡ goneOf r (now (b .entry)) reading window ⌝ }
+{
+    let n = ring::len(b, r);
+    let mut k = 0;
+    let mut total = b[ring::TOTAL];
+    let mut declined = b[ring::DECLINED];
+    while k < n {
+        let x = ring::nth(b, r, k);
+        let t = x.time;
+        if !over(window, reading, t) {
+            return Gone {
+                buckets: k,
+                total,
+                declined,
+            };
+        }
+        total = ring::less(total, x.count);
+        declined = ring::less(declined, x.declined);
+        k += 1;
     }
-    true
+    Gone {
+        buckets: k,
+        total,
+        declined,
+    }
 }
 
 // Where there is no bucket.
@@ -174,21 +199,21 @@ fn pass_fit(b: &[u64], r: usize, last: u64, reading: u64, window: u64) -> Pass
     requires { ⌜ Shape r (now b) ⌝ }
     ensures { λ x. ⌜ x ≡ passOf r (now (b .entry)) last reading window ⌝ }
 {
-    let a = sweep(b, r, last, reading, window);
-    if !whole(a, b[ring::TOTAL]) {
+    let s = sweep(b, r, last, reading);
+    if !whole(s, b[ring::TOTAL]) {
         return no_pass();
     }
     let n = ring::len(b, r);
-    let live = a.live;
-    let expired = ring::less(n as u64, live) as usize;
+    let g = expire(b, r, reading, window);
+    let expired = g.buckets;
     let end = ring::less(n as u64, 1) as usize;
     Pass {
         sound: true,
         buckets: n,
         expired,
-        live_total: a.total,
-        live_declined: a.declined,
-        last_second: a.recent,
+        live_total: g.total,
+        live_declined: g.declined,
+        last_second: s.recent,
         oldest: ring::nth_or_none(b, r, expired),
         newest: ring::nth_or_none(b, r, end),
     }

@@ -1,38 +1,29 @@
 -- `history::good` meets its contract: each return settles the conjunction at the test that led to it.
 -- Assumes nothing.
 use Rattle.history.specs.Sweep.{goodOf}
-use borrow.Author.Tests.{le-leb, lt-leb, not-true, not-false}
+use borrow.Author.Tests.{le-leb, lt-leb}
 use Rattle.history.proofs.good.Statement.{statement}
 use Rattle.history.proofs.good.Tie as tie
 
 returns : tie.Need-returns
 unfolding goodOf
-returns c = simp (not-true (c .before .args .a .sound) (c .if1 .taken))
+returns c = simp (lt-leb _ _ (c .if1 .taken))
 
 returns-2 : tie.Need-returns-2
 unfolding goodOf
-returns-2 c = simp (not-false (c .before .before .args .a .sound) (c .before .if1 .left), lt-leb _ _ (c .if2 .taken))
+returns-2 c = simp (le-leb _ _ (c .before .if1 .left), lt-leb _ _ (c .if2 .taken))
 
 returns-3 : tie.Need-returns-3
 unfolding goodOf
-returns-3 c = simp (not-false (c .before .before .before .args .a .sound) (c .before .before .if1 .left), le-leb _ _ (c .before .if2 .left), lt-leb _ _ (c .if3 .taken))
+returns-3 c = simp (le-leb _ _ (c .before .before .if1 .left), le-leb _ _ (c .before .if2 .left), lt-leb _ _ (c .if3 .taken))
 
 returns-4 : tie.Need-returns-4
 unfolding goodOf
-returns-4 c = simp (not-false (c .before .before .before .before .args .a .sound) (c .before .before .before .if1 .left), le-leb _ _ (c .before .before .if2 .left), le-leb _ _ (c .before .if3 .left), lt-leb _ _ (c .if4 .taken))
+returns-4 c = simp (le-leb _ _ (c .before .before .before .if1 .left), le-leb _ _ (c .before .before .if2 .left), le-leb _ _ (c .before .if3 .left), lt-leb _ _ (c .if4 .taken))
 
 returns-5 : tie.Need-returns-5
 unfolding goodOf
-returns-5 c = simp (not-false (c .before .before .before .before .before .args .a .sound) (c .before .before .before .before .if1 .left), le-leb _ _ (c .before .before .before .if2 .left), le-leb _ _ (c .before .before .if3 .left), le-leb _ _ (c .before .if4 .left), lt-leb _ _ (c .if5 .taken))
-
-returns-6 : tie.Need-returns-6
-unfolding goodOf
-returns-6 c = simp (not-false (c .before .before .before .before .before .before .args .a .sound) (c .before .before .before .before .before .if1 .left), le-leb _ _ (c .before .before .before .before .if2 .left), le-leb _ _ (c .before .before .before .if3 .left), le-leb _ _ (c .before .before .if4 .left), le-leb _ _ (c .before .if5 .left), lt-leb _ _ (c .if6 .taken))
-
-returns-7 : tie.Need-returns-7
-unfolding goodOf
-returns-7 c = simp (not-false (c .before .before .before .before .before .before .args .a .sound) (c .before .before .before .before .before .if1 .left), le-leb _ _ (c .before .before .before .before .if2 .left), le-leb _ _ (c .before .before .before .if3 .left), le-leb _ _ (c .before .before .if4 .left), le-leb _ _ (c .before .if5 .left), le-leb _ _ (c .if6 .left))
+returns-5 c = simp (le-leb _ _ (c .before .before .before .if1 .left), le-leb _ _ (c .before .before .if2 .left), le-leb _ _ (c .before .if3 .left), le-leb _ _ (c .if4 .left))
 
 pub good-spec : {M : Type 1} → statement M
-good-spec =
-    tie.close (tie.spec returns returns-2 returns-3 returns-4 returns-5 returns-6 returns-7)
+good-spec = tie.close (tie.spec returns returns-2 returns-3 returns-4 returns-5)

@@ -3,9 +3,8 @@
 use Rattle.ring.specs.Ring.{totalOf}
 use Rattle.history.specs.Found.{pass-not, pass-is}
 use Rattle.history.specs.Sweep.{wholeOf}
-use Rattle.history.specs.declared.tally.Tally.{Tally}
+use Rattle.history.specs.declared.tally.Swept.{Swept}
 use borrow.Author.Tests.{not-true, not-false}
-use Prim.Native.Nat.{_-_}
 use mathlib.Core.Path.{sym, ap, _∙_}
 use borrow.Author.Needs.{needs}
 use Rattle.history.proofs.pass_fit.Statement.{statement}
@@ -27,16 +26,16 @@ returns : tie.Need-returns
 returns c = let a = c .before .before .before .before .before .before .args in
     let w = c .before .before .whole in
     let s = c .before .before .before .before .sweep in
-    c .no-pass .ensures ∙ pass-not (a .r) (a .b .now) (a .last) (a .reading) (a .window) (c .before .before .before .before .before .before .pre) (sym (w .ensures ∙ ap (λ (y : Tally). wholeOf y (totalOf (a .b .now))) (s .ensures)) ∙ not-true (w .result) (c .before .if1 .taken))
+    c .no-pass .ensures ∙ pass-not (a .r) (a .b .now) (a .last) (a .reading) (a .window) (c .before .before .before .before .before .before .pre) (sym (w .ensures ∙ ap (λ (y : Swept). wholeOf y (totalOf (a .b .now))) (s .ensures)) ∙ not-true (w .result) (c .before .if1 .taken))
 
 len-requires : tie.Need-len-requires
 len-requires c κs = search needs
 
+expire-requires : tie.Need-expire-requires
+expire-requires c κs = search needs
+
 less-requires : tie.Need-less-requires
 less-requires c κs = search needs
-
-less-requires-2 : tie.Need-less-requires-2
-less-requires-2 c κs = search needs
 
 nth-or-none-requires : tie.Need-nth-or-none-requires
 nth-or-none-requires c κs = search needs
@@ -48,7 +47,8 @@ returns-2 : tie.Need-returns-2
 returns-2 c = let a = c .before .before .before .before .before .before .before .before .before .before .args in
     let w = c .before .before .before .before .before .before .whole in
     let s = c .before .before .before .before .before .before .before .before .sweep in
-    pass-is (a .r) (a .b .now) (a .last) (a .reading) (a .window) (c .before .before .before .before .before .before .before .before .before .before .pre) (s .result) (s .ensures) (sym (w .ensures) ∙ not-false (w .result) (c .before .before .before .before .before .if1 .left)) (c .before .before .before .before .len .result) (c .before .before .before .less .result) (c .before .before .less2 .result) (c .before .nth-or-none .result) (c .nth-or-none2 .result) (c .before .before .before .before .len .ensures) (c .before .before .before .less .ensures) (c .before .before .less2 .ensures) (c .before .nth-or-none .ensures) (c .nth-or-none2 .ensures)
+    let e = c .before .before .before .expire in
+    pass-is (a .r) (a .b .now) (a .last) (a .reading) (a .window) (c .before .before .before .before .before .before .before .before .before .before .pre) (s .result) (s .ensures) (sym (w .ensures) ∙ not-false (w .result) (c .before .before .before .before .before .if1 .left)) (e .result) (e .ensures) (c .before .before .before .before .len .result) (c .before .before .less .result) (c .before .nth-or-none .result) (c .nth-or-none2 .result) (c .before .before .before .before .len .ensures) (c .before .before .less .ensures) (c .before .nth-or-none .ensures) (c .nth-or-none2 .ensures)
 
 pub pass-fit-spec : {M : Type 1} → statement M
 pass-fit-spec =
@@ -60,8 +60,8 @@ pass-fit-spec =
     no-pass-requires
     returns
     len-requires
+    expire-requires
     less-requires
-    less-requires-2
     nth-or-none-requires
     nth-or-none-requires-2
     returns-2)
