@@ -26,30 +26,41 @@ fn main() {
 }
 
 fn tables(timed: usize, times: usize) {
-    println!("nanoseconds for an increment, and the ratio to the twin");
+    println!(
+        "nanoseconds for an increment, and the ratio to the twin; bucket sizes in milliseconds"
+    );
     println!("{timed} increments in mixed order, rooms cleared and filled first, least of {times}");
     for limiter in Limiter::BOTH {
-        println!("\n{}, {KEYS} keys, rings full", limiter.name());
+        heading(&format!("{}, {KEYS} keys, rings full", limiter.name()));
         for live in [10, 100, 512] {
             row(limiter, Shape::full(KEYS, live), timed, times);
         }
     }
     let fewer = timed / 4;
     for limiter in Limiter::BOTH {
-        println!("\n{}, {KEYS} keys, by buckets; {fewer} increments", limiter.name());
+        heading(&format!("{}, by buckets, {fewer} increments", limiter.name()));
         for live in [10, 50, 100, 200, 512] {
             row(limiter, Shape::full(KEYS, live), fewer, times);
         }
         row(limiter, Shape { ring: 512, ..Shape::full(KEYS, 100) }, fewer, times);
     }
     for limiter in Limiter::BOTH {
-        println!("\n{}, by keys; {fewer} increments", limiter.name());
+        heading(&format!("{}, by keys, {fewer} increments", limiter.name()));
         for live in [10, 100] {
             for keys in [1, 8, 40, 64] {
                 row(limiter, Shape::full(keys, live), fewer, times);
             }
         }
     }
+}
+
+fn heading(what: &str) {
+    println!("\n{what}");
+    print!("keys  ring  bucket  buckets held");
+    for contestant in all(&Load::new(Shape::full(1, 10))) {
+        print!("{:>15}", contestant.name());
+    }
+    println!();
 }
 
 /// Times each contestant and prints a line.
@@ -59,12 +70,12 @@ fn row(limiter: Limiter, shape: Shape, timed: usize, times: usize) {
     let took = race(limiter, &load, &mut contestants, timed, times);
     let Shape { keys, ring, bucket, .. } = shape;
     let buckets = buckets(contestants[0].room(limiter).expect("the twin's room"));
-    print!("keys {keys:2}  ring {ring:3}  bucket {bucket:3} ms  buckets {buckets:5.1}");
+    print!("{keys:4}  {ring:4}  {bucket:6}  {buckets:12.1}");
     let of_twin = took[0].as_secs_f64();
-    for (contestant, took) in contestants.iter().zip(&took) {
+    for took in &took {
         let each = took.as_secs_f64() * 1e9 / timed as f64;
         let ratio = took.as_secs_f64() / of_twin;
-        print!("  {} {each:7.1} {ratio:5.2}", contestant.name());
+        print!("  {each:7.1} {ratio:5.2}");
     }
     println!();
 }
