@@ -2,7 +2,6 @@
 ghost use Prim.Native.Nat.{_≤_};
 ghost use lib.ListN.{length};
 use desk_feed::Desk;
-use libc::STDIN_FILENO;
 use libc::STDOUT_FILENO;
 
 // The first `n` bytes of `out` go out.
@@ -44,6 +43,7 @@ fn end(desk: Desk, absolute: &mut [u64], suppressed: &mut [u64], hold: &[u8], ou
 
 // All answers to what was read are written before the next read.
 fn serve(
+    from: i32,
     absolute: &mut [u64],
     suppressed: &mut [u64],
     hold: &mut [u8],
@@ -53,7 +53,7 @@ fn serve(
     let mut desk = desk_feed::start();
     let mut turns = u64::MAX;
     while turns > 0 {
-        let got = libc::read(STDIN_FILENO, block);
+        let got = libc::read(from, block);
         let n = io::count(got, block);
         if n == 0 {
             end(desk, absolute, suppressed, hold, out);
@@ -67,8 +67,9 @@ fn serve(
     }
 }
 
-// Standard input to standard output, with the two rooms made anew. `hold` keeps a line that a block cuts.
-pub fn run(
+// With the two rooms made anew.
+fn open_desk(
+    from: i32,
     absolute: &mut [u64],
     suppressed: &mut [u64],
     hold: &mut [u8],
@@ -76,5 +77,22 @@ pub fn run(
     out: &mut [u8],
 ) {
     desk_feed::make_rooms(absolute, suppressed);
-    serve(absolute, suppressed, hold, block, out);
+    serve(from, absolute, suppressed, hold, block, out);
+}
+
+// The desk from a descriptor to standard output. `hold` keeps a line that a block cuts; it is longer than any line that is not bad.
+pub fn run(from: i32) {
+    let mut absolute = [0u64; 3179];
+    let mut suppressed = [0u64; 3179];
+    let mut hold = [0u8; 200];
+    let mut block = [0u8; 65536];
+    let mut out = [0u8; 65536];
+    open_desk(
+        from,
+        &mut absolute,
+        &mut suppressed,
+        &mut hold,
+        &mut block,
+        &mut out,
+    );
 }

@@ -8,12 +8,12 @@ use Rattle.desk_run.proofs.serve.Statement.{statement}
 use Rattle.desk_run.proofs.serve.Tie as tie
 
 abbrev Inv-loop : tie.InvT-loop
-Inv-loop absolute₀ suppressed₀ hold₀ block₀ out₀ desk₀ turns₀ absolute suppressed hold block out desk turns =
+Inv-loop from absolute₀ suppressed₀ hold₀ block₀ out₀ desk₀ turns₀ absolute suppressed hold block out desk turns =
     (length absolute ≡ length absolute₀) × (length suppressed ≡ length suppressed₀) × (length hold ≡ length hold₀) × (length block ≡ length block₀) ×
     (length out ≡ length out₀)
 
 abbrev μ-loop : tie.MeasureT-loop
-μ-loop absolute₀ suppressed₀ hold₀ block₀ out₀ desk₀ turns₀ absolute suppressed hold block out desk turns = turns
+μ-loop from absolute₀ suppressed₀ hold₀ block₀ out₀ desk₀ turns₀ absolute suppressed hold block out desk turns = turns
 
 start-requires : tie.Need-start-requires Inv-loop μ-loop
 start-requires c κs = search needs

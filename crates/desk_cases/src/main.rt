@@ -1,0 +1,36 @@
+// `desk` on inputs that a file has each: after a heading, what it prints for it.
+use libc::STDOUT_FILENO;
+
+fn run(name: &[u8]) {
+    io::write_all(STDOUT_FILENO, b"# ");
+    io::write_all(STDOUT_FILENO, name);
+    io::write_all(STDOUT_FILENO, b"\n");
+    let from = os::open_read(name);
+    if from < 0 {
+        os::fail(name);
+        return;
+    }
+    desk_run::run(from);
+    libc::close(from);
+}
+
+fn main() {
+    run(b"empty");
+    run(b"only-a-newline");
+    run(b"settings-alone");
+    run(b"settings-without-newline");
+    run(b"settings-bad");
+    run(b"settings-1");
+    run(b"settings-2");
+    run(b"settings-3");
+    run(b"settings-4");
+    run(b"largest-settings");
+    run(b"bad-lines");
+    run(b"long-lines");
+    run(b"two-rooms");
+    run(b"nine-keys");
+    run(b"full-ring");
+    run(b"refusals");
+    run(b"thirteen");
+    run(b"no-last-newline");
+}
