@@ -3,16 +3,20 @@
 extern crate std_shim as std;
 
 #[allow(dead_code)]
+#[rustfmt::skip]
 #[path = "../../oracle/target/original/builder.rs"]
 mod builder;
 #[allow(dead_code)]
+#[rustfmt::skip]
 #[path = "../../oracle/target/original/common.rs"]
 mod common;
 #[allow(dead_code)]
+#[rustfmt::skip]
 #[path = "../../oracle/target/original/error.rs"]
 mod error;
 
 #[allow(dead_code)]
+#[rustfmt::skip]
 #[path = "../../oracle/src/local.rs"]
 mod local;
 
