@@ -1,6 +1,6 @@
--- What the functions on bytes leave, each as one record: two results that meet it are equal.
+-- What the functions on bytes leave, each as one record; `desk_laws` says that two results which meet it are equal.
 -- Assumes nothing.
-use mathlib.Core.Path.{_≡_, sym, ap, _∙_}
+use mathlib.Core.Path.{_≡_}
 use mathlib.Core.Bool.{Bool, cond, _&&_}
 use mathlib.Core.List.{List}
 use Prim.Native.Nat.{ℕ, _+_, _≤_}

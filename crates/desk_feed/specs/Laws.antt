@@ -3,7 +3,7 @@
 use mathlib.Core.Path.{_≡_, refl, sym, ap, _∙_}
 use mathlib.Core.Bool.{Bool, true, false, cond, _&&_}
 use mathlib.Core.List.{List, [], _∷_, _++_, append-assoc, append-nil}
-use Prim.Native.Nat.{ℕ, zero, suc, _+_, _-_, _≤_, _<_, min}
+use Prim.Native.Nat.{ℕ, suc, _+_, _-_, _≤_, _<_, min}
 use native.Mathlib.Numerals.{add-one}
 use native.Mathlib.Decide.{decLt}
 use native.Mathlib.Omega.{arith}
@@ -12,8 +12,8 @@ use lib.Seq.{length-take-le, take-all, take-suc, drop-cons, drop-drop, drop-appe
 use lib.Dec.{ltb}
 use borrow.Author.Tests.{lt-ltb, le-ltb}
 use borrow.Rule.Slice.PartMut.{putMid}
-use Rattle.answers.specs.Answers.{showAnswer, longest, printed, printedLength}
-use Rattle.answers.specs.Printing.{Put, Printed, pasted, put-byte, put-none, put-append}
+use Rattle.answers.specs.Answers.{showAnswer, longest, printed}
+use Rattle.answers.specs.Printing.{Put, Printed, put-byte, put-none, put-append}
 use Rattle.answers.specs.declared.AnswerLine.{AnswerLine}
 use Rattle.room.specs.Room.{Made}
 use Rattle.desk_feed.specs.declared.Desk.{Desk}
@@ -21,7 +21,7 @@ use Rattle.desk_feed.specs.declared.Phase.{Phase}
 use Rattle.desk_feed.specs.declared.Fed.{Fed}
 use Rattle.desk_feed.specs.declared.Progress.{Progress}
 use Rattle.desk_feed.specs.declared.Turn.{Turn}
-use Rattle.desk_feed.specs.Feed.{newline, roomy, shown, Effect, Whole, whole, After, afterLine, rested, heldMore, keeping, byte, andThen, feed, takes}
+use Rattle.desk_feed.specs.Feed.{newline, roomy, shown, Effect, Whole, whole, After, afterLine, rested, keeping, byte, andThen, feed, takes}
 use Rattle.desk_feed.specs.Contracts.{PutAnswer, Took, Kept, Gone, Feeding, fitsDesk, BothMade}
 
 -- ---- a line out, printed into a part that is lent

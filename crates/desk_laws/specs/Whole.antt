@@ -2,9 +2,9 @@
 -- Feeding the bytes, in blocks cut anywhere, and finishing prints just that, however long a line is.
 -- Assumes nothing.
 use mathlib.Core.Path.{_≡_, refl, sym, ap, _∙_}
-use mathlib.Core.Bool.{Bool, true, false, cond, _||_}
+use mathlib.Core.Bool.{Bool, true, false, cond}
 use mathlib.Core.List.{List, [], _∷_, _++_, append-assoc, append-nil}
-use Prim.Native.Nat.{ℕ, zero, suc, _+_, _-_, _≤_, _<_, min}
+use Prim.Native.Nat.{ℕ, _+_, _-_, _≤_, _<_, min}
 use native.Mathlib.Decide.{decLt}
 use native.Mathlib.Numerals.{add-one}
 use native.Mathlib.Omega.{arith}
@@ -13,7 +13,8 @@ use lib.Seq.{length-take-le, take-all, take-nil, take-suc-set, take-append-le, s
 use lib.Dec.{ltb, eqb}
 use borrow.Author.Tests.{lt-ltb, le-ltb, eq-eqb, ne-eqb}
 use Rattle.common.specs.declared.settings.Settings.{Settings}
-use Rattle.lines.specs.Numbers.{showNumber, show-short}
+use Rattle.room.specs.Room.{fits}
+use Rattle.lines.specs.Numbers.{show-short}
 use Rattle.lines.specs.Shown.{opText, showCall, showSettings, CallFits, SettingsFit}
 use Rattle.lines.specs.Laws.{keyIn, CallRead, SettingsRead, call-read, settings-read}
 use Rattle.lines.specs.Reading.{begins, textAt, fieldAt, readCall, readSettings}
@@ -26,7 +27,6 @@ use Rattle.lines.specs.declared.SettingsLine.the-variants as settings
 use Rattle.desk_step.specs.Desk.{badLine, refusedLine, stepped, openingOf}
 use Rattle.desk_step.specs.declared.Opening.{Opening}
 use Rattle.desk_step.specs.declared.Opening.the-variants as opening
-use Rattle.desk_feed.specs.declared.Desk.{Desk}
 use Rattle.desk_feed.specs.declared.Phase.{Phase}
 use Rattle.desk_feed.specs.declared.Phase.the-variants.{Waiting, Open, Ended}
 use Rattle.desk_feed.specs.Feed.{newline, roomy, shown, Effect, phaseIn, printsIn, turn, Whole, whole, fresh, After, afterLine, byteAs, byte, andThen, feed, isOver, finishing}
@@ -274,6 +274,11 @@ first-run (x ∷ xs) = first-step x xs (first-run xs)
 -- all that a fresh desk prints is what the input's lines print, in their order: a room h for a line that is longer than any that is read is enough
 pub desk-whole : (a b h xs : List ℕ) (l : ℕ) → longestRead < length h → roomy ≤ l → runOut (whole fresh a b h) xs l ≡ turns Waiting a b (inputLines [] xs)
 desk-whole a b h xs l g m = first-run xs a b h [] 0 l g m (holds-none h)
+
+-- the words that the program lends for a room are as many as 8 slots with rings of 128 need
+pub desk-fits : fits 8 128 3179 ≡ true
+unfolding fits
+desk-fits = refl
 
 -- and it does not matter where the blocks are cut
 pub feed-blocks : (w : Whole) (xs ys : List ℕ) → feed w (xs ++ ys) ≡ andThen (feed w xs) (feed (feed w xs .whole) ys)

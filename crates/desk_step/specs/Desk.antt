@@ -6,7 +6,7 @@ use mathlib.Core.Bool.{Bool, true, false, cond, _&&_}
 use mathlib.Core.List.{List}
 use Prim.Native.Nat.{ℕ}
 use lib.Dec.{ltb, eqb}
-use lib.Ieee.{Float, binary64, div, toBits}
+use lib.Ieee.{binary64, div, toBits}
 use Rattle.common.specs.Refusals.{first}
 use Rattle.common.specs.Settings.{faults}
 use Rattle.common.specs.Units.{minute, real}

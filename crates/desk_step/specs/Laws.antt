@@ -1,26 +1,25 @@
 -- What the code of a step knows at each return, joined to the definitions; and two results that a step allows are one.
 -- Assumes nothing.
-use mathlib.Core.Path.{_≡_, refl, sym, ap, _∙_}
-use mathlib.Core.Bool.{Bool, true, false, cond, _&&_}
+use mathlib.Core.Path.{_≡_, sym, ap, _∙_}
+use mathlib.Core.Bool.{true, false}
 use mathlib.Core.List.{List}
 use Prim.Native.Nat.{ℕ, _+_, _-_, _≤_, _<_}
 use native.Mathlib.Omega.{arith}
-use lib.ListN.{length, getD, take, drop, length-take, length-drop}
+use lib.ListN.{length, getD, drop, length-take, length-drop}
 use lib.Seq.{getD-take, getD-drop}
-use lib.Dec.{ltb}
 use borrow.Author.Tests.{lt-ltb, le-ltb}
-use Rattle.room.specs.Room.{Room, Starts, sized, slotsOf, ringOf, useOf, keyOf, find, startOf, size, bodyOf, bodyFrom}
+use Rattle.room.specs.Room.{Room, sized, slotsOf, ringOf, useOf, keyOf, find, startOf, size, bodyOf, bodyFrom}
 use Rattle.room.specs.Laws.{room-sized}
 use Rattle.judge.specs.Sound.{hasSeries}
 use Rattle.judge.specs.Verdict.{Verdict, Told}
 use Rattle.answers.specs.declared.AnswerLine.{AnswerLine}
-use Rattle.lines.specs.Laws.{keyIn, CallRead, ReadCall, call-read}
+use Rattle.lines.specs.Laws.{keyIn, CallRead, call-read}
 use Rattle.lines.specs.Reading.{readCall}
 use Rattle.lines.specs.declared.CallLine.{CallLine}
 use Rattle.lines.specs.declared.CallLine.the-variants as call
 use Rattle.lines.specs.declared.Op.{Op}
 use Rattle.desk_step.specs.declared.Stored.{Stored}
-use Rattle.desk_step.specs.Desk.{Step, Answered, noStored, storedOf, pickStored, lined}
+use Rattle.desk_step.specs.Desk.{Step, Answered, noStored, storedOf, lined}
 
 -- two results that a step allows are one
 pub answered-once : (v : Step) (r r′ : AnswerLine) (a a′ b b′ : List ℕ) → Answered v r a b → Answered v r′ a′ b′ → (r ≡ r′) × (a ≡ a′) × (b ≡ b′)

@@ -1,6 +1,5 @@
 -- Each room is made or left by itself.
 -- Assumes nothing.
-use mathlib.Core.Path.{refl}
 use borrow.Author.Tests.{not-true, not-false}
 use Rattle.desk_feed.specs.Laws.{rooms-made}
 use borrow.Author.Needs.{needs}

@@ -1,7 +1,6 @@
 -- Each arm is its case of the definition.
 -- Assumes nothing.
-use mathlib.Core.Path.{sym, ap, _∙_}
-use Rattle.desk_step.specs.Desk.{said, yesOrNo, decisionLine}
+use Rattle.desk_step.specs.Desk.{said, decisionLine}
 use borrow.Author.Needs.{needs}
 use Rattle.desk_step.proofs.decision_line.Statement.{statement}
 use Rattle.desk_step.proofs.decision_line.Tie as tie

@@ -1,6 +1,5 @@
 -- The settings open the desk exactly where none of refusals 1 to 4 applies.
 -- Assumes nothing.
-use mathlib.Core.Path.{sym}
 use borrow.Author.Tests.{eq-eqb, ne-eqb}
 use Rattle.desk_step.specs.Desk.{openWith}
 use borrow.Author.Needs.{needs}

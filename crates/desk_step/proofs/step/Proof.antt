@@ -1,10 +1,7 @@
 -- A bad line leaves both rooms; in any other the key stands inside the line.
 -- Assumes nothing.
-use mathlib.Core.Path.{refl, sym, ap, subst, _∙_}
-use mathlib.Core.List.{List}
-use Rattle.lines.specs.Reading.{readCall}
-use Rattle.lines.specs.declared.CallLine.{CallLine}
-use Rattle.desk_step.specs.Desk.{Answered, stepOf, stepped}
+use mathlib.Core.Path.{refl, sym, _∙_}
+use Rattle.desk_step.specs.Desk.{stepped}
 use Rattle.desk_step.specs.Laws.{read-inside}
 use native.Mathlib.Omega.{arith}
 use borrow.Author.Needs.{needs}
