@@ -6,3 +6,4 @@ pub mod Rules
 pub mod Cases
 pub mod Boundary
 pub mod Wrong
+pub mod Sound

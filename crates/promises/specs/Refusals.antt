@@ -203,7 +203,7 @@ read-turned kind s w key cells =
 -- ---- the proof
 
 -- an absolute increment's number, which the call works out of the opened slot, is the table's
-absolute-number : (s : Settings) (w : List ℕ) (t : ℕ) (key : List ℕ) (rate : RateLimit) (count : ℕ) → first (refusals kind.Absolute s w t key (Absolute.incOwn s w t rate count (Absolute.slotIn s w t key))) ≡ first (absoluteInc s w t key rate count)
+pub absolute-number : (s : Settings) (w : List ℕ) (t : ℕ) (key : List ℕ) (rate : RateLimit) (count : ℕ) → first (refusals kind.Absolute s w t key (Absolute.incOwn s w t rate count (Absolute.slotIn s w t key))) ≡ first (absoluteInc s w t key rate count)
 absolute-number s w t key rate count =
     same-number kind.Absolute s w t key (Absolute.incOwn s w t rate count (Absolute.slotIn s w t key)) (incTurns s w t key rate count) (λ p. own-view s w t key p rate count)
 
