@@ -44,7 +44,7 @@ not-vain : (series : Bool) (count : ℕ) → eqb count 0 ≡ true → vain serie
 not-vain true count h e = refl
 not-vain false count h e = absurd (true≢false (sym h ∙ e))
 
-busy-known : (x : Slot) (limit count : ℕ) (comparator : RateLimitComparator) (mode : HistoryUpdateMode) → eqb count 0 ≡ true → false ≡ idle x limit comparator count mode → x .series ≡ true
+pub busy-known : (x : Slot) (limit count : ℕ) (comparator : RateLimitComparator) (mode : HistoryUpdateMode) → eqb count 0 ≡ true → false ≡ idle x limit comparator count mode → x .series ≡ true
 unfolding idle
 busy-known x limit count comparator mode h e =
     let a = or-false (not (met x comparator)) _ (sym e) in

@@ -4,7 +4,6 @@ ghost use Prim.Native.Nat.{_-_};
 ghost use Rattle.common.specs.Refusals.{first};
 ghost use Rattle.common.specs.Settings.{factorIn};
 ghost use Rattle.room.specs.Room.{Room, slotsOf};
-ghost use Rattle.judge.specs.Sound.{divisor};
 ghost use Rattle.judge.specs.Verdict.{Told};
 ghost use Rattle.calls.specs.Clear.{clearRefusal, clear};
 ghost use Rattle.calls.specs.Calls.{hasSlot};
@@ -137,16 +136,6 @@ fn limit_of(kind: RoomKind, settings: Settings, rate: RateLimit) -> u64
     }
 }
 
-// What a stored limit is divided by, besides the window.
-fn divisor(kind: RoomKind, factor: f64) -> f64
-    ensures { λ x. ⌜ x ≡ divisor kind factor ⌝ }
-{
-    match kind {
-        RoomKind::Absolute => 1.0,
-        RoomKind::Suppressed => factor,
-    }
-}
-
 fn old_rate(kind: RoomKind, settings: Settings, x: Slot) -> OldRateAnswer
     ensures { λ r. ⌜ r ≡ oldRate kind settings x ⌝ }
 {
@@ -154,7 +143,11 @@ fn old_rate(kind: RoomKind, settings: Settings, x: Slot) -> OldRateAnswer
     let window = settings.window_size;
     let factor = settings.hard_limit_factor;
     if series {
-        let rate = RateLimit::from_stored_window_limit(x.limit, window, divisor(kind, factor));
+        let rate = RateLimit::from_stored_window_limit(
+            x.limit,
+            window,
+            judge::divisor(kind, factor),
+        );
         return OldRateAnswer::Was(rate);
     }
     OldRateAnswer::Unknown

@@ -30,24 +30,13 @@ use Rattle.calls.specs.Calls.{slotIn, hasSlot, found-at, slot-within, true-or}
 use Rattle.calls.specs.Delete.{deleting}
 use Rattle.calls.specs.Rate.{usedWith, relimited, limiting}
 use Rattle.calls.specs.Set.{met, already, idle, reset, begins, stored, setting, placeIn}
-use Rattle.calls.specs.SetLaws.{known-has, cached-has}
+use Rattle.calls.specs.SetLaws.{busy-known, known-has, cached-has}
 use Rattle.suppressed_rules.specs.declared.factor.Caching.{Caching}
 use Rattle.suppressed_rules.specs.declared.factor.Caching.the-variants.{Left, Cached}
 use Rattle.suppressed_edits.specs.Edits.{recached, getChange, loneBy, loneChange, factorChange, incEdit, incChange}
 use Rattle.suppressed_edits.specs.Refusals.{placeOf}
 use Rattle.demand3.specs.Kept.{Has}
 use Rattle.demand3.specs.Placed.{Owns, Lacks, Placed}
-
--- a set to 0 that changes something is of a known key
-zero-known : (m series z a : Bool) → z ≡ true → not m || (not series && z || a) ≡ false → series ≡ true
-zero-known m true z a e f = refl
-zero-known false false z a e f = absurd (true≢false f)
-zero-known true false true a e f = absurd (true≢false f)
-zero-known true false false a e f = absurd (false≢true e)
-
-busy-known : (x : Slot) (limit count : ℕ) (comparator : RateLimitComparator) (mode : HistoryUpdateMode) → eqb count 0 ≡ true → false ≡ idle x limit comparator count mode → x .series ≡ true
-unfolding idle
-busy-known x limit count comparator mode h e = zero-known (met x comparator) (x .series) (eqb count 0) (already x limit count mode) h (sym e)
 
 -- where neither is there
 neither : (x : Slot) → x .series ≡ false → x .cached ≡ false → hasSlot x ≡ false

@@ -45,15 +45,6 @@ fn none_stored() -> Stored
     }
 }
 
-fn has_series(u: u64) -> bool
-    ensures { λ x. ⌜ x ≡ hasSeries u ⌝ }
-{
-    if u == 1 {
-        return true;
-    }
-    u == 3
-}
-
 // The key's totals, zeros where it has no series.
 fn stored_of(w: &[u64], key: &[u8]) -> Stored
     ensures { λ x. ⌜ x ≡ storedOf (now (w .entry)) (now (key .entry)) ⌝ }
@@ -66,7 +57,7 @@ fn stored_of(w: &[u64], key: &[u8]) -> Stored
     if slots <= at {
         return none_stored();
     }
-    if !has_series(room::use_of(w, at)) {
+    if !judge::has_series(room::use_of(w, at)) {
         return none_stored();
     }
     let start = room::start(w, at);

@@ -91,7 +91,7 @@ pub fn no_slot(at: usize) -> Slot
     }
 }
 
-fn has_series(u: u64) -> bool
+pub fn has_series(u: u64) -> bool
     ensures { λ x. ⌜ x ≡ hasSeries u ⌝ }
 {
     if u == 1 {
@@ -157,7 +157,7 @@ pub fn open_at(w: &[u64], at: usize, reading: u64, window: u64) -> Slot
     open_body(&w[a..e], r, last, reading, window, at, u)
 }
 
-fn divisor(kind: RoomKind, factor: f64) -> f64
+pub fn divisor(kind: RoomKind, factor: f64) -> f64
     ensures { λ x. ⌜ x ≡ divisor kind factor ⌝ }
 {
     match kind {

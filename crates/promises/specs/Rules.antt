@@ -4,16 +4,12 @@
 use mathlib.Core.Path.{_≡_, sym, subst, _∙_}
 use mathlib.Core.Bool.{Bool, true, cond}
 use mathlib.Core.List.{List}
-use mathlib.Core.Logic.{_⊎_, inl, inr}
 use Prim.Native.Nat.{ℕ}
 use lib.Dec.{eqb}
 use lib.ListN.{length}
 use borrow.Author.Tests.{eq-eqb}
 use Rattle.common.specs.Refusals.{first}
 use Rattle.common.specs.declared.answers.DoneAnswer.the-variants as done
-use Rattle.common.specs.declared.answers.FactorAnswer.the-variants as factor
-use Rattle.common.specs.declared.answers.RateLimitDecision.the-variants as decision
-use Rattle.common.specs.declared.answers.SnapshotAnswer.the-variants as snapshot
 use Rattle.common.specs.declared.comparator.RateLimitComparator.{RateLimitComparator}
 use Rattle.common.specs.declared.history_mode.HistoryUpdateMode.{HistoryUpdateMode}
 use Rattle.common.specs.declared.settings.Settings.{Settings}
@@ -22,7 +18,6 @@ use Rattle.ring.specs.declared.Bucket.{Bucket}
 use Rattle.frame.specs.Keys.{Bytes}
 use Rattle.judge.specs.declared.RoomKind.{RoomKind}
 use Rattle.judge.specs.declared.RoomKind.the-variants as kind
-use Rattle.judge.specs.Verdict.{Verdict}
 use Rattle.calls.specs.Calls.{slotIn}
 use Rattle.calls.specs.Clear as Clear
 use Rattle.calls.specs.Delete as Delete
@@ -105,19 +100,14 @@ reads-out kind s w key row e =
     let z = eq-eqb (ReadOut.refusal kind s w key) 0 (reads-number kind s w key ∙ e) in
     record { answer = rw z; fills = rw z }
 
--- of the two ways, the one that is left
-unturned : {A : Type 0} (turned : ℕ → A) (w : List ℕ) (n : ℕ) (v : Verdict A) (P : Type 0) → n ≡ 0 → Own.Turned turned w n v ⊎ P → P
-unturned turned w n v P e (inl r) = absurd (r .some e)
-unturned turned w n v P e (inr p) = p
-
 pub demand2 : Demand2
 demand2 = record {
   absolute-inc = λ s w t key rate count y e. Absolutely.inc-follows s w t key rate count y .done e;
   absolute-is-allowed = λ s w t key e. Absolutely.ask-follows s w t key .done e;
   absolute-get = λ s w t key e. Absolutely.get-follows s w t key .done e;
-  suppressed-inc = λ s w t key rate count draw y e. unturned decision.Refused w _ _ _ e (Own.inc-follows s w t key rate count draw y);
-  suppressed-get = λ s w t key y e. unturned snapshot.Refused w _ _ _ e (Own.get-follows s w t key y);
-  suppressed-factor = λ s w t key y e. unturned factor.Refused w _ _ _ e (Own.factor-follows s w t key y);
+  suppressed-inc = λ s w t key rate count draw y e. Own.inc-follows s w t key rate count draw y .done e;
+  suppressed-get = λ s w t key y e. Own.get-follows s w t key y .done e;
+  suppressed-factor = λ s w t key y e. Own.factor-follows s w t key y .done e;
   set-rate-limit = rate-follows;
   delete = delete-follows;
   set-if = set-follows;

@@ -2,7 +2,7 @@
 -- have written never meet 5 (`empty-sound`, `stays-sound`, `five-unmet`).
 -- Assumes nothing.
 use mathlib.Core.Path.{_≡_, refl, sym, ap, subst, _∙_}
-use mathlib.Core.Bool.{Bool, true, false, not, _||_, _&&_, cond, false≢true}
+use mathlib.Core.Bool.{Bool, true, false, not, _||_, _&&_, cond}
 use mathlib.Core.List.{List, []}
 use mathlib.Core.Logic.{_≢_}
 use Prim.Native.Nat.{ℕ, _-_, _≤_, _<_}
@@ -47,6 +47,7 @@ use Rattle.calls.specs.Delete as Delete
 use Rattle.calls.specs.Rate as Rate
 use Rattle.calls.specs.Rate.{limitIn}
 use Rattle.calls.specs.Set as Sets
+use Rattle.calls.specs.SetLaws.{busy-known}
 use Rattle.cleanup.specs.Cleanup as Cleanup
 use Rattle.cleanup.specs.Laws.{sound-parts, parts-sound}
 use Rattle.absolute.specs.Calls as Absolute
@@ -128,17 +129,6 @@ unfallen kind s w t key own e = passed kind s w t key (unrefused-early kind s w 
 by-cases : (b : Bool) (P : Type 0) → (b ≡ true → P) → (b ≡ false → P) → P
 by-cases true P f g = f refl
 by-cases false P f g = g refl
-
--- a set that changes something to 0 is of a known key
-goes-known : (x : Slot) (limit : ℕ) (comparator : RateLimitComparator) (count : ℕ) (mode : HistoryUpdateMode) → Sets.idle x limit comparator count mode ≡ false → eqb count 0 ≡ true → x .series ≡ true
-unfolding Sets.idle
-goes-known x limit comparator count mode e z = go (x .series) (Sets.met x comparator) (Sets.already x limit count mode) (eqb count 0) e z
-  where
-    go : (a m l c : Bool) → not m || ((not a && c) || l) ≡ false → c ≡ true → a ≡ true
-    go true m l c e z = refl
-    go false true l true e z = absurd (false≢true (sym e))
-    go false true l false e z = absurd (false≢true z)
-    go false false l c e z = absurd (false≢true (sym e))
 
 -- ---- the promise
 
@@ -254,7 +244,7 @@ module _ (kind : RoomKind) (s : Settings) (w : List ℕ) (t : ℕ) (o : SoundRoo
         (λ i. reads-sound kind s w t l o _ (c .keeps i))
         (λ i.
         by-cases (eqb count 0) _
-        (λ z. changed-sound kind s w t l o _ _ _ _ _ (c .goes i z (goes-known x (limitIn kind s rate) comparator count mode i z)) (λ u. absurd (u refl)))
+        (λ z. changed-sound kind s w t l o _ _ _ _ _ (c .goes i z (busy-known x (limitIn kind s rate) count comparator mode z (sym i))) (λ u. absurd (u refl)))
         (λ z.
         by-cases (x .series) _
         (λ k. stands-sound kind s w t l o _ _ _ _ _ _ _ _ (c .known i z k))

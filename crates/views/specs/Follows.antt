@@ -12,7 +12,7 @@ use Rattle.common.specs.declared.settings.Settings.{Settings}
 use Rattle.judge.specs.declared.RoomKind.{RoomKind}
 use Rattle.judge.specs.Judge.{refusals, early, Passed}
 use Rattle.judge.specs.Laws.{passed, refused-early, refused-own}
-use Rattle.judge.specs.Verdict.{Verdict, Told, judge, told-turned}
+use Rattle.judge.specs.Verdict.{Verdict, Told, judge, call, told-turned}
 
 -- a call whose refusal is n, or 0: turned away with every word as it was; or P
 pub record Follows {A : Type 0} (turned : ℕ → A) (w : List ℕ) (n : ℕ) (v : Verdict A) (P : Type 0) : Type 0 where
@@ -45,3 +45,7 @@ module _ (kind : RoomKind) (s : Settings) (w : List ℕ) (t : ℕ) (key : List �
       go : (y : Bool) → eqb (early kind s w t key) 0 ≡ y → first (refusals kind s w t key own) ≡ first (refusals kind s w t key own′)
       go true h = ap (λ (xs : List (ℕ × Bool)). first (refusals kind s w t key xs)) (f (passed kind s w t key (eqb-true _ _ h)))
       go false h = refused-early kind s w t key own (eqb-false _ _ h) ∙ sym (refused-early kind s w t key own′ (eqb-false _ _ h))
+
+  -- a call for every input
+  pub call-follows : {A : Type 0} (turned : ℕ → A) (v : Verdict A) (P : Type 0) → (early kind s w t key ≡ 0 → first own ≡ 0 → P) → Follows turned w (first (refusals kind s w t key own)) (call turned kind s w t key own v) P
+  call-follows turned v P f = record { refused = told-turned turned (first (refusals kind s w t key own)) w v; done = λ e. f (unrefused-early e) (unrefused-own e) }

@@ -4,7 +4,6 @@
 use mathlib.Core.Path.{_≡_, refl, sym, ap, ap₂, subst, _∙_}
 use mathlib.Core.Bool.{Bool, true, false, not, _&&_, cond, false≢true}
 use mathlib.Core.List.{List, []}
-use mathlib.Core.Logic.{_⊎_, inl, inr}
 use Prim.Native.Nat.{ℕ, _-_, _≤_, _<_}
 use native.Mathlib.Decide.{ℕ-discrete}
 use native.Mathlib.Omega.{arith}
@@ -28,12 +27,11 @@ use Rattle.history.specs.Rules.{joined}
 use Rattle.ring.specs.Ring.{counts, declineds}
 use Rattle.room.specs.Room.{slotsOf, ringOf, keyOf, withReading}
 use Rattle.frame.specs.Keys.{Bytes}
-use Rattle.judge.specs.declared.RoomKind.{RoomKind}
 use Rattle.judge.specs.declared.RoomKind.the-variants as kind
 use Rattle.judge.specs.declared.Slot.{Slot}
 use Rattle.judge.specs.Judge.{refusals, early, Passed}
 use Rattle.judge.specs.Laws.{passed}
-use Rattle.judge.specs.Verdict.{Verdict, call, told-turned}
+use Rattle.judge.specs.Verdict.{Verdict}
 use Rattle.change.specs.Words.{applied}
 use Rattle.suppressed_rules.specs.declared.factor.Asked.{Asked}
 use Rattle.suppressed_rules.specs.declared.forecast.Outcome.{Outcome}
@@ -45,28 +43,10 @@ use Rattle.suppressed.specs.Calls.{slotIn, unperceived, asking, snapshotOf, get
 use Rattle.suppressed.specs.Laws.{get-done, factor-done, inc-done}
 use Rattle.suppressed.specs.Standing.{sums, unperceived-is}
 use Rattle.views.specs.Calls.{Stands}
-use Rattle.views.specs.Follows.{unrefused-early, unrefused-own}
+use Rattle.views.specs.Follows.{Follows, call-follows}
 use Rattle.views.specs.Unit.{DecisionOk}
 use Rattle.views.specs.OnBuckets.{Sees, sees, liveBy, forecastOn, askedOn, outcomeOn, unseen, blind-is, asked-seen, outcome-seen, admits, reach-admits, reach-soft, reach-hard, reach-over, declined-all}
 use Rattle.views.specs.Leaves.{stays-lone, asked-anew, get-stands, get-keeps, factor-stands, factor-keeps, factor-lone-stands, decision-ok, inc-stands}
-
--- ---- refused, or not
-
--- "gives its number .. and the room, last reading included, stays as found"
-pub record Turned {A : Type 0} (turned : ℕ → A) (w : List ℕ) (n : ℕ) (v : Verdict A) : Type 0 where
-  pub some : n ≡ 0 → ⊥
-  pub answer : v .answer ≡ turned n
-  pub words : v .words ≡ w
-
-module _ {A : Type 0} (turned : ℕ → A) (kind : RoomKind) (s : Settings) (w : List ℕ) (t : ℕ) (key : List ℕ) (own : List (ℕ × Bool)) (v : Verdict A) where
-  pub either-way : (P : Type 0) → (early kind s w t key ≡ 0 → first own ≡ 0 → P) → Turned turned w (first (refusals kind s w t key own)) (call turned kind s w t key own v) ⊎ P
-  either-way P f = go (ℕ-discrete (first (refusals kind s w t key own)) 0)
-    where
-      go : Dec (first (refusals kind s w t key own) ≡ 0) → Turned turned w (first (refusals kind s w t key own)) (call turned kind s w t key own v) ⊎ P
-      go (yes h) = inr (f (unrefused-early kind s w t key own h) (unrefused-own kind s w t key own h))
-      go (no h) =
-          let o = told-turned turned (first (refusals kind s w t key own)) w v h in
-          inl (record { some = h; answer = sym (o .answer); words = sym (o .words) })
 
 -- ---- what is asked and decided, of the key's slot and its live buckets
 
@@ -216,27 +196,27 @@ module _ (s : Settings) (w : List ℕ) (t : ℕ) (key : List ℕ) where
 
   -- ---- for every input
 
-  pub get-follows : Bytes key → Turned snapshot.Refused w (getNumber s w t key) (get s w t key) ⊎ Gets s w t key (slotIn s w t key) (askedIn s w t (slotIn s w t key)) (get s w t key)
+  pub get-follows : Bytes key → Follows snapshot.Refused w (getNumber s w t key) (get s w t key) (Gets s w t key (slotIn s w t key) (askedIn s w t (slotIn s w t key)) (get s w t key))
   unfolding get getOn
   get-follows y =
       let x = slotIn s w t key in
-      either-way snapshot.Refused kind.Suppressed s w t key (getOwn (asking s t x)) (getDoes s w t key x (asking s t x)) (Gets s w t key x (askedIn s w t x) (get s w t key)) (λ e f. gets e y f)
+      call-follows kind.Suppressed s w t key (getOwn (asking s t x)) snapshot.Refused (getDoes s w t key x (asking s t x)) (Gets s w t key x (askedIn s w t x) (get s w t key)) (λ e f. gets e y f)
 
   pub factor-follows : Bytes key →
-      Turned factor.Refused w (factorNumber s w t key) (getFactor s w t key) ⊎ GivesFactor s w t key (slotIn s w t key) (askedIn s w t (slotIn s w t key)) (getFactor s w t key)
+      Follows factor.Refused w (factorNumber s w t key) (getFactor s w t key) (GivesFactor s w t key (slotIn s w t key) (askedIn s w t (slotIn s w t key)) (getFactor s w t key))
   unfolding getFactor factorOn
   factor-follows y =
       let x = slotIn s w t key in
-      either-way factor.Refused kind.Suppressed s w t key (factorOwn w x (asking s t x)) (factorDoes s w t key x (asking s t x)) (GivesFactor s w t key x (askedIn s w t x) (getFactor s w t key)) (λ e f. factors e y f)
+      call-follows kind.Suppressed s w t key (factorOwn w x (asking s t x)) factor.Refused (factorDoes s w t key x (asking s t x)) (GivesFactor s w t key x (askedIn s w t x) (getFactor s w t key)) (λ e f. factors e y f)
 
   pub inc-follows : (rate : RateLimit) (c draw : ℕ) → Bytes key →
-      Turned decision.Refused w (incNumber s w t key rate c draw) (inc s w t key rate c draw) ⊎
-      Counts s w t key (limitFor s (slotIn s w t key) rate) c (slotIn s w t key) (outcomeIn s w t rate c draw (slotIn s w t key)) (inc s w t key rate c draw)
+      Follows decision.Refused w (incNumber s w t key rate c draw) (inc s w t key rate c draw)
+      (Counts s w t key (limitFor s (slotIn s w t key) rate) c (slotIn s w t key) (outcomeIn s w t rate c draw (slotIn s w t key)) (inc s w t key rate c draw))
   unfolding inc incOn
   inc-follows rate c draw y =
       let x = slotIn s w t key in
       let o : Outcome = incOutcome s t rate c draw x (unperceived s x) in
-      either-way decision.Refused kind.Suppressed s w t key (incOwn s w t rate c draw x o) (incDoes s w t key rate c x o) (Counts s w t key (limitFor s x rate) c x (outcomeIn s w t rate c draw x) (inc s w t key rate c draw)) (λ e f. counted e rate c draw y f)
+      call-follows kind.Suppressed s w t key (incOwn s w t rate c draw x o) decision.Refused (incDoes s w t key rate c x o) (Counts s w t key (limitFor s x rate) c x (outcomeIn s w t rate c draw x) (inc s w t key rate c draw)) (λ e f. counted e rate c draw y f)
 
 -- ---- an increment that is not refused, by its forecast: "Forecast = total - declined + count" of the live buckets
 
@@ -276,11 +256,8 @@ module _ (s : Settings) (w : List ℕ) (t : ℕ) (key : List ℕ) (rate : RateLi
 
 module _ (s : Settings) (w : List ℕ) (t : ℕ) (key : List ℕ) (rate : RateLimit) (c draw : ℕ) (y : Bytes key) where
   pub inc-admitted : admits (inc s w t key rate c draw .answer) ≡ true → forecastOn (liveBy s w t (slotIn s w t key)) c ≤ cutWord (limitFor s (slotIn s w t key) rate)
-  inc-admitted h = go (inc-follows s w t key rate c draw y)
+  inc-admitted h = go (ℕ-discrete (incNumber s w t key rate c draw) 0)
     where
-      go :
-          Turned decision.Refused w (incNumber s w t key rate c draw) (inc s w t key rate c draw) ⊎
-          Counts s w t key (limitFor s (slotIn s w t key) rate) c (slotIn s w t key) (outcomeIn s w t rate c draw (slotIn s w t key)) (inc s w t key rate c draw) →
-          forecastOn (liveBy s w t (slotIn s w t key)) c ≤ cutWord (limitFor s (slotIn s w t key) rate)
-      go (inl r) = absurd (false≢true (sym (ap (λ (z : RateLimitDecision). admits z) (r .answer)) ∙ h))
-      go (inr k) = admitted-below s w t key rate c draw (slotIn s w t key) (inc s w t key rate c draw) k h
+      go : Dec (incNumber s w t key rate c draw ≡ 0) → forecastOn (liveBy s w t (slotIn s w t key)) c ≤ cutWord (limitFor s (slotIn s w t key) rate)
+      go (yes e) = admitted-below s w t key rate c draw (slotIn s w t key) (inc s w t key rate c draw) (inc-follows s w t key rate c draw y .done e) h
+      go (no z) = absurd (false≢true (ap (λ (d : RateLimitDecision). admits d) (inc-follows s w t key rate c draw y .refused z .answer) ∙ h))
