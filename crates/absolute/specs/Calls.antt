@@ -17,14 +17,9 @@ use Rattle.change.specs.declared.Change.{Change}
 use Rattle.change.specs.Words.{applied}
 use Rattle.judge.specs.declared.RoomKind.the-variants.{Absolute}
 use Rattle.judge.specs.declared.Slot.{Slot}
-use Rattle.judge.specs.Sound.{addressed}
-use Rattle.judge.specs.Slot.{slotOf}
 use Rattle.judge.specs.Verdict.{Verdict, verdict, call}
+use Rattle.judge.specs.Judge.{slotIn}
 use Rattle.absolute_rules.specs.Rules.{getChange, askChange, decided, clears, place, lacks, incRefusals, incChange}
-
--- the key's slot at the reading
-abbrev pub slotIn : Settings → List ℕ → ℕ → List ℕ → Slot
-slotIn s w t key = slotOf (windowIn s) w t (addressed w key)
 
 -- the live total, 0 of an unknown key
 unfoldable pub get : Settings → List ℕ → ℕ → List ℕ → Verdict TotalAnswer

@@ -24,11 +24,10 @@ use Rattle.change.specs.Words.{Fits, EditsAt, Applies}
 use Rattle.judge.specs.declared.RoomKind.the-variants.{Absolute}
 use Rattle.judge.specs.declared.Slot.{Slot}
 use Rattle.judge.specs.Sound.{addressed}
-use Rattle.judge.specs.Judge.{Passed}
+use Rattle.judge.specs.Judge.{Passed, slotIn}
 use Rattle.plan.specs.Plan.{evicting, opening}
 use Rattle.plan.specs.Known.{Known, found, none, series-known, keeping-edits, evicting-edits, opening-edits}
 use Rattle.absolute_rules.specs.Rules.{goneIf, totalIf, leaving, allowed, evicts, over, joinsAfter, full, place, lacks, incRefusals, pickChange, getChange, askChange, incChange}
-use Rattle.absolute.specs.Calls.{slotIn}
 
 -- ---- an increment fits where it meets neither 10 nor 12
 

@@ -5,11 +5,10 @@ use mathlib.Core.Path.{_≡_, refl, sym, ap, subst, _∙_}
 use mathlib.Core.Bool.{Bool, true, false, _||_, false≢true}
 use mathlib.Core.List.{List}
 use Prim.Native.Nat.{ℕ, _<_}
-use native.Mathlib.Omega.{arith}
 use lib.Dec.{ltb}
 use borrow.Author.Tests.{ltb-true, ltb-false}
 use Rattle.common.specs.Refusals.{first}
-use Rattle.common.specs.Settings.{windowIn, bucketIn}
+use Rattle.common.specs.Settings.{bucketIn}
 use Rattle.common.specs.declared.settings.Settings.{Settings}
 use Rattle.room.specs.Room.{slotsOf}
 use Rattle.change.specs.declared.Change.{Change}
@@ -18,19 +17,10 @@ use Rattle.judge.specs.declared.RoomKind.{RoomKind}
 use Rattle.judge.specs.declared.Judged.{Judged}
 use Rattle.judge.specs.declared.Slot.{Slot}
 use Rattle.judge.specs.Sound.{addressed}
-use Rattle.judge.specs.Slot.{slotOf}
-use Rattle.judge.specs.Judge.{early, judged, Passed}
+use Rattle.judge.specs.Judge.{early, judged, Passed, hasSlot, slotIn}
 use Rattle.judge.specs.Laws.{code-is, slot-is, passed}
 use Rattle.judge.specs.Verdict.{Verdict, Told, call, call-early, call-own, call-done}
 use Rattle.plan.specs.Known.{Found, Known, found, none, at-as, series-known}
-
--- the key's slot, opened at the reading
-abbrev pub slotIn : Settings → List ℕ → ℕ → List ℕ → Slot
-slotIn s w t key = slotOf (windowIn s) w t (addressed w key)
-
--- "A suppressed slot stays in use while it has a series or a cached factor"
-abbrev pub hasSlot : Slot → Bool
-hasSlot x = x .series || x .cached
 
 -- a call whose own refusals, and what it does, are functions of the slot
 abbrev pub calls : {A : Type 0} → (ℕ → A) → RoomKind → Settings → List ℕ → ℕ → List ℕ → (Slot → List (ℕ × Bool)) → (Slot → Verdict A) → Verdict A

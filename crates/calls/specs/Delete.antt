@@ -14,9 +14,9 @@ use Rattle.change.specs.declared.Change.the-variants.{Keep, Free}
 use Rattle.change.specs.Words.{applied, Applies}
 use Rattle.judge.specs.declared.RoomKind.{RoomKind}
 use Rattle.judge.specs.declared.Slot.{Slot}
-use Rattle.judge.specs.Judge.{Passed}
+use Rattle.judge.specs.Judge.{Passed, hasSlot, slotIn}
 use Rattle.judge.specs.Verdict.{Verdict, verdict}
-use Rattle.calls.specs.Calls.{slotIn, hasSlot, calls, slot-within}
+use Rattle.calls.specs.Calls.{calls, slot-within}
 
 -- "Delete gives live total less declined, or 0 for a lone cached factor, or none"
 unfoldable pub deleted : Slot → DeleteAnswer

@@ -21,11 +21,11 @@ use Rattle.judge.specs.declared.RoomKind.{RoomKind}
 use Rattle.judge.specs.declared.RoomKind.the-variants.{Absolute, Suppressed}
 use Rattle.judge.specs.declared.Slot.{Slot}
 use Rattle.judge.specs.Sound.{divisor}
-use Rattle.judge.specs.Judge.{Passed}
+use Rattle.judge.specs.Judge.{Passed, slotIn}
 use Rattle.judge.specs.Verdict.{Verdict, verdict}
 use Rattle.plan.specs.Plan.{keeping}
 use Rattle.plan.specs.Known.{keeping-edits}
-use Rattle.calls.specs.Calls.{slotIn, calls, known-at}
+use Rattle.calls.specs.Calls.{calls, known-at}
 
 -- the word of a rate: "Limit = rate * W"; "Hard = rate * F * W, in that order"
 abbrev pub limitIn : RoomKind → Settings → RateLimit → ℕ

@@ -26,8 +26,9 @@ use Rattle.change.specs.Words.{applied}
 use Rattle.judge.specs.declared.RoomKind.{RoomKind}
 use Rattle.judge.specs.declared.Slot.{Slot}
 use Rattle.judge.specs.Verdict.{Verdict, verdict}
+use Rattle.judge.specs.Judge.{hasSlot}
 use Rattle.plan.specs.Plan.{keeping, evicting, opening}
-use Rattle.calls.specs.Calls.{hasSlot, calls}
+use Rattle.calls.specs.Calls.{calls}
 use Rattle.calls.specs.Rate.{limitIn, relimited}
 
 -- "live total first, worked out without change": 0 where there is no series

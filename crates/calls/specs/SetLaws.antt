@@ -26,10 +26,10 @@ use Rattle.change.specs.Words.{applied, Applies, EditsAt, Fits}
 use Rattle.judge.specs.declared.RoomKind.{RoomKind}
 use Rattle.judge.specs.declared.Judged.{Judged}
 use Rattle.judge.specs.declared.Slot.{Slot}
-use Rattle.judge.specs.Judge.{judged, Passed}
+use Rattle.judge.specs.Judge.{judged, Passed, hasSlot, slotIn}
 use Rattle.judge.specs.Verdict.{Told}
 use Rattle.plan.specs.Known.{keeping-edits, evicting-edits, opening-edits}
-use Rattle.calls.specs.Calls.{slotIn, hasSlot, slot-within, known-at, judged-passed, judged-slot, judged-own, judged-done}
+use Rattle.calls.specs.Calls.{slot-within, known-at, judged-passed, judged-slot, judged-own, judged-done}
 use Rattle.calls.specs.Rate.{limitIn}
 use Rattle.calls.specs.Set.{vain, idle, met, outcome, reset, begins, stored, setting, placeIn, full, setOwn, setOwnOf, sets, set}
 

@@ -6,7 +6,6 @@ ghost use Rattle.common.specs.Settings.{factorIn};
 ghost use Rattle.room.specs.Room.{Room, slotsOf};
 ghost use Rattle.judge.specs.Verdict.{Told};
 ghost use Rattle.calls.specs.Clear.{clearRefusal, clear};
-ghost use Rattle.calls.specs.Calls.{hasSlot};
 ghost use Rattle.calls.specs.Delete.{deleted, deleting, delete};
 ghost use Rattle.calls.specs.Rate.{limitIn, oldRate, usedWith, relimited, limiting, rateOwn, setRateLimit};
 ghost use Rattle.calls.specs.Set.{preserves, already, vain, idle, totalAfter, outcome, reset, begins, stored, setting, placeIn, full, setOwn, set};
@@ -68,16 +67,6 @@ fn less(a: u64, b: u64) -> u64
     if b <= a { a - b } else { 0 }
 }
 
-fn has_slot(x: Slot) -> bool
-    ensures { λ y. ⌜ y ≡ hasSlot x ⌝ }
-{
-    let series = x.series;
-    if series {
-        return true;
-    }
-    x.cached
-}
-
 fn deleted(x: Slot) -> DeleteAnswer
     ensures { λ r. ⌜ r ≡ deleted x ⌝ }
 {
@@ -96,7 +85,7 @@ fn deleted(x: Slot) -> DeleteAnswer
 fn deleting(x: Slot) -> Change
     ensures { λ r. ⌜ r ≡ deleting x ⌝ }
 {
-    if has_slot(x) {
+    if judge::has_slot(x) {
         return Change::Free;
     }
     Change::Keep
@@ -381,7 +370,7 @@ fn place(w: &[u64], x: Slot) -> usize
     requires { ⌜ Room (now w) ⌝ }
     ensures { λ n. ⌜ n ≡ placeIn (now (w .entry)) x ⌝ }
 {
-    if has_slot(x) {
+    if judge::has_slot(x) {
         return x.at;
     }
     room::vacant(w)
@@ -394,7 +383,7 @@ fn is_full(x: Slot, still: bool, slots: usize, place: usize) -> bool
     if still {
         return false;
     }
-    if has_slot(x) {
+    if judge::has_slot(x) {
         return false;
     }
     slots <= place

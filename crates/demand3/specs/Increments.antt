@@ -30,10 +30,9 @@ use Rattle.change.specs.declared.Then.the-variants.{Increment}
 use Rattle.change.specs.Words.{startedView, actedView, editedView, applied, Applies}
 use Rattle.judge.specs.declared.RoomKind.the-variants as kind
 use Rattle.judge.specs.declared.Slot.{Slot}
-use Rattle.judge.specs.Judge.{early, Passed}
+use Rattle.judge.specs.Judge.{early, Passed, hasSlot, slotIn}
 use Rattle.judge.specs.Laws.{passed}
 use Rattle.plan.specs.Plan.{evicting, opening}
-use Rattle.calls.specs.Calls.{slotIn, hasSlot}
 use Rattle.calls.specs.Rate.{limitIn}
 use Rattle.calls.specs.SetLaws.{known-has}
 use Rattle.suppressed_rules.specs.declared.factor.Caching.{Caching}

@@ -28,12 +28,12 @@ use Rattle.change.specs.Laws.{edited-is}
 use Rattle.change.specs.Words.{startedView, actedView, editedView, edited, applied, Applies}
 use Rattle.judge.specs.declared.RoomKind.the-variants as kind
 use Rattle.judge.specs.declared.Slot.{Slot}
-use Rattle.judge.specs.Judge.{early, Passed}
+use Rattle.judge.specs.Judge.{early, Passed, slotIn}
 use Rattle.judge.specs.Laws.{passed}
 use Rattle.judge.specs.Sound.{hasSeries}
 use Rattle.plan.specs.Known.{Known}
 use Rattle.plan.specs.Plan.{keeping, evicting}
-use Rattle.calls.specs.Calls.{slotIn, known-at}
+use Rattle.calls.specs.Calls.{known-at}
 use Rattle.calls.specs.Rate.{limitIn, forgotten, usedWith, relimited, limiting, rateOwnOf, limits, setRateLimit, rate-applies}
 use Rattle.calls.specs.SetLaws.{known-has}
 use Rattle.suppressed_rules.specs.declared.factor.Caching.{Caching}

@@ -1,7 +1,7 @@
 -- Each call with a key changes a room where it should (`Placed`). x is the key's slot.
 -- Assumes nothing.
 use mathlib.Core.Path.{_≡_, refl, sym, ap, ap₂, subst, _∙_}
-use mathlib.Core.Bool.{Bool, true, false, not, _&&_, _||_, cond, false≢true, true≢false}
+use mathlib.Core.Bool.{Bool, true, false, _&&_, _||_, cond, false≢true, true≢false}
 use mathlib.Core.List.{List}
 use mathlib.Core.Logic.{_≢_}
 use Prim.Native.Nat.{ℕ, _≤_, _<_}
@@ -21,15 +21,15 @@ use Rattle.change.specs.declared.Then.the-variants as then
 use Rattle.change.specs.Words.{Applies}
 use Rattle.judge.specs.declared.RoomKind.the-variants as kind
 use Rattle.judge.specs.declared.Slot.{Slot}
-use Rattle.judge.specs.Judge.{Passed}
+use Rattle.judge.specs.Judge.{Passed, hasSlot, slotIn}
 use Rattle.judge.specs.Right.{addressed-at}
 use Rattle.judge.specs.Sound.{hasSeries, rightUse, addressed}
 use Rattle.plan.specs.Known.{Found, found, series-is, cached-is, use-right}
 use Rattle.plan.specs.Plan.{keeping, evicting}
-use Rattle.calls.specs.Calls.{slotIn, hasSlot, found-at, slot-within, true-or}
+use Rattle.calls.specs.Calls.{found-at, slot-within, true-or}
 use Rattle.calls.specs.Delete.{deleting}
 use Rattle.calls.specs.Rate.{usedWith, relimited, limiting}
-use Rattle.calls.specs.Set.{met, already, idle, reset, begins, stored, setting, placeIn}
+use Rattle.calls.specs.Set.{idle, reset, begins, stored, setting, placeIn}
 use Rattle.calls.specs.SetLaws.{busy-known, known-has, cached-has}
 use Rattle.suppressed_rules.specs.declared.factor.Caching.{Caching}
 use Rattle.suppressed_rules.specs.declared.factor.Caching.the-variants.{Left, Cached}

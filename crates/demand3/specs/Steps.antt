@@ -31,10 +31,9 @@ use Rattle.change.specs.Words.{applied, Applies}
 use Rattle.judge.specs.declared.RoomKind.{RoomKind}
 use Rattle.judge.specs.declared.RoomKind.the-variants as kind
 use Rattle.judge.specs.declared.Slot.{Slot}
-use Rattle.judge.specs.Judge.{refusals, early, Passed}
+use Rattle.judge.specs.Judge.{refusals, early, Passed, slotIn}
 use Rattle.judge.specs.Laws.{passed, refused-early, refused-own}
 use Rattle.judge.specs.Verdict.{Verdict, verdict, judge, call}
-use Rattle.calls.specs.Calls.{slotIn}
 use Rattle.calls.specs.Delete.{deletes, noOwn, delete, delete-applies}
 use Rattle.calls.specs.Rate.{limitIn, rateOwnOf, limits, setRateLimit, rate-applies}
 use Rattle.calls.specs.Set.{idle, setOwn, setOwnOf, sets, set, placeIn}

@@ -1,7 +1,7 @@
 -- Refusals 1 to 7, which every call with a key has, in document 01's order; and what a call that passes them knows.
 -- Assumes nothing.
 use mathlib.Core.Path.{_≡_}
-use mathlib.Core.Bool.{Bool, true, false, not, _&&_}
+use mathlib.Core.Bool.{Bool, true, not, _&&_, _||_}
 use mathlib.Core.List.{List, [], _∷_, _++_}
 use Prim.Native.Nat.{ℕ, _≤_}
 use lib.ListN.{length}
@@ -30,11 +30,19 @@ refusals kind s w t key own = faults s ++ (misfits kind s w t key ++ own)
 abbrev pub early : RoomKind → Settings → List ℕ → ℕ → List ℕ → ℕ
 early kind s w t key = first (faults s ++ misfits kind s w t key)
 
+-- the key's slot, opened at the reading
+abbrev pub slotIn : Settings → List ℕ → ℕ → List ℕ → Slot
+slotIn s w t key = slotOf (windowIn s) w t (addressed w key)
+
+-- "A suppressed slot stays in use while it has a series or a cached factor"
+abbrev pub hasSlot : Slot → Bool
+hasSlot x = x .series || x .cached
+
 -- the first of 1 to 7, and where there is none the slot
 unfoldable pub judged : RoomKind → Settings → List ℕ → ℕ → List ℕ → Judged
 judged kind s w t key = record {
   code = early kind s w t key;
-  slot = pickSlot (eqb (early kind s w t key) 0) (slotOf (windowIn s) w t (addressed w key)) (noSlot 0);
+  slot = pickSlot (eqb (early kind s w t key) 0) (slotIn s w t key) (noSlot 0);
 }
 
 -- what holds of a call that passes

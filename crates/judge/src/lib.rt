@@ -9,7 +9,7 @@ ghost use Rattle.room.specs.Room.{Room};
 ghost use Rattle.judge.specs.Sound.{hasSeries, hasCached, rightUse, divisor, declinedRight, addressed, soundAt};
 ghost use Rattle.judge.specs.Slot.{noSlot, pickPass, opened, slotOf};
 ghost use Rattle.judge.specs.Right.{seriesRight, cachedRight, slotRight, Addresses};
-ghost use Rattle.judge.specs.Judge.{judged};
+ghost use Rattle.judge.specs.Judge.{judged, hasSlot};
 use common::Settings;
 use history::Pass;
 use ring::Bucket;
@@ -89,6 +89,18 @@ pub fn no_slot(at: usize) -> Slot
         factor_time: 0,
         pass: no_pass(),
     }
+}
+
+// Whether the key has a slot: for a series, or for a lone cached factor.
+pub fn has_slot(x: Slot) -> bool
+    ensures { λ r. ⌜ r ≡ hasSlot x ⌝ }
+{
+    let series = x.series;
+    let cached = x.cached;
+    if series {
+        return true;
+    }
+    cached
 }
 
 pub fn has_series(u: u64) -> bool

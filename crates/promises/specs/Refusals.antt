@@ -33,10 +33,9 @@ use Rattle.room.specs.Room.{sized}
 use Rattle.judge.specs.declared.RoomKind.{RoomKind}
 use Rattle.judge.specs.declared.RoomKind.the-variants as kind
 use Rattle.judge.specs.declared.Slot.{Slot}
-use Rattle.judge.specs.Judge.{misfits, refusals}
+use Rattle.judge.specs.Judge.{misfits, refusals, slotIn}
 use Rattle.judge.specs.Sound.{addressed, soundAt}
 use Rattle.judge.specs.Verdict.{Verdict}
-use Rattle.calls.specs.Calls.{slotIn}
 use Rattle.calls.specs.Clear as Clear
 use Rattle.calls.specs.Delete as Delete
 use Rattle.calls.specs.Rate as Rate
@@ -74,16 +73,16 @@ plain kind s w t key = refusals kind s w t key []
 -- 8 to 13
 abbrev pub suppressedInc : Settings → List ℕ → ℕ → List ℕ → RateLimit → ℕ → ℕ → List (ℕ × Bool)
 suppressedInc s w t key rate count draw =
-    let x = Suppressed.slotIn s w t key in
+    let x = slotIn s w t key in
     refusals kind.Suppressed s w t key (Suppressed.incOwn s w t rate count draw x (Suppressed.incOutcome s t rate count draw x (Suppressed.unperceived s x)))
 
 -- 13
 abbrev pub suppressedGet : Settings → List ℕ → ℕ → List ℕ → List (ℕ × Bool)
-suppressedGet s w t key = refusals kind.Suppressed s w t key (Suppressed.getOwn (Suppressed.asking s t (Suppressed.slotIn s w t key)))
+suppressedGet s w t key = refusals kind.Suppressed s w t key (Suppressed.getOwn (Suppressed.asking s t (slotIn s w t key)))
 
 -- 11, 13
 abbrev pub suppressedFactor : Settings → List ℕ → ℕ → List ℕ → List (ℕ × Bool)
-suppressedFactor s w t key = let x = Suppressed.slotIn s w t key in refusals kind.Suppressed s w t key (Suppressed.factorOwn w x (Suppressed.asking s t x))
+suppressedFactor s w t key = let x = slotIn s w t key in refusals kind.Suppressed s w t key (Suppressed.factorOwn w x (Suppressed.asking s t x))
 
 -- 8
 abbrev pub setRate : RoomKind → Settings → List ℕ → ℕ → List ℕ → RateLimit → List (ℕ × Bool)
@@ -203,9 +202,9 @@ read-turned kind s w key cells =
 -- ---- the proof
 
 -- an absolute increment's number, which the call works out of the opened slot, is the table's
-pub absolute-number : (s : Settings) (w : List ℕ) (t : ℕ) (key : List ℕ) (rate : RateLimit) (count : ℕ) → first (refusals kind.Absolute s w t key (Absolute.incOwn s w t rate count (Absolute.slotIn s w t key))) ≡ first (absoluteInc s w t key rate count)
+pub absolute-number : (s : Settings) (w : List ℕ) (t : ℕ) (key : List ℕ) (rate : RateLimit) (count : ℕ) → first (refusals kind.Absolute s w t key (Absolute.incOwn s w t rate count (slotIn s w t key))) ≡ first (absoluteInc s w t key rate count)
 absolute-number s w t key rate count =
-    same-number kind.Absolute s w t key (Absolute.incOwn s w t rate count (Absolute.slotIn s w t key)) (incTurns s w t key rate count) (λ p. own-view s w t key p rate count)
+    same-number kind.Absolute s w t key (Absolute.incOwn s w t rate count (slotIn s w t key)) (incTurns s w t key rate count) (λ p. own-view s w t key p rate count)
 
 -- the numbers of a table rise
 pub rises : (s : Settings) (w : List ℕ) (t : ℕ) (key : List ℕ) (rate : RateLimit) (count draw : ℕ) → Rises 0 (suppressedInc s w t key rate count draw)
@@ -215,10 +214,10 @@ rises s w t key rate count draw = omega arith
 pub demand1 : Demand1
 unfolding faults misfits Clear.unclear Cleanup.misfits Cleanup.cleanup Rate.rateOwn Set.setOwn Absolute.inc Absolute.isAllowed Absolute.get Suppressed.inc Suppressed.incOn Suppressed.get Suppressed.getOn Suppressed.getFactor Suppressed.factorOn decisionRow totalRow snapshotRow factorRow oldRateRow deleteRow setRow doneRow
 demand1 = record {
-  absolute-inc = λ s w t key rate count. judge-turned decisionRow decision.Refused (absoluteInc s w t key rate count) _ w _ (absolute-number s w t key rate count) (λ n. refl) (omega arith) (decided-0 (s .«window_size») t (Absolute.slotIn s w t key));
-  absolute-is-allowed = λ s w t key. judge-turned decisionRow decision.Refused (plain kind.Absolute s w t key) _ w _ refl (λ n. refl) (omega arith) (decided-0 (s .«window_size») t (Absolute.slotIn s w t key));
+  absolute-inc = λ s w t key rate count. judge-turned decisionRow decision.Refused (absoluteInc s w t key rate count) _ w _ (absolute-number s w t key rate count) (λ n. refl) (omega arith) (decided-0 (s .«window_size») t (slotIn s w t key));
+  absolute-is-allowed = λ s w t key. judge-turned decisionRow decision.Refused (plain kind.Absolute s w t key) _ w _ refl (λ n. refl) (omega arith) (decided-0 (s .«window_size») t (slotIn s w t key));
   absolute-get = λ s w t key. judge-turned totalRow total.Refused (plain kind.Absolute s w t key) _ w _ refl (λ n. refl) (omega arith) refl;
-  suppressed-inc = λ s w t key rate count draw. judge-turned decisionRow decision.Refused (suppressedInc s w t key rate count draw) _ w _ refl (λ n. refl) (rises s w t key rate count draw) (outcome-0 s t rate count draw (Suppressed.slotIn s w t key));
+  suppressed-inc = λ s w t key rate count draw. judge-turned decisionRow decision.Refused (suppressedInc s w t key rate count draw) _ w _ refl (λ n. refl) (rises s w t key rate count draw) (outcome-0 s t rate count draw (slotIn s w t key));
   suppressed-get = λ s w t key. judge-turned snapshotRow snapshot.Refused (suppressedGet s w t key) _ w _ refl (λ n. refl) (omega arith) refl;
   suppressed-factor = λ s w t key. judge-turned factorRow factor.Refused (suppressedFactor s w t key) _ w _ refl (λ n. refl) (omega arith) refl;
   set-rate-limit = λ kind s w t key rate. judge-turned oldRateRow oldRate.Refused (setRate kind s w t key rate) _ w _ refl (λ n. refl) (omega arith) (old-0 kind s (slotIn s w t key));

@@ -18,7 +18,7 @@ use Rattle.ring.specs.declared.Bucket.{Bucket}
 use Rattle.frame.specs.Keys.{Bytes}
 use Rattle.judge.specs.declared.RoomKind.{RoomKind}
 use Rattle.judge.specs.declared.RoomKind.the-variants as kind
-use Rattle.calls.specs.Calls.{slotIn}
+use Rattle.judge.specs.Judge.{slotIn}
 use Rattle.calls.specs.Clear as Clear
 use Rattle.calls.specs.Delete as Delete
 use Rattle.calls.specs.Rate as Rate
@@ -63,11 +63,11 @@ pub record Demand2 : Type 0 where
   pub absolute-get : (s : Settings) (w : List ℕ) (t : ℕ) (key : List ℕ) → first (plain kind.Absolute s w t key) ≡ 0 → GetLaw s w t key (Absolute.get s w t key)
   -- the suppressed limiter: `outcomeIn` is what the rules decide, `askedIn` the factor that they give
   pub suppressed-inc : (s : Settings) (w : List ℕ) (t : ℕ) (key : List ℕ) (rate : RateLimit) (count draw : ℕ) → Bytes key → first (suppressedInc s w t key rate count draw) ≡ 0 →
-      Counts s w t key (Suppressed.limitFor s (Suppressed.slotIn s w t key) rate) count (Suppressed.slotIn s w t key) (outcomeIn s w t rate count draw (Suppressed.slotIn s w t key)) (Suppressed.inc s w t key rate count draw)
+      Counts s w t key (Suppressed.limitFor s (slotIn s w t key) rate) count (slotIn s w t key) (outcomeIn s w t rate count draw (slotIn s w t key)) (Suppressed.inc s w t key rate count draw)
   pub suppressed-get : (s : Settings) (w : List ℕ) (t : ℕ) (key : List ℕ) → Bytes key → first (suppressedGet s w t key) ≡ 0 →
-      Gets s w t key (Suppressed.slotIn s w t key) (askedIn s w t (Suppressed.slotIn s w t key)) (Suppressed.get s w t key)
+      Gets s w t key (slotIn s w t key) (askedIn s w t (slotIn s w t key)) (Suppressed.get s w t key)
   pub suppressed-factor : (s : Settings) (w : List ℕ) (t : ℕ) (key : List ℕ) → Bytes key → first (suppressedFactor s w t key) ≡ 0 →
-      GivesFactor s w t key (Suppressed.slotIn s w t key) (askedIn s w t (Suppressed.slotIn s w t key)) (Suppressed.getFactor s w t key)
+      GivesFactor s w t key (slotIn s w t key) (askedIn s w t (slotIn s w t key)) (Suppressed.getFactor s w t key)
   -- the calls that both limiters have; `set_if` has mode Replace, `set_if_preserve_history` Preserve
   pub set-rate-limit : (kind : RoomKind) (s : Settings) (w : List ℕ) (t : ℕ) (key : List ℕ) (rate : RateLimit) → first (setRate kind s w t key rate) ≡ 0 → RateRule kind s w t rate (slotIn s w t key) (Rate.setRateLimit kind s w t key rate)
   pub delete : (kind : RoomKind) (s : Settings) (w : List ℕ) (t : ℕ) (key : List ℕ) → first (plain kind s w t key) ≡ 0 → DeleteRule s w t (slotIn s w t key) (Delete.delete kind s w t key)

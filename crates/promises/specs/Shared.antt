@@ -35,7 +35,7 @@ use Rattle.frame.specs.Keys.{Bytes}
 use Rattle.frame.specs.Whole.{Cleared, clear-read-run}
 use Rattle.judge.specs.declared.RoomKind.{RoomKind}
 use Rattle.judge.specs.declared.Slot.{Slot}
-use Rattle.judge.specs.Judge.{refusals, Passed}
+use Rattle.judge.specs.Judge.{refusals, Passed, hasSlot, slotIn}
 use Rattle.judge.specs.Laws.{passed}
 use Rattle.judge.specs.Sound.{divisor, addressed, soundSlot}
 use Rattle.judge.specs.Verdict.{Verdict, verdict}
@@ -43,7 +43,6 @@ use Rattle.change.specs.declared.Change.the-variants.{Keep, Update}
 use Rattle.change.specs.declared.Then.the-variants.{Nothing}
 use Rattle.change.specs.Words.{applied}
 use Rattle.plan.specs.Plan.{keeping}
-use Rattle.calls.specs.Calls.{slotIn, hasSlot}
 use Rattle.calls.specs.Clear as Clear
 use Rattle.calls.specs.Delete as Delete
 use Rattle.calls.specs.Rate as Rate

@@ -36,12 +36,10 @@ use Rattle.frame.specs.Keys.{Bytes}
 use Rattle.frame.specs.Whole.{empty-free, empty-room}
 use Rattle.judge.specs.declared.RoomKind.{RoomKind}
 use Rattle.judge.specs.declared.RoomKind.the-variants as kind
-use Rattle.judge.specs.declared.Slot.{Slot}
-use Rattle.judge.specs.Judge.{refusals}
+use Rattle.judge.specs.Judge.{refusals, hasSlot, slotIn}
 use Rattle.judge.specs.Laws.{passed}
 use Rattle.judge.specs.Sound.{rightUse, hasSeries, hasCached, soundSeries, soundCached, soundSlot, addressed, soundAt}
 use Rattle.judge.specs.Verdict.{Verdict, judge, told-turned}
-use Rattle.calls.specs.Calls.{slotIn, hasSlot}
 use Rattle.calls.specs.Clear as Clear
 use Rattle.calls.specs.Delete as Delete
 use Rattle.calls.specs.Rate as Rate
@@ -198,14 +196,14 @@ module _ (s : Settings) (w : List ℕ) (t : ℕ) (key : List ℕ) (y : Bytes key
       (λ e.
       let l = unfallen kind.Suppressed s w t key _ e in
       let c = demand2 .suppressed-get s w t key y e in
-      by-cases (Suppressed.slotIn s w t key .series) _ (λ k. stands-sound kind.Suppressed s w t l o _ _ _ _ _ _ _ _ (c .known k)) (λ k. reads-sound kind.Suppressed s w t l o _ (c .unknown k)))
+      by-cases (slotIn s w t key .series) _ (λ k. stands-sound kind.Suppressed s w t l o _ _ _ _ _ _ _ _ (c .known k)) (λ k. reads-sound kind.Suppressed s w t l o _ (c .unknown k)))
 
   factor-sound : SoundRoom kind.Suppressed s (Suppressed.getFactor s w t key .words)
   unfolding Suppressed.getFactor Suppressed.factorOn
   factor-sound =
       judged-keeps factor.Refused _ w _ (SoundRoom kind.Suppressed s) o
       (λ e.
-      let x = Suppressed.slotIn s w t key in
+      let x = slotIn s w t key in
       let l = unfallen kind.Suppressed s w t key _ e in
       let c = demand2 .suppressed-factor s w t key y e in
       by-cases (x .series) _

@@ -21,9 +21,8 @@ use Rattle.common.specs.declared.units.RateLimit.{RateLimit}
 use Rattle.room.specs.Room.{slotsOf, ringOf}
 use Rattle.judge.specs.declared.RoomKind.the-variants as kind
 use Rattle.judge.specs.declared.Slot.{Slot}
-use Rattle.judge.specs.Slot.{slotOf}
-use Rattle.judge.specs.Sound.{addressed}
 use Rattle.judge.specs.Verdict.{Verdict, verdict, call}
+use Rattle.judge.specs.Judge.{slotIn}
 use Rattle.change.specs.Words.{applied}
 use Rattle.suppressed_rules.specs.declared.factor.Asked.{Asked}
 use Rattle.suppressed_rules.specs.declared.forecast.Outcome.{Outcome}
@@ -31,9 +30,6 @@ use Rattle.suppressed_rules.specs.Factor.{asked}
 use Rattle.suppressed_rules.specs.Forecast.{forecast, outcome}
 use Rattle.suppressed_edits.specs.Edits.{getChange, factorChange, incChange}
 use Rattle.suppressed_edits.specs.Refusals.{placeOf, incLate}
-
-abbrev pub slotIn : Settings → List ℕ → ℕ → List ℕ → Slot
-slotIn s w t key = slotOf (windowIn s) w t (addressed w key)
 
 -- whether the perceived rate is zero
 abbrev pub unperceived : Settings → Slot → Bool

@@ -23,7 +23,7 @@ use Rattle.room.specs.Room.{Room, slotsOf, ringOf, bodyOf}
 use Rattle.judge.specs.declared.Judged.{Judged}
 use Rattle.judge.specs.declared.RoomKind.the-variants as kind
 use Rattle.judge.specs.declared.Slot.{Slot}
-use Rattle.judge.specs.Judge.{early, judged, Passed}
+use Rattle.judge.specs.Judge.{early, judged, Passed, hasSlot, slotIn}
 use Rattle.judge.specs.Laws.{code-is, slot-is, passed}
 use Rattle.judge.specs.Verdict.{Told, call-early, call-own, call-done}
 use Rattle.change.specs.declared.Change.{Change}
@@ -38,9 +38,9 @@ use Rattle.suppressed_rules.specs.declared.factor.Caching.{Caching}
 use Rattle.suppressed_rules.specs.declared.factor.Caching.the-variants.{Left, Cached}
 use Rattle.suppressed_rules.specs.declared.forecast.Outcome.{Outcome}
 use Rattle.suppressed_rules.specs.Factor.{left, asked}
-use Rattle.suppressed_edits.specs.Edits.{hasSlot, factorAfter, timeAfter, useAfter, recached, getChange, loneBy, loneChange, factorChange, incEdit, incChange}
+use Rattle.suppressed_edits.specs.Edits.{factorAfter, timeAfter, useAfter, recached, getChange, loneBy, loneChange, factorChange, incEdit, incChange}
 use Rattle.suppressed_edits.specs.Refusals.{placeOf, joinsLeft, crowded, incLate}
-use Rattle.suppressed.specs.Calls.{slotIn, unperceived, asking, snapshotOf, getOwn, getDoes, getOn, get, factorOwn, factorDoes, factorOn, getFactor, limitFor, incOwn, incDoes, incOn, incOutcome, inc}
+use Rattle.suppressed.specs.Calls.{unperceived, asking, snapshotOf, getOwn, getDoes, getOn, get, factorOwn, factorDoes, factorOn, getFactor, limitFor, incOwn, incDoes, incOn, incOutcome, inc}
 use Rattle.suppressed_rules.specs.Forecast.{forecast, outcome, outcome-declined}
 use Rattle.suppressed.specs.Standing.{known, unperceived-is, left-length, joins-left}
 

@@ -24,12 +24,11 @@ use Rattle.ring.specs.View.{view-length}
 use Rattle.room.specs.Room.{slotsOf, ringOf, lastOf, bodyOf}
 use Rattle.judge.specs.declared.RoomKind.the-variants as kind
 use Rattle.judge.specs.declared.Slot.{Slot}
-use Rattle.judge.specs.Judge.{Passed}
+use Rattle.judge.specs.Judge.{Passed, hasSlot, slotIn}
 use Rattle.judge.specs.Slot.{noSlot, pickPass, opened}
 use Rattle.judge.specs.Sound.{addressed}
 use Rattle.plan.specs.Known.{Found, Known, found, none, series-known, series-is, at-as}
-use Rattle.suppressed.specs.Calls.{slotIn, unperceived}
-use Rattle.suppressed_edits.specs.Edits.{hasSlot}
+use Rattle.suppressed.specs.Calls.{unperceived}
 use Rattle.suppressed_rules.specs.Factor.{left}
 use Rattle.suppressed_edits.specs.Refusals.{joinsLeft}
 

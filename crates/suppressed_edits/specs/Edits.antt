@@ -9,14 +9,11 @@ use Rattle.change.specs.declared.Change.the-variants.{Keep, Update, Take}
 use Rattle.change.specs.declared.Edit.{Edit}
 use Rattle.change.specs.declared.Then.the-variants.{Nothing, Increment}
 use Rattle.judge.specs.declared.Slot.{Slot}
+use Rattle.judge.specs.Judge.{hasSlot}
 use Rattle.plan.specs.Plan.{evicting, opening}
 use Rattle.suppressed_rules.specs.declared.factor.Caching.{Caching}
 use Rattle.suppressed_rules.specs.declared.factor.Caching.the-variants.{Left, Cached}
 use Rattle.suppressed_rules.specs.Factor.{stays}
-
--- "A suppressed slot stays in use while it has a series or a cached factor"
-abbrev pub hasSlot : Slot → Bool
-hasSlot x = x .series || x .cached
 
 -- ---- the cached factor's words and the use, of a slot with a series: 1, or 3 with a cached factor
 

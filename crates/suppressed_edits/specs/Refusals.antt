@@ -12,9 +12,9 @@ use Rattle.common.specs.Settings.{bucketIn}
 use Rattle.common.specs.declared.settings.Settings.{Settings}
 use Rattle.common.specs.declared.units.RateLimit.{RateLimit}
 use Rattle.judge.specs.declared.Slot.{Slot}
+use Rattle.judge.specs.Judge.{hasSlot}
 use Rattle.ring.specs.Ring.{mostTotal}
 use Rattle.room.specs.Room.{vacant}
-use Rattle.suppressed_edits.specs.Edits.{hasSlot}
 use Rattle.suppressed_rules.specs.Factor.{left}
 
 abbrev pub mostDraw : ℕ

@@ -1,6 +1,6 @@
 // What the calls change of a key's slot, once its factor is known.
 ghost use mathlib.Core.Path.{_≡_};
-ghost use Rattle.suppressed_edits.specs.Edits.{hasSlot, useLeft, recached, getChange, loneBy, loneChange, factorChange, incEdit, incChange};
+ghost use Rattle.suppressed_edits.specs.Edits.{useLeft, recached, getChange, loneBy, loneChange, factorChange, incEdit, incChange};
 use change::Change;
 use change::Edit;
 use change::Then;
@@ -11,18 +11,6 @@ use suppressed_rules::factor::stays;
 const CACHED_FACTOR: u64 = 2;
 
 const BOTH: u64 = 3;
-
-// Whether the key has a slot: for a series, or for a lone cached factor.
-pub fn has_slot(x: Slot) -> bool
-    ensures { λ r. ⌜ r ≡ hasSlot x ⌝ }
-{
-    let series = x.series;
-    let cached = x.cached;
-    if series {
-        return true;
-    }
-    cached
-}
 
 // A series' use, by whether its cached factor stays.
 fn use_left(stays_on: bool) -> u64
@@ -125,7 +113,7 @@ pub fn inc_change(x: Slot, limit: u64, count: u64, declined: u64, caching: Cachi
     ensures { λ r. ⌜ r ≡ incChange x limit count declined caching ⌝ }
 {
     let e = recached(x, caching, inc_edit(x, limit, count, declined));
-    if has_slot(x) {
+    if judge::has_slot(x) {
         Change::Update(e)
     } else {
         Change::Take(e)

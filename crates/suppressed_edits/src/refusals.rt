@@ -6,7 +6,6 @@ ghost use Rattle.common.specs.Refusals.{first};
 ghost use Rattle.room.specs.Room.{Room, slotsOf, ringOf};
 ghost use Rattle.ring.specs.Ring.{mostTotal};
 ghost use Rattle.suppressed_edits.specs.Refusals.{placeOf, joinsLeft, crowded, incNumbers, incLate};
-use crate::edits::has_slot;
 use common::RateLimit;
 use common::Settings;
 use judge::Slot;
@@ -22,7 +21,7 @@ pub fn place_of(w: &[u64], x: Slot) -> usize
     ensures { λ r. ⌜ r ≡ placeOf (now (w .entry)) x ⌝ }
 {
     let at = x.at;
-    if has_slot(x) {
+    if judge::has_slot(x) {
         return at;
     }
     room::vacant(w)

@@ -43,7 +43,7 @@ use Rattle.judge.specs.declared.RoomKind.the-variants.{Absolute}
 use Rattle.judge.specs.declared.Slot.{Slot}
 use Rattle.judge.specs.Sound.{limitOf, factorOf, factorTimeOf, hasSeries, hasCached, rightUse, declinedRight, soundSeries, addressed}
 use Rattle.judge.specs.Slot.{noSlot}
-use Rattle.judge.specs.Judge.{refusals, Passed}
+use Rattle.judge.specs.Judge.{refusals, Passed, slotIn}
 use Rattle.judge.specs.Laws.{passed}
 use Rattle.judge.specs.Verdict.{verdict}
 use Rattle.plan.specs.Plan.{evicting, opening}
@@ -51,7 +51,7 @@ use Rattle.plan.specs.Known.{Found, Known, found, none, use-right, series-is}
 use Rattle.cleanup.specs.Laws.{sound-parts, parts-sound, other-true}
 use Rattle.absolute_rules.specs.Rules.{goneIf, totalIf, leaving, below, evicts, allowed, rejected, decided, over, full, pickDecision, pickChange, place, lacks, inOrder, incRefusals, getChange, askChange, incChange}
 use Rattle.absolute_rules.specs.Laws.{counts-change}
-use Rattle.absolute.specs.Calls.{slotIn, outIn, incOwn, incMakes, get, isAllowed, inc}
+use Rattle.absolute.specs.Calls.{outIn, incOwn, incMakes, get, isAllowed, inc}
 use Rattle.absolute.specs.Laws.{known, evict-applies, leaving-applies, opening-applies}
 use Rattle.views.specs.Calls.{Stands, stands, implied, keep-words, update-changed, take-changed, none-right, series-right, limit-right, begins-view, uncached, found-key}
 use Rattle.views.specs.Cleanup.{series-later}

@@ -38,14 +38,14 @@ use Rattle.change.specs.Laws.{edited-is, update-change, take-change}
 use Rattle.judge.specs.declared.RoomKind.{RoomKind}
 use Rattle.judge.specs.declared.RoomKind.the-variants.{Absolute, Suppressed}
 use Rattle.judge.specs.declared.Slot.{Slot}
-use Rattle.judge.specs.Sound.{limitOf, factorOf, factorTimeOf, hasSeries, hasCached, rightUse, divisor, declinedRight, soundSeries, soundCached, soundSlot, addressed}
-use Rattle.judge.specs.Judge.{Passed}
+use Rattle.judge.specs.Sound.{limitOf, factorOf, factorTimeOf, hasSeries, hasCached, rightUse, divisor, declinedRight, soundSeries, soundCached, soundSlot}
+use Rattle.judge.specs.Judge.{Passed, hasSlot, slotIn}
 use Rattle.plan.specs.Plan.{keeping}
 use Rattle.plan.specs.Known.{Found, use-right, used-as, cached-is, cached-known, keeping-edits}
 use Rattle.judge.specs.Slot.{noSlot, pickPass, opened, pickSlot, slotOf}
 use Rattle.history.specs.Sweep.{passOf}
 use Rattle.common.specs.declared.answers.DeleteAnswer.the-variants.{Deleted, Unknown}
-use Rattle.calls.specs.Calls.{slotIn, hasSlot, slot-within, found-at, known-at, true-or}
+use Rattle.calls.specs.Calls.{slot-within, found-at, known-at, true-or}
 use Rattle.calls.specs.Delete.{deleting, deleted}
 use Rattle.calls.specs.Rate.{limitIn, forgotten, usedWith, relimited, limiting, limiting-known}
 use Rattle.calls.specs.Set.{reset, begins, newly, stored, stored-known, setting, placeIn, liveIn}

@@ -26,7 +26,7 @@ use Rattle.frame.specs.Frame.{Changed}
 use Rattle.frame.specs.Keys.{Bytes, key-fits}
 use Rattle.judge.specs.declared.RoomKind.the-variants as kind
 use Rattle.judge.specs.declared.Slot.{Slot}
-use Rattle.judge.specs.Judge.{early, Passed}
+use Rattle.judge.specs.Judge.{early, Passed, hasSlot, slotIn}
 use Rattle.judge.specs.Laws.{passed}
 use Rattle.judge.specs.Right.{addressed-at}
 use Rattle.judge.specs.Sound.{addressed}
@@ -43,9 +43,9 @@ use Rattle.suppressed_rules.specs.declared.factor.FactorRule.the-variants.{Nil,
 use Rattle.suppressed_rules.specs.declared.forecast.Outcome.{Outcome}
 use Rattle.suppressed_rules.specs.Factor.{left, accepted, stays, usable, cachedAt, ruleOf, freshBy, blindBy, worked, asked}
 use Rattle.suppressed_rules.specs.Forecast.{forecast}
-use Rattle.suppressed_edits.specs.Edits.{hasSlot, factorAfter, timeAfter, useAfter, recached, getChange, get-series, loneEdit, loneBy, loneChange, factorChange, factor-series, factor-lone, incEdit, incChange}
+use Rattle.suppressed_edits.specs.Edits.{factorAfter, timeAfter, useAfter, recached, getChange, get-series, loneEdit, loneBy, loneChange, factorChange, factor-series, factor-lone, incEdit, incChange}
 use Rattle.suppressed_edits.specs.Refusals.{placeOf, incLate}
-use Rattle.suppressed.specs.Calls.{slotIn, snapshotOf, get, getFactor, limitFor, incOutcome, inc}
+use Rattle.suppressed.specs.Calls.{snapshotOf, get, getFactor, limitFor, incOutcome, inc}
 use Rattle.suppressed.specs.Laws.{get-edits, get-done, factor-done, factor-applies, place-used, with-series, inc-done, inc-applies}
 use Rattle.suppressed.specs.Standing.{used, known, unknown, sums}
 use Rattle.views.specs.Calls.{Stands, keep-words, update-changed, take-changed}

@@ -26,7 +26,7 @@ use Rattle.ring.specs.Ring.{sumOf, counts, declineds, buckets}
 use Rattle.room.specs.Room.{ringOf, bodyOf}
 use Rattle.judge.specs.declared.RoomKind.the-variants as kind
 use Rattle.judge.specs.declared.Slot.{Slot}
-use Rattle.judge.specs.Judge.{Passed}
+use Rattle.judge.specs.Judge.{Passed, slotIn}
 use Rattle.suppressed_rules.specs.declared.factor.Asked.{Asked}
 use Rattle.suppressed_rules.specs.declared.factor.Caching.the-variants.{Left, Cached}
 use Rattle.suppressed_rules.specs.declared.factor.FactorRule.{FactorRule}
@@ -36,7 +36,7 @@ use Rattle.suppressed_rules.specs.declared.forecast.Reach.{Reach}
 use Rattle.suppressed_rules.specs.declared.forecast.Reach.the-variants.{Hard, Soft, Over, Between}
 use Rattle.suppressed_rules.specs.Factor.{left, stays, cachedAt, usable, ruleOf, freshBy, blindBy, worked, asked}
 use Rattle.suppressed_rules.specs.Forecast.{forecast, reachOf, declinedBy, drawn, outcomeOf, outcome}
-use Rattle.suppressed.specs.Calls.{slotIn, unperceived}
+use Rattle.suppressed.specs.Calls.{unperceived}
 use Rattle.suppressed.specs.Standing.{Sums, over-more, known, unknown, left-length}
 
 -- ---- the rules

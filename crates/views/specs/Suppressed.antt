@@ -23,7 +23,7 @@ use Rattle.room.specs.Room.{ringOf, bodyOf, keyFits}
 use Rattle.frame.specs.Frame.{Changed}
 use Rattle.judge.specs.declared.RoomKind.the-variants as kind
 use Rattle.judge.specs.declared.Slot.{Slot}
-use Rattle.judge.specs.Judge.{Passed}
+use Rattle.judge.specs.Judge.{Passed, slotIn}
 use Rattle.judge.specs.Sound.{hasSeries, hasCached, rightUse}
 use Rattle.change.specs.declared.Edit.{Edit}
 use Rattle.change.specs.declared.Then.the-variants.{Nothing, Increment}
@@ -32,7 +32,7 @@ use Rattle.plan.specs.Known.{cached-known}
 use Rattle.plan.specs.Plan.{evicting, opening}
 use Rattle.suppressed_rules.specs.declared.factor.Caching.{Caching}
 use Rattle.suppressed_rules.specs.declared.factor.Caching.the-variants.{Left, Cached}
-use Rattle.suppressed.specs.Calls.{slotIn, limitFor}
+use Rattle.suppressed.specs.Calls.{limitFor}
 use Rattle.suppressed_edits.specs.Edits.{useLeft, factorAfter, timeAfter, useAfter, recached, loneEdit}
 use Rattle.suppressed_rules.specs.Factor.{stays}
 use Rattle.suppressed.specs.Standing.{used, known}

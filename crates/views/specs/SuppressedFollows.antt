@@ -29,7 +29,7 @@ use Rattle.room.specs.Room.{slotsOf, ringOf, keyOf, withReading}
 use Rattle.frame.specs.Keys.{Bytes}
 use Rattle.judge.specs.declared.RoomKind.the-variants as kind
 use Rattle.judge.specs.declared.Slot.{Slot}
-use Rattle.judge.specs.Judge.{refusals, early, Passed}
+use Rattle.judge.specs.Judge.{refusals, early, Passed, slotIn}
 use Rattle.judge.specs.Laws.{passed}
 use Rattle.judge.specs.Verdict.{Verdict}
 use Rattle.change.specs.Words.{applied}
@@ -39,7 +39,7 @@ use Rattle.suppressed_rules.specs.Factor.{stays, usable, asked}
 use Rattle.suppressed_rules.specs.Forecast.{forecast, reachOf, declinedBy, outcomeOf}
 use Rattle.suppressed_edits.specs.Edits.{factorAfter, timeAfter, useAfter, getChange, factorChange, incChange}
 use Rattle.suppressed_edits.specs.Refusals.{placeOf, incLate}
-use Rattle.suppressed.specs.Calls.{slotIn, unperceived, asking, snapshotOf, getOwn, getDoes, getOn, get, factorOwn, factorDoes, factorOn, getFactor, limitFor, incOutcome, incOwn, incDoes, incOn, inc}
+use Rattle.suppressed.specs.Calls.{unperceived, asking, snapshotOf, getOwn, getDoes, getOn, get, factorOwn, factorDoes, factorOn, getFactor, limitFor, incOutcome, incOwn, incDoes, incOn, inc}
 use Rattle.suppressed.specs.Laws.{get-done, factor-done, inc-done}
 use Rattle.suppressed.specs.Standing.{sums, unperceived-is}
 use Rattle.views.specs.Calls.{Stands}

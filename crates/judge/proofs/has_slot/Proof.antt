@@ -1,6 +1,6 @@
--- The two tests of the definition.
-use Rattle.calls.proofs.has_slot.Statement.{statement}
-use Rattle.calls.proofs.has_slot.Tie as tie
+-- By the series, then by the cached factor.
+use Rattle.judge.proofs.has_slot.Statement.{statement}
+use Rattle.judge.proofs.has_slot.Tie as tie
 
 returns : tie.Need-returns
 returns c = rw (c .if1 .taken)
