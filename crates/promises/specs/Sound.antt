@@ -10,7 +10,7 @@ use native.Mathlib.Decide.{ℕ-discrete}
 use native.Mathlib.Omega.{arith}
 use lib.Dec.{ltb, eqb}
 use lib.ListN.{length}
-use borrow.Author.Tests.{ltb-true}
+use borrow.Author.Tests.{ltb-true, eqb-true}
 use Rattle.base.specs.Decides.{true-and}
 use Rattle.common.specs.Refusals.{first}
 use Rattle.common.specs.Settings.{windowIn, cacheIn}
@@ -54,8 +54,11 @@ use Rattle.views.specs.AbsoluteRules.{knows, allowedBy, limitBy, heldBy}
 use Rattle.views.specs.Calls.{Stands}
 use Rattle.views.specs.Cleanup.{series-later, cached-later}
 use Rattle.views.specs.Follows.{unrefused-early}
+use Rattle.provider.specs.Provider as Provider
+use Rattle.provider.specs.Laws.{both-by-table}
 use Rattle.promises.specs.Refusals.{absoluteInc, absolute-number}
 use Rattle.promises.specs.Rules.{demand2}
+use Rattle.promises.specs.Shared.{CleanRule}
 
 -- the lengths are right, and "a slot is sound if .." of every slot in use
 pub record SoundRoom (kind : RoomKind) (s : Settings) (w : List ℕ) : Type 0 where
@@ -145,6 +148,8 @@ pub record StaysSound : Type 0 where
   -- whatever the kind, and whatever the slots hold: clear judges the lengths only
   pub clear : (kind : RoomKind) (s : Settings) (w : List ℕ) (t : ℕ) → SoundRoom kind s w → SoundRoom kind s (Clear.clear s w t .words)
   pub cleanup : (kind : RoomKind) (s : Settings) (w : List ℕ) (t stale : ℕ) → SoundRoom kind s w → SoundRoom kind s (Cleanup.cleanup kind s w t stale .words)
+  pub provider-cleanup : (s : Settings) (a b : List ℕ) (t stale : ℕ) → SoundRoom kind.Absolute s a → SoundRoom kind.Suppressed s b →
+      SoundRoom kind.Absolute s (Provider.cleanup s a b t stale .absolute) × SoundRoom kind.Suppressed s (Provider.cleanup s a b t stale .suppressed)
 
 module _ (s : Settings) (w : List ℕ) (t : ℕ) (key : List ℕ) (o : SoundRoom kind.Absolute s w) where
   inc-sound : (rate : RateLimit) (count : ℕ) → Bytes key → SoundRoom kind.Absolute s (Absolute.inc s w t key rate count .words)
@@ -213,6 +218,10 @@ module _ (s : Settings) (w : List ℕ) (t : ℕ) (key : List ℕ) (y : Bytes key
       (λ a. reads-sound kind.Suppressed s w t l o _ (c .kept k a))
       (λ a. stands-sound kind.Suppressed s w t l o _ _ _ _ _ _ _ _ (c .anew k a))))
 
+-- a room that is cleaned
+clean-rule-sound : (kind : RoomKind) (s : Settings) (w v : List ℕ) (t stale : ℕ) → CleanRule kind s w v t stale → SoundRoom kind s v
+clean-rule-sound kind s w v t stale c = record { room = c .leaves .room; slots = λ i h n. c .sound i (omega (arith, h, c .leaves .slots)) n }
+
 module _ (kind : RoomKind) (s : Settings) (w : List ℕ) (t : ℕ) (o : SoundRoom kind s w) where
   module _ (key : List ℕ) where
     rate-sound : (rate : RateLimit) → SoundRoom kind s (Rate.setRateLimit kind s w t key rate .words)
@@ -262,9 +271,18 @@ module _ (kind : RoomKind) (s : Settings) (w : List ℕ) (t : ℕ) (o : SoundRoo
   unfolding Cleanup.cleanup
   cleanup-sound stale =
       judged-keeps done.Refused _ w _ (SoundRoom kind s) o
+      (λ e. clean-rule-sound kind s w (Cleanup.cleanup kind s w t stale .words) t stale (demand2 .cleanup kind s w t stale e .room))
+
+module _ (s : Settings) (a b : List ℕ) (t stale : ℕ) (o : SoundRoom kind.Absolute s a) (p : SoundRoom kind.Suppressed s b) where
+  both-sound : SoundRoom kind.Absolute s (Provider.cleanup s a b t stale .absolute) × SoundRoom kind.Suppressed s (Provider.cleanup s a b t stale .suppressed)
+  unfolding Provider.decided
+  both-sound =
+      by-cases (eqb (Provider.refusalOfBoth s a b t) 0) _
       (λ e.
-      let c = demand2 .cleanup kind s w t stale e .room in
-      record { room = c .leaves .room; slots = λ i h n. c .sound i (omega (arith, h, c .leaves .slots)) n })
+      let c = demand2 .provider-cleanup s a b t stale (sym (both-by-table s a b t) ∙ eqb-true (Provider.refusalOfBoth s a b t) 0 e) in
+      (clean-rule-sound kind.Absolute s a (Provider.cleanup s a b t stale .absolute) t stale (c .absolute), clean-rule-sound kind.Suppressed s b (Provider.cleanup s a b t stale .suppressed) t stale (c .suppressed)))
+      (λ e.
+      (subst (SoundRoom kind.Absolute s) (sym (ap (λ (y : Bool). cond y (Cleanup.cleaned a t stale) a) e)) o, subst (SoundRoom kind.Suppressed s) (sym (ap (λ (y : Bool). cond y (Cleanup.cleaned b t stale) b) e)) p))
 
 pub stays-sound : StaysSound
 stays-sound = record {
@@ -279,6 +297,7 @@ stays-sound = record {
   set-if = λ kind s w t key rate comparator count mode y o. set-sound kind s w t o key rate comparator count mode y;
   clear = clear-sound;
   cleanup = λ kind s w t stale o. cleanup-sound kind s w t o stale;
+  provider-cleanup = both-sound;
 }
 
 -- ---- where it begins, and that 5 is not met
