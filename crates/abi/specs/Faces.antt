@@ -1,21 +1,21 @@
 -- What the faces for C and Rust answer and leave, for every input, by the verdicts that the limiters' contracts name. An answer goes out as the row of five
--- words that `common`'s Answers gives it. w are the words of a room. Assumes nothing.
+-- words that `answers`' Rows gives it. w are the words of a room. Assumes nothing.
 use mathlib.Core.Path.{_≡_}
 use mathlib.Core.Bool.{Bool, cond}
 use mathlib.Core.List.{List}
 use Prim.Native.Nat.{ℕ}
-use Rattle.common.specs.Answers.{refusedRow, doneRow, setRow}
-use Rattle.common.specs.declared.answers.SetAnswer.{SetAnswer}
+use Rattle.answers.specs.Rows.{refusedRow, doneRow, setRow}
+use Rattle.answers.specs.declared.SetAnswer.{SetAnswer}
 use Rattle.common.specs.declared.comparator.RateLimitComparator.{RateLimitComparator}
-use Rattle.common.specs.declared.history_mode.HistoryUpdateMode.{HistoryUpdateMode}
+use Rattle.answers.specs.declared.HistoryUpdateMode.{HistoryUpdateMode}
 use Rattle.room.specs.Room.{lengthOf, fits}
 use Rattle.judge.specs.Verdict.{Verdict}
-use Rattle.plain.specs.Plain.{badCall, numberOf}
+use Rattle.rows.specs.Plain.{badCall, numberOf}
 use Rattle.provider.specs.Provider as Provider
-use Rattle.plain.specs.declared.inputs.Comparison.{Comparison}
-use Rattle.plain.specs.declared.inputs.Comparison.the-variants as compared
-use Rattle.plain.specs.declared.inputs.Mode.{Mode}
-use Rattle.plain.specs.declared.inputs.Mode.the-variants as chosen
+use Rattle.rows.specs.declared.inputs.Comparison.{Comparison}
+use Rattle.rows.specs.declared.inputs.Comparison.the-variants as compared
+use Rattle.rows.specs.declared.inputs.Mode.{Mode}
+use Rattle.rows.specs.declared.inputs.Mode.the-variants as chosen
 
 -- ---- the shape of every face
 

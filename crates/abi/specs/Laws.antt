@@ -4,12 +4,12 @@ use mathlib.Core.Path.{_≡_, refl, sym, ap, _∙_}
 use mathlib.Core.Bool.{Bool, true, false, cond}
 use mathlib.Core.List.{List}
 use Prim.Native.Nat.{ℕ}
-use Rattle.common.specs.Answers.{doneRow}
-use Rattle.common.specs.declared.answers.DoneAnswer.{DoneAnswer}
+use Rattle.answers.specs.Rows.{doneRow}
+use Rattle.answers.specs.declared.DoneAnswer.{DoneAnswer}
 use Rattle.room.specs.Room.{lengthOf, fits, Lengths}
 use Rattle.room.specs.Laws.{lengths-fit, fit-lengths}
 use Rattle.judge.specs.Verdict.{Verdict, Told}
-use Rattle.plain.specs.Plain.{numberOf, Given}
+use Rattle.rows.specs.Plain.{numberOf, Given}
 use Rattle.provider.specs.Provider as Provider
 use Rattle.abi.specs.Faces.{Face, Faced, shown, shownBoth, roomWords}
 
@@ -22,12 +22,15 @@ pub given-faced : {W : Type 0} (f : Face W) (row : List ℕ) (n : ℕ) (a : List
 given-faced f row n a w e g l = record { number = g .number ∙ ap numberOf e; answer = g .answer ∙ e; left = l }
 
 -- a limiter's answer
-pub faced : {A : Type 0} (rowOf : A → List ℕ) (v : Verdict A) (r : A) (row : List ℕ) (n : ℕ) (a w : List ℕ) → Told v r w → row ≡ rowOf r → Given row n a → Faced (shown rowOf v) n a w
+pub faced : {A : Type 0} (rowOf : A → List ℕ) (v : Verdict A) (r : A) (row : List ℕ) (n : ℕ) (a w : List ℕ) → Told v r w → row ≡ rowOf r → Given row n a →
+    Faced (shown rowOf v) n a w
 faced rowOf v r row n a w t e g = given-faced (shown rowOf v) row n a w (e ∙ ap rowOf (t .answer)) g (t .words)
 
 -- the provider's
-pub faced-both : (v : Provider.Verdict) (r : DoneAnswer) (row : List ℕ) (n : ℕ) (a x y : List ℕ) → Provider.Told v r x y → row ≡ doneRow r → Given row n a → Faced (shownBoth v) n a (x, y)
-faced-both v r row n a x y t e g = given-faced (shownBoth v) row n a (x, y) (e ∙ ap doneRow (t .answer)) g (ap (λ z. (z, y)) (t .absolute) ∙ ap (λ z. (v .absolute, z)) (t .suppressed))
+pub faced-both : (v : Provider.Verdict) (r : DoneAnswer) (row : List ℕ) (n : ℕ) (a x y : List ℕ) → Provider.Told v r x y → row ≡ doneRow r → Given row n a →
+    Faced (shownBoth v) n a (x, y)
+faced-both v r row n a x y t e g = given-faced (shownBoth v) row n a (x, y) (e ∙ ap doneRow (t .answer)) g
+    (ap (λ z. (z, y)) (t .absolute) ∙ ap (λ z. (v .absolute, z)) (t .suppressed))
 
 -- ---- a room's words
 

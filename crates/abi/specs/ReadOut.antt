@@ -8,12 +8,12 @@ use native.Mathlib.Omega.{arith}
 use lib.Dec.{eqb, ltb}
 use lib.ListN.{length, getD}
 use borrow.Author.Tests.{eq-eqb, ne-eqb, lt-ltb, le-ltb}
-use Rattle.common.specs.Answers.{row, refusedRow}
-use Rattle.common.specs.declared.settings.Settings.{Settings}
+use Rattle.answers.specs.Rows.{row, refusedRow}
+use Rattle.settings.specs.declared.Settings.{Settings}
 use Rattle.ring.specs.declared.Bucket.{Bucket}
 use Rattle.ring.specs.Ring.{noBucket, buckets}
 use Rattle.room.specs.Room.{slotsOf, ringOf, useOf, bodyOf}
-use Rattle.judge.specs.declared.RoomKind.{RoomKind}
+use Rattle.rules.specs.declared.RoomKind.{RoomKind}
 use Rattle.judge.specs.Sound.{hasSeries, addressed}
 use Rattle.readout.specs.declared.Found.{Found}
 use Rattle.readout.specs.ReadOut.{refusal, bucketsOf, shown, found, Readable}
@@ -70,16 +70,19 @@ module _ (kind : RoomKind) (s : Settings) (w key : List ℕ) (x : Found) (is : x
         rw is (row-readable kind s w key (noBucket ∷ []) 0 (omega (arith, n)))
 
     -- a bucket is there, so the key has a series and these are its buckets
-    view : (b c : Bool) → ltb (addressed w key) (slotsOf w) ≡ b → hasSeries (useOf w (addressed w key)) ≡ c → 0 < length (bucketsOf w key) → bucketsOf w key ≡ buckets (ringOf w) (bodyOf w (addressed w key))
+    view : (b c : Bool) → ltb (addressed w key) (slotsOf w) ≡ b → hasSeries (useOf w (addressed w key)) ≡ c → 0 < length (bucketsOf w key) →
+        bucketsOf w key ≡ buckets (ringOf w) (bodyOf w (addressed w key))
     unfolding bucketsOf
     view false c e f h = absurd (omega (arith, rw e at h))
     view true false e f h = absurd (omega (arith, rw (e, f) at h))
     view true true e f h = rw (e, f)
 
-    pub bucket-some : (i : ℕ) → i < x .count → (b : Bucket) → b ≡ getD (buckets (ringOf w) (bodyOf w (x .slot))) i noBucket → cellRow b ≡ bucketRow kind s w key i
+    pub bucket-some : (i : ℕ) → i < x .count → (b : Bucket) → b ≡ getD (buckets (ringOf w) (bodyOf w (x .slot))) i noBucket →
+        cellRow b ≡ bucketRow kind s w key i
     unfolding bucketRow
     bucket-some i h b e =
         let below : i < length (bucketsOf w key) = omega (arith, count-is) in
         let any : 0 < length (bucketsOf w key) = omega arith in
-        let here : b ≡ getD (bucketsOf w key) i noBucket = e ∙ ap (λ (a : ℕ). getD (buckets (ringOf w) (bodyOf w a)) i noBucket) slot-is ∙ ap (λ (xs : List Bucket). getD xs i noBucket) (sym (view _ _ refl refl any)) in
+        let here : b ≡ getD (bucketsOf w key) i noBucket = e ∙ ap (λ (a : ℕ). getD (buckets (ringOf w) (bodyOf w a)) i noBucket) slot-is ∙
+        ap (λ (xs : List Bucket). getD xs i noBucket) (sym (view _ _ refl refl any)) in
         ap (λ (y : Bucket). cellRow y) here ∙ sym (rw (unrefused, lt-ltb i (length (bucketsOf w key)) below))

@@ -3,9 +3,9 @@
 ghost use mathlib.Core.Path.{_≡_};
 ghost use mathlib.Core.Bool.{cond};
 ghost use lib.ListN.{length};
-ghost use Rattle.common.specs.Answers.{decisionRow, totalRow, snapshotRow, factorRow, oldRateRow, deleteRow, doneRow};
+ghost use Rattle.answers.specs.Rows.{decisionRow, totalRow, snapshotRow, factorRow, oldRateRow, deleteRow, doneRow};
 ghost use Rattle.room.specs.Room.{fits, empty};
-ghost use Rattle.judge.specs.declared.RoomKind.the-variants.{Absolute, Suppressed};
+ghost use Rattle.rules.specs.declared.RoomKind.the-variants.{Absolute, Suppressed};
 ghost use Rattle.calls.specs.Clear as Clear;
 ghost use Rattle.calls.specs.Delete as Delete;
 ghost use Rattle.calls.specs.Rate.{setRateLimit};
@@ -14,15 +14,15 @@ ghost use Rattle.cleanup.specs.Cleanup as Cleanup;
 ghost use Rattle.absolute.specs.Calls as AbsoluteCalls;
 ghost use Rattle.suppressed.specs.Calls as SuppressedCalls;
 ghost use Rattle.provider.specs.Provider as Provider;
-ghost use Rattle.plain.specs.Plain.{Given, settings, rated, comparisonOf, replacing, preserving};
+ghost use Rattle.rows.specs.Plain.{Given, settings, rated, comparisonOf, replacing, preserving};
 ghost use Rattle.abi.specs.Faces.{Faced, shown, shownBoth, shownSet, roomWords, makeNumber};
 ghost use Rattle.abi.specs.ReadOut.{bucketRow};
-use common::HistoryUpdateMode;
+use answers::HistoryUpdateMode;
 use common::RateLimit;
-use common::Settings;
-use judge::RoomKind;
-use plain::Comparison;
-use plain::Mode;
+use rows::Comparison;
+use rows::Mode;
+use rules::RoomKind;
+use settings::Settings;
 
 // The room's lengths are wrong.
 const WRONG_LENGTHS: u64 = 5;
@@ -48,7 +48,7 @@ pub extern "C" fn frostaxle_room_words(slots: u64, ring: u64) -> usize
     }
     let n = slots as usize;
     let r = ring as usize;
-    room::HEADER + room::ENTRY * n + n * (room::FIXED + room::CELL * r)
+    layout::HEADER + layout::ENTRY * n + n * (layout::FIXED + layout::CELL * r)
 }
 
 // Makes an empty room.
@@ -76,13 +76,14 @@ fn set(
     mode: Mode,
     row: &mut [u64; 5],
 ) -> u64
-    ensures { λ n. ⌜ Faced (shownSet (now (room .entry)) comparison mode (λ c m. Set.set kind settings (now (room .entry)) reading (now (key .entry)) (rated rate) c count m)) n (now (row .exit)) (now (room .exit)) ⌝ }
+    ensures { λ n. ⌜ Faced (shownSet (now (room .entry)) comparison mode
+        (λ c m. Set.set kind settings (now (room .entry)) reading (now (key .entry)) (rated rate) c count m)) n (now (row .exit)) (now (room .exit)) ⌝ }
 {
     let Comparison::Named(c) = comparison else {
-        return plain::give(plain::bad_call_row(), row);
+        return rows::give(rows::bad_call_row(), row);
     };
     let Mode::Named(m) = mode else {
-        return plain::give(plain::bad_call_row(), row);
+        return rows::give(rows::bad_call_row(), row);
     };
     let answer = calls::set(
         kind,
@@ -95,7 +96,7 @@ fn set(
         count,
         m,
     );
-    plain::give(plain::set_row(answer), row)
+    rows::give(rows::set_row(answer), row)
 }
 
 // ---- the absolute limiter
@@ -114,11 +115,13 @@ pub extern "C" fn frostaxle_absolute_inc(
     count: u64,
     row: &mut [u64; 5],
 ) -> u64
-    ensures { λ n. ⌜ Faced (shown decisionRow (AbsoluteCalls.inc (settings window bucket cache factor) (now (room .entry)) reading (now (key .entry)) (rated rate) count)) n (now (row .exit)) (now (room .exit)) ⌝ }
+    ensures { λ n. ⌜ Faced (shown decisionRow
+        (AbsoluteCalls.inc (settings window bucket cache factor) (now (room .entry)) reading (now (key .entry)) (rated rate) count)) n (now (row .exit))
+        (now (room .exit)) ⌝ }
 {
-    let settings = plain::settings(window, bucket, cache, factor);
+    let settings = rows::settings(window, bucket, cache, factor);
     let answer = absolute::inc(settings, room, reading, key, RateLimit(rate), count);
-    plain::give(plain::decision_row(answer), row)
+    rows::give(rows::decision_row(answer), row)
 }
 
 // Whether a key is allowed, without counting.
@@ -133,11 +136,13 @@ pub extern "C" fn frostaxle_absolute_is_allowed(
     key: &[u8],
     row: &mut [u64; 5],
 ) -> u64
-    ensures { λ n. ⌜ Faced (shown decisionRow (AbsoluteCalls.isAllowed (settings window bucket cache factor) (now (room .entry)) reading (now (key .entry)))) n (now (row .exit)) (now (room .exit)) ⌝ }
+    ensures { λ n. ⌜ Faced (shown decisionRow
+        (AbsoluteCalls.isAllowed (settings window bucket cache factor) (now (room .entry)) reading (now (key .entry)))) n (now (row .exit))
+        (now (room .exit)) ⌝ }
 {
-    let settings = plain::settings(window, bucket, cache, factor);
+    let settings = rows::settings(window, bucket, cache, factor);
     let answer = absolute::is_allowed(settings, room, reading, key);
-    plain::give(plain::decision_row(answer), row)
+    rows::give(rows::decision_row(answer), row)
 }
 
 // A key's live total.
@@ -152,11 +157,12 @@ pub extern "C" fn frostaxle_absolute_get(
     key: &[u8],
     row: &mut [u64; 5],
 ) -> u64
-    ensures { λ n. ⌜ Faced (shown totalRow (AbsoluteCalls.get (settings window bucket cache factor) (now (room .entry)) reading (now (key .entry)))) n (now (row .exit)) (now (room .exit)) ⌝ }
+    ensures { λ n. ⌜ Faced (shown totalRow (AbsoluteCalls.get (settings window bucket cache factor) (now (room .entry)) reading (now (key .entry)))) n
+        (now (row .exit)) (now (room .exit)) ⌝ }
 {
-    let settings = plain::settings(window, bucket, cache, factor);
+    let settings = rows::settings(window, bucket, cache, factor);
     let answer = absolute::get(settings, room, reading, key);
-    plain::give(plain::total_row(answer), row)
+    rows::give(rows::total_row(answer), row)
 }
 
 #[no_mangle]
@@ -171,11 +177,12 @@ pub extern "C" fn frostaxle_absolute_set_rate_limit(
     rate: f64,
     row: &mut [u64; 5],
 ) -> u64
-    ensures { λ n. ⌜ Faced (shown oldRateRow (setRateLimit Absolute (settings window bucket cache factor) (now (room .entry)) reading (now (key .entry)) (rated rate))) n (now (row .exit)) (now (room .exit)) ⌝ }
+    ensures { λ n. ⌜ Faced (shown oldRateRow (setRateLimit Absolute (settings window bucket cache factor) (now (room .entry)) reading (now (key .entry))
+        (rated rate))) n (now (row .exit)) (now (room .exit)) ⌝ }
 {
-    let settings = plain::settings(window, bucket, cache, factor);
+    let settings = rows::settings(window, bucket, cache, factor);
     let answer = absolute::set_rate_limit(settings, room, reading, key, RateLimit(rate));
-    plain::give(plain::old_rate_row(answer), row)
+    rows::give(rows::old_rate_row(answer), row)
 }
 
 #[no_mangle]
@@ -189,11 +196,12 @@ pub extern "C" fn frostaxle_absolute_delete(
     key: &[u8],
     row: &mut [u64; 5],
 ) -> u64
-    ensures { λ n. ⌜ Faced (shown deleteRow (Delete.delete Absolute (settings window bucket cache factor) (now (room .entry)) reading (now (key .entry)))) n (now (row .exit)) (now (room .exit)) ⌝ }
+    ensures { λ n. ⌜ Faced (shown deleteRow (Delete.delete Absolute (settings window bucket cache factor) (now (room .entry)) reading
+        (now (key .entry)))) n (now (row .exit)) (now (room .exit)) ⌝ }
 {
-    let settings = plain::settings(window, bucket, cache, factor);
+    let settings = rows::settings(window, bucket, cache, factor);
     let answer = absolute::delete(settings, room, reading, key);
-    plain::give(plain::delete_row(answer), row)
+    rows::give(rows::delete_row(answer), row)
 }
 
 #[no_mangle]
@@ -206,11 +214,12 @@ pub extern "C" fn frostaxle_absolute_clear(
     reading: u64,
     row: &mut [u64; 5],
 ) -> u64
-    ensures { λ n. ⌜ Faced (shown doneRow (Clear.clear (settings window bucket cache factor) (now (room .entry)) reading)) n (now (row .exit)) (now (room .exit)) ⌝ }
+    ensures { λ n. ⌜ Faced (shown doneRow (Clear.clear (settings window bucket cache factor) (now (room .entry)) reading)) n (now (row .exit))
+        (now (room .exit)) ⌝ }
 {
-    let settings = plain::settings(window, bucket, cache, factor);
+    let settings = rows::settings(window, bucket, cache, factor);
     let answer = absolute::clear(settings, room, reading);
-    plain::give(plain::done_row(answer), row)
+    rows::give(rows::done_row(answer), row)
 }
 
 #[no_mangle]
@@ -228,10 +237,12 @@ pub extern "C" fn frostaxle_absolute_set_if(
     operand: u64,
     row: &mut [u64; 5],
 ) -> u64
-    ensures { λ n. ⌜ Faced (shownSet (now (room .entry)) (comparisonOf comparator operand) replacing (λ c m. Set.set Absolute (settings window bucket cache factor) (now (room .entry)) reading (now (key .entry)) (rated rate) c count m)) n (now (row .exit)) (now (room .exit)) ⌝ }
+    ensures { λ n. ⌜ Faced (shownSet (now (room .entry)) (comparisonOf comparator operand) replacing
+        (λ c m. Set.set Absolute (settings window bucket cache factor) (now (room .entry)) reading (now (key .entry)) (rated rate) c count m)) n
+        (now (row .exit)) (now (room .exit)) ⌝ }
 {
-    let settings = plain::settings(window, bucket, cache, factor);
-    let comparison = plain::comparison_of(comparator, operand);
+    let settings = rows::settings(window, bucket, cache, factor);
+    let comparison = rows::comparison_of(comparator, operand);
     let mode = Mode::Named(HistoryUpdateMode::Replace);
     set(
         RoomKind::Absolute,
@@ -263,11 +274,13 @@ pub extern "C" fn frostaxle_absolute_set_if_preserve_history(
     preservation: u64,
     row: &mut [u64; 5],
 ) -> u64
-    ensures { λ n. ⌜ Faced (shownSet (now (room .entry)) (comparisonOf comparator operand) (preserving preservation) (λ c m. Set.set Absolute (settings window bucket cache factor) (now (room .entry)) reading (now (key .entry)) (rated rate) c count m)) n (now (row .exit)) (now (room .exit)) ⌝ }
+    ensures { λ n. ⌜ Faced (shownSet (now (room .entry)) (comparisonOf comparator operand) (preserving preservation)
+        (λ c m. Set.set Absolute (settings window bucket cache factor) (now (room .entry)) reading (now (key .entry)) (rated rate) c count m)) n
+        (now (row .exit)) (now (room .exit)) ⌝ }
 {
-    let settings = plain::settings(window, bucket, cache, factor);
-    let comparison = plain::comparison_of(comparator, operand);
-    let mode = plain::preserving(preservation);
+    let settings = rows::settings(window, bucket, cache, factor);
+    let comparison = rows::comparison_of(comparator, operand);
+    let mode = rows::preserving(preservation);
     set(
         RoomKind::Absolute,
         settings,
@@ -294,11 +307,12 @@ pub extern "C" fn frostaxle_absolute_cleanup(
     stale: u64,
     row: &mut [u64; 5],
 ) -> u64
-    ensures { λ n. ⌜ Faced (shown doneRow (Cleanup.cleanup Absolute (settings window bucket cache factor) (now (room .entry)) reading stale)) n (now (row .exit)) (now (room .exit)) ⌝ }
+    ensures { λ n. ⌜ Faced (shown doneRow (Cleanup.cleanup Absolute (settings window bucket cache factor) (now (room .entry)) reading stale)) n
+        (now (row .exit)) (now (room .exit)) ⌝ }
 {
-    let settings = plain::settings(window, bucket, cache, factor);
+    let settings = rows::settings(window, bucket, cache, factor);
     let answer = absolute::cleanup(settings, room, reading, stale);
-    plain::give(plain::done_row(answer), row)
+    rows::give(rows::done_row(answer), row)
 }
 
 // ---- the suppressed limiter
@@ -318,11 +332,13 @@ pub extern "C" fn frostaxle_suppressed_inc(
     draw: u64,
     row: &mut [u64; 5],
 ) -> u64
-    ensures { λ n. ⌜ Faced (shown decisionRow (SuppressedCalls.inc (settings window bucket cache factor) (now (room .entry)) reading (now (key .entry)) (rated rate) count draw)) n (now (row .exit)) (now (room .exit)) ⌝ }
+    ensures { λ n. ⌜ Faced (shown decisionRow
+        (SuppressedCalls.inc (settings window bucket cache factor) (now (room .entry)) reading (now (key .entry)) (rated rate) count draw)) n
+        (now (row .exit)) (now (room .exit)) ⌝ }
 {
-    let settings = plain::settings(window, bucket, cache, factor);
+    let settings = rows::settings(window, bucket, cache, factor);
     let answer = suppressed::inc(settings, room, reading, key, RateLimit(rate), count, draw);
-    plain::give(plain::decision_row(answer), row)
+    rows::give(rows::decision_row(answer), row)
 }
 
 // A key's live totals and its factor.
@@ -337,11 +353,12 @@ pub extern "C" fn frostaxle_suppressed_get(
     key: &[u8],
     row: &mut [u64; 5],
 ) -> u64
-    ensures { λ n. ⌜ Faced (shown snapshotRow (SuppressedCalls.get (settings window bucket cache factor) (now (room .entry)) reading (now (key .entry)))) n (now (row .exit)) (now (room .exit)) ⌝ }
+    ensures { λ n. ⌜ Faced (shown snapshotRow (SuppressedCalls.get (settings window bucket cache factor) (now (room .entry)) reading (now (key .entry)))) n
+        (now (row .exit)) (now (room .exit)) ⌝ }
 {
-    let settings = plain::settings(window, bucket, cache, factor);
+    let settings = rows::settings(window, bucket, cache, factor);
     let answer = suppressed::get(settings, room, reading, key);
-    plain::give(plain::snapshot_row(answer), row)
+    rows::give(rows::snapshot_row(answer), row)
 }
 
 // A key's factor, which is cached.
@@ -356,11 +373,12 @@ pub extern "C" fn frostaxle_suppressed_get_suppression_factor(
     key: &[u8],
     row: &mut [u64; 5],
 ) -> u64
-    ensures { λ n. ⌜ Faced (shown factorRow (SuppressedCalls.getFactor (settings window bucket cache factor) (now (room .entry)) reading (now (key .entry)))) n (now (row .exit)) (now (room .exit)) ⌝ }
+    ensures { λ n. ⌜ Faced (shown factorRow (SuppressedCalls.getFactor (settings window bucket cache factor) (now (room .entry)) reading
+        (now (key .entry)))) n (now (row .exit)) (now (room .exit)) ⌝ }
 {
-    let settings = plain::settings(window, bucket, cache, factor);
+    let settings = rows::settings(window, bucket, cache, factor);
     let answer = suppressed::get_suppression_factor(settings, room, reading, key);
-    plain::give(plain::factor_row(answer), row)
+    rows::give(rows::factor_row(answer), row)
 }
 
 #[no_mangle]
@@ -375,11 +393,12 @@ pub extern "C" fn frostaxle_suppressed_set_rate_limit(
     rate: f64,
     row: &mut [u64; 5],
 ) -> u64
-    ensures { λ n. ⌜ Faced (shown oldRateRow (setRateLimit Suppressed (settings window bucket cache factor) (now (room .entry)) reading (now (key .entry)) (rated rate))) n (now (row .exit)) (now (room .exit)) ⌝ }
+    ensures { λ n. ⌜ Faced (shown oldRateRow (setRateLimit Suppressed (settings window bucket cache factor) (now (room .entry)) reading (now (key .entry))
+        (rated rate))) n (now (row .exit)) (now (room .exit)) ⌝ }
 {
-    let settings = plain::settings(window, bucket, cache, factor);
+    let settings = rows::settings(window, bucket, cache, factor);
     let answer = suppressed::set_rate_limit(settings, room, reading, key, RateLimit(rate));
-    plain::give(plain::old_rate_row(answer), row)
+    rows::give(rows::old_rate_row(answer), row)
 }
 
 #[no_mangle]
@@ -393,11 +412,12 @@ pub extern "C" fn frostaxle_suppressed_delete(
     key: &[u8],
     row: &mut [u64; 5],
 ) -> u64
-    ensures { λ n. ⌜ Faced (shown deleteRow (Delete.delete Suppressed (settings window bucket cache factor) (now (room .entry)) reading (now (key .entry)))) n (now (row .exit)) (now (room .exit)) ⌝ }
+    ensures { λ n. ⌜ Faced (shown deleteRow (Delete.delete Suppressed (settings window bucket cache factor) (now (room .entry)) reading
+        (now (key .entry)))) n (now (row .exit)) (now (room .exit)) ⌝ }
 {
-    let settings = plain::settings(window, bucket, cache, factor);
+    let settings = rows::settings(window, bucket, cache, factor);
     let answer = suppressed::delete(settings, room, reading, key);
-    plain::give(plain::delete_row(answer), row)
+    rows::give(rows::delete_row(answer), row)
 }
 
 #[no_mangle]
@@ -410,11 +430,12 @@ pub extern "C" fn frostaxle_suppressed_clear(
     reading: u64,
     row: &mut [u64; 5],
 ) -> u64
-    ensures { λ n. ⌜ Faced (shown doneRow (Clear.clear (settings window bucket cache factor) (now (room .entry)) reading)) n (now (row .exit)) (now (room .exit)) ⌝ }
+    ensures { λ n. ⌜ Faced (shown doneRow (Clear.clear (settings window bucket cache factor) (now (room .entry)) reading)) n (now (row .exit))
+        (now (room .exit)) ⌝ }
 {
-    let settings = plain::settings(window, bucket, cache, factor);
+    let settings = rows::settings(window, bucket, cache, factor);
     let answer = suppressed::clear(settings, room, reading);
-    plain::give(plain::done_row(answer), row)
+    rows::give(rows::done_row(answer), row)
 }
 
 #[no_mangle]
@@ -432,10 +453,12 @@ pub extern "C" fn frostaxle_suppressed_set_if(
     operand: u64,
     row: &mut [u64; 5],
 ) -> u64
-    ensures { λ n. ⌜ Faced (shownSet (now (room .entry)) (comparisonOf comparator operand) replacing (λ c m. Set.set Suppressed (settings window bucket cache factor) (now (room .entry)) reading (now (key .entry)) (rated rate) c count m)) n (now (row .exit)) (now (room .exit)) ⌝ }
+    ensures { λ n. ⌜ Faced (shownSet (now (room .entry)) (comparisonOf comparator operand) replacing
+        (λ c m. Set.set Suppressed (settings window bucket cache factor) (now (room .entry)) reading (now (key .entry)) (rated rate) c count m)) n
+        (now (row .exit)) (now (room .exit)) ⌝ }
 {
-    let settings = plain::settings(window, bucket, cache, factor);
-    let comparison = plain::comparison_of(comparator, operand);
+    let settings = rows::settings(window, bucket, cache, factor);
+    let comparison = rows::comparison_of(comparator, operand);
     let mode = Mode::Named(HistoryUpdateMode::Replace);
     set(
         RoomKind::Suppressed,
@@ -467,11 +490,13 @@ pub extern "C" fn frostaxle_suppressed_set_if_preserve_history(
     preservation: u64,
     row: &mut [u64; 5],
 ) -> u64
-    ensures { λ n. ⌜ Faced (shownSet (now (room .entry)) (comparisonOf comparator operand) (preserving preservation) (λ c m. Set.set Suppressed (settings window bucket cache factor) (now (room .entry)) reading (now (key .entry)) (rated rate) c count m)) n (now (row .exit)) (now (room .exit)) ⌝ }
+    ensures { λ n. ⌜ Faced (shownSet (now (room .entry)) (comparisonOf comparator operand) (preserving preservation)
+        (λ c m. Set.set Suppressed (settings window bucket cache factor) (now (room .entry)) reading (now (key .entry)) (rated rate) c count m)) n
+        (now (row .exit)) (now (room .exit)) ⌝ }
 {
-    let settings = plain::settings(window, bucket, cache, factor);
-    let comparison = plain::comparison_of(comparator, operand);
-    let mode = plain::preserving(preservation);
+    let settings = rows::settings(window, bucket, cache, factor);
+    let comparison = rows::comparison_of(comparator, operand);
+    let mode = rows::preserving(preservation);
     set(
         RoomKind::Suppressed,
         settings,
@@ -498,11 +523,12 @@ pub extern "C" fn frostaxle_suppressed_cleanup(
     stale: u64,
     row: &mut [u64; 5],
 ) -> u64
-    ensures { λ n. ⌜ Faced (shown doneRow (Cleanup.cleanup Suppressed (settings window bucket cache factor) (now (room .entry)) reading stale)) n (now (row .exit)) (now (room .exit)) ⌝ }
+    ensures { λ n. ⌜ Faced (shown doneRow (Cleanup.cleanup Suppressed (settings window bucket cache factor) (now (room .entry)) reading stale)) n
+        (now (row .exit)) (now (room .exit)) ⌝ }
 {
-    let settings = plain::settings(window, bucket, cache, factor);
+    let settings = rows::settings(window, bucket, cache, factor);
     let answer = suppressed::cleanup(settings, room, reading, stale);
-    plain::give(plain::done_row(answer), row)
+    rows::give(rows::done_row(answer), row)
 }
 
 // ---- both rooms
@@ -520,11 +546,12 @@ pub extern "C" fn frostaxle_provider_cleanup(
     stale: u64,
     row: &mut [u64; 5],
 ) -> u64
-    ensures { λ n. ⌜ Faced (shownBoth (Provider.cleanup (settings window bucket cache factor) (now (absolute .entry)) (now (suppressed .entry)) reading stale)) n (now (row .exit)) (now (absolute .exit), now (suppressed .exit)) ⌝ }
+    ensures { λ n. ⌜ Faced (shownBoth (Provider.cleanup (settings window bucket cache factor) (now (absolute .entry))
+        (now (suppressed .entry)) reading stale)) n (now (row .exit)) (now (absolute .exit), now (suppressed .exit)) ⌝ }
 {
-    let settings = plain::settings(window, bucket, cache, factor);
+    let settings = rows::settings(window, bucket, cache, factor);
     let answer = provider::cleanup(settings, absolute, suppressed, reading, stale);
-    plain::give(plain::done_row(answer), row)
+    rows::give(rows::done_row(answer), row)
 }
 
 // ---- the read-out
@@ -538,7 +565,7 @@ fn bucket_row(kind: RoomKind, settings: Settings, room: &[u64], key: &[u8], at: 
     let slot = found.slot;
     let count = found.count;
     if code != 0 {
-        return plain::refused_row(code);
+        return rows::refused_row(code);
     }
     if count <= at {
         return [0, 2, 0, 0, 0];
@@ -560,8 +587,8 @@ pub extern "C" fn frostaxle_absolute_bucket(
 ) -> u64
     ensures { λ n. ⌜ Given (bucketRow Absolute (settings window bucket cache factor) (now (room .entry)) (now (key .entry)) at) n (now (row .exit)) ⌝ }
 {
-    let settings = plain::settings(window, bucket, cache, factor);
-    plain::give(bucket_row(RoomKind::Absolute, settings, room, key, at), row)
+    let settings = rows::settings(window, bucket, cache, factor);
+    rows::give(bucket_row(RoomKind::Absolute, settings, room, key, at), row)
 }
 
 #[no_mangle]
@@ -577,8 +604,8 @@ pub extern "C" fn frostaxle_suppressed_bucket(
 ) -> u64
     ensures { λ n. ⌜ Given (bucketRow Suppressed (settings window bucket cache factor) (now (room .entry)) (now (key .entry)) at) n (now (row .exit)) ⌝ }
 {
-    let settings = plain::settings(window, bucket, cache, factor);
-    plain::give(
+    let settings = rows::settings(window, bucket, cache, factor);
+    rows::give(
         bucket_row(RoomKind::Suppressed, settings, room, key, at),
         row,
     )

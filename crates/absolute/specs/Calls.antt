@@ -1,50 +1,46 @@
--- The absolute limiter's calls: answer and words after, for every input. s are the settings, w the room's words, t the reading.
+-- The absolute limiter's calls: answer and words after, for every input. Refusals and answers are document 01's rules on what the key holds; the words are told
+-- by the edits of the key's slot. s are the settings, w the room's words, t the reading.
 -- Assumes nothing.
-use mathlib.Core.Bool.{Bool}
 use mathlib.Core.List.{List, []}
 use Prim.Native.Nat.{ℕ}
-use Rattle.common.specs.Settings.{windowIn, bucketIn}
-use Rattle.common.specs.declared.settings.Settings.{Settings}
-use Rattle.common.specs.declared.answers.RateLimitDecision.{RateLimitDecision}
-use Rattle.common.specs.declared.answers.RateLimitDecision.the-variants as decision
-use Rattle.common.specs.declared.answers.TotalAnswer.{TotalAnswer}
-use Rattle.common.specs.declared.answers.TotalAnswer.the-variants as total
-use Rattle.common.specs.Limits.{absoluteWord}
-use Rattle.common.specs.Ranges.{rateOk}
+use Rattle.settings.specs.Settings.{bucketIn}
+use Rattle.settings.specs.declared.Settings.{Settings}
+use Rattle.answers.specs.declared.RateLimitDecision.{RateLimitDecision}
+use Rattle.answers.specs.declared.RateLimitDecision.the-variants as decision
+use Rattle.answers.specs.declared.TotalAnswer.{TotalAnswer}
+use Rattle.answers.specs.declared.TotalAnswer.the-variants as total
 use Rattle.common.specs.declared.units.RateLimit.{RateLimit}
-use Rattle.room.specs.Room.{slotsOf, ringOf}
-use Rattle.change.specs.declared.Change.{Change}
+use Rattle.ring.specs.Ring.{counts}
+use Rattle.rules.specs.declared.RoomKind.the-variants.{Absolute}
+use Rattle.rules.specs.Both.{limitIn, liveOf}
+use Rattle.rules.specs.Absolute.{testsAgain, wholeLimit, allowed, decided, outFor, incTurns}
+use Rattle.room.specs.Room.{ringOf}
 use Rattle.change.specs.Words.{applied}
-use Rattle.judge.specs.declared.RoomKind.the-variants.{Absolute}
-use Rattle.judge.specs.declared.Slot.{Slot}
-use Rattle.judge.specs.Verdict.{Verdict, verdict, call}
+use Rattle.judge.specs.Held.{heldIn, noneFree}
 use Rattle.judge.specs.Judge.{slotIn}
-use Rattle.absolute_rules.specs.Rules.{getChange, askChange, decided, clears, place, lacks, incRefusals, incChange}
+use Rattle.judge.specs.Verdict.{Verdict, verdict, call}
+use Rattle.plan.specs.Plan.{placeOf}
+use Rattle.absolute_opened.specs.Opened.{getChange, askChange, incChange}
 
 -- the live total, 0 of an unknown key
 unfoldable pub get : Settings → List ℕ → ℕ → List ℕ → Verdict TotalAnswer
 get s w t key =
+    let x = slotIn s w t key in
     call total.Refused Absolute s w t key []
-    (verdict (total.Total (slotIn s w t key .pass .«live_total»)) (applied w (slotIn s w t key .at) key (bucketIn s) t (getChange (slotIn s w t key))))
+    (verdict (total.Total (counts (liveOf s t (heldIn w key)))) (applied w (x .at) key (bucketIn s) t (getChange x)))
 
 unfoldable pub isAllowed : Settings → List ℕ → ℕ → List ℕ → Verdict RateLimitDecision
 isAllowed s w t key =
+    let h = heldIn w key in
+    let x = slotIn s w t key in
     call decision.Refused Absolute s w t key []
-    (verdict (decided (s .«window_size») t (slotIn s w t key)) (applied w (slotIn s w t key .at) key (bucketIn s) t (askChange (slotIn s w t key))))
+    (verdict (decided s t h) (applied w (x .at) key (bucketIn s) t (askChange (testsAgain (wholeLimit h) (h .buckets)) x)))
 
--- ---- an increment by c at rate, on the key's slot x
-
-abbrev pub outIn : Settings → List ℕ → ℕ → ℕ → Slot → Bool
-outIn s w t c x = clears (ringOf w) (bucketIn s) t c x
-
-abbrev pub incOwn : Settings → List ℕ → ℕ → RateLimit → ℕ → Slot → List (ℕ × Bool)
-incOwn s w t rate c x = incRefusals (ringOf w) (bucketIn s) t c (rateOk (rate .0)) (lacks (slotsOf w) (place w x) x) (outIn s w t c x) x
-
-abbrev pub incMakes : Settings → List ℕ → ℕ → RateLimit → ℕ → Slot → Change
-incMakes s w t rate c x = incChange (absoluteWord (rate .0) (windowIn s)) c (outIn s w t c x) x
-
+-- by c at rate
 unfoldable pub inc : Settings → List ℕ → ℕ → List ℕ → RateLimit → ℕ → Verdict RateLimitDecision
 inc s w t key rate c =
-    call decision.Refused Absolute s w t key (incOwn s w t rate c (slotIn s w t key))
-    (verdict (decided (s .«window_size») t (slotIn s w t key))
-    (applied w (place w (slotIn s w t key)) key (bucketIn s) t (incMakes s w t rate c (slotIn s w t key))))
+    let h = heldIn w key in
+    let x = slotIn s w t key in
+    call decision.Refused Absolute s w t key (incTurns s (ringOf w) (noneFree w) t rate c h)
+    (verdict (decided s t h)
+    (applied w (placeOf w x) key (bucketIn s) t (incChange (limitIn Absolute s rate) c (allowed s t h) (outFor s (ringOf w) t c h) x)))

@@ -1,6 +1,6 @@
 -- What a call that passes refusals 1 to 7 knows of its key's slot in an absolute room, and that each call's change can be carried out.
 -- Assumes nothing.
-use mathlib.Core.Path.{_≡_, refl, sym, ap, subst, _∙_}
+use mathlib.Core.Path.{_≡_, refl, sym, ap, ap₂, subst, _∙_}
 use mathlib.Core.Bool.{Bool, true, false, not, _&&_, cond, false≢true}
 use mathlib.Core.List.{List}
 use Prim.Native.Nat.{ℕ, _+_, _-_, _≤_, _<_}
@@ -9,60 +9,48 @@ use lib.ListN.{length, drop, length-drop}
 use lib.Dec.{leb, ltb}
 use borrow.Author.Tests.{ltb-true, ltb-false, leb-false, lt-ltb, le-ltb}
 use Rattle.base.specs.Decides.{and-true}
+use Rattle.common.specs.Limits.{cutWord}
 use Rattle.common.specs.Refusals.{first, all-false}
-use Rattle.common.specs.Settings.{bucketIn}
-use Rattle.common.specs.declared.settings.Settings.{Settings}
-use Rattle.history.specs.Rules.{newest, joins}
-use Rattle.history.specs.Measured.{newest-drop}
+use Rattle.settings.specs.Settings.{bucketIn}
+use Rattle.settings.specs.declared.Settings.{Settings}
+use Rattle.rules.specs.Buckets.{newest, joins}
+use Rattle.sweep.specs.Measured.{newest-drop}
 use Rattle.ring.specs.declared.Bucket.{Bucket}
-use Rattle.ring.specs.Ring.{mostTotal, counts, sumOf, buckets}
+use Rattle.layout.specs.Layout.{mostTotal}
+use Rattle.ring.specs.Ring.{counts, sumOf, buckets}
 use Rattle.ring.specs.View.{view-length}
 use Rattle.room.specs.Room.{slotsOf, ringOf, bodyOf, vacant}
 use Rattle.change.specs.declared.Change.the-variants.{Keep, Update, Take}
 use Rattle.change.specs.declared.Then.the-variants.{Nothing, Increment}
 use Rattle.change.specs.Words.{Fits, EditsAt, Applies}
-use Rattle.judge.specs.declared.RoomKind.the-variants.{Absolute}
+use Rattle.rules.specs.declared.RoomKind.the-variants.{Absolute}
 use Rattle.judge.specs.declared.Slot.{Slot}
 use Rattle.judge.specs.Sound.{addressed}
 use Rattle.judge.specs.Judge.{Passed, slotIn}
-use Rattle.plan.specs.Plan.{evicting, opening}
+use Rattle.plan.specs.Plan.{placeOf, lacksAt, fullAfter, evicting, opening}
+use Rattle.plan.specs.Seen.{full-after}
 use Rattle.plan.specs.Known.{Known, found, none, series-known, keeping-edits, evicting-edits, opening-edits}
-use Rattle.absolute_rules.specs.Rules.{goneIf, totalIf, leaving, allowed, evicts, over, joinsAfter, full, place, lacks, incRefusals, pickChange, getChange, askChange, incChange}
+use Rattle.rules.specs.Both.{passes, ringFull}
+use Rattle.absolute.specs.Opened.{mayIn}
+use Rattle.absolute.specs.Seen.{has-series}
+use Rattle.absolute_opened.specs.Opened.{goneIf, totalIf, leaving, allowedAt, incRefusals, pickChange, getChange, askChange, incChange}
 
 -- ---- an increment fits where it meets neither 10 nor 12
 
-pub joins-after : (b t k : ℕ) (x : Slot) (xs : List Bucket) → x .pass .buckets ≡ length xs → x .pass .newest ≡ newest xs → joinsAfter b t k x ≡ joins b t (drop k xs)
-unfolding joinsAfter joins
-joins-after b t k x xs n e = go (ltb k (length xs)) refl
-  where
-    go : (y : Bool) → ltb k (length xs) ≡ y → ltb k (x .pass .buckets) && leb (t - x .pass .newest .time) b ≡ ltb 0 (length (drop k xs)) && leb (t - newest (drop k xs) .time) b
-    go true h =
-        let l : k < length xs = ltb-true k (length xs) h in
-        let p : ltb k (x .pass .buckets) ≡ true = ap (ltb k) n ∙ h in
-        let q : ltb 0 (length (drop k xs)) ≡ true = lt-ltb 0 (length (drop k xs)) (omega (arith, length-drop k xs)) in
-        let f : x .pass .newest ≡ newest (drop k xs) = e ∙ sym (newest-drop k xs l) in
-        rw (p, q) (ap (λ (y : Bucket). leb (t - y .time) b) f)
-    go false h =
-        let l : length xs ≤ k = ltb-false k (length xs) h in
-        let p : ltb k (x .pass .buckets) ≡ false = ap (ltb k) n ∙ h in
-        let q : ltb 0 (length (drop k xs)) ≡ false = le-ltb 0 (length (drop k xs)) (omega (arith, length-drop k xs)) in
-        rw (p, q)
-
 pub fits-after : (r b t c k : ℕ) (x : Slot) (xs : List Bucket) → x .pass .buckets ≡ length xs → x .pass .newest ≡ newest xs →
-    over c (counts (drop k xs)) ≡ false → full r b t k x ≡ false → Fits r b t c 0 (drop k xs)
-unfolding over full
-fits-after r b t c k x xs n e o f = record {
-  least = omega arith;
-  total = ltb-false mostTotal (counts (drop k xs) + c) o;
-  free = λ z.
-      let y : joinsAfter b t k x ≡ false = joins-after b t k x xs n e ∙ z in
-      let g : leb r (x .pass .buckets - k) ≡ false = rw y at f in
-      omega (arith, leb-false r (x .pass .buckets - k) g, length-drop k xs);
-}
+    passes c (counts (drop k xs)) ≡ false → fullAfter r b t k x ≡ false → Fits r b t c 0 (drop k xs)
+unfolding passes ringFull
+fits-after r b t c k x xs n e o f =
+    let g : ringFull r b t (drop k xs) ≡ false = sym (full-after r b t k x xs n e) ∙ f in
+    record {
+      least = omega arith;
+      total = ltb-false mostTotal (counts (drop k xs) + c) o;
+      free = λ z. leb-false r (length (drop k xs)) (rw z at g);
+    }
 
-unknown-allowed : (x : Slot) → x .series ≡ false → allowed x ≡ true
-unfolding allowed
-unknown-allowed x e = rw e
+unknown-allowed : (n : ℕ) (x : Slot) → x .series ≡ false → allowedAt n x ≡ true
+unfolding allowedAt
+unknown-allowed n x e = rw e
 
 module _ (s : Settings) (w : List ℕ) (t : ℕ) (key : List ℕ) (p : Passed Absolute s w t key) where
   -- ---- a known key
@@ -94,13 +82,13 @@ module _ (s : Settings) (w : List ℕ) (t : ℕ) (key : List ℕ) (p : Passed Ab
   unfolding getChange
   get-applies = picked-applies (slotIn s w t key .series) (λ e. e)
 
-  pub ask-applies : Applies w (slotIn s w t key .at) (bucketIn s) t (askChange (slotIn s w t key))
-  unfolding askChange
-  ask-applies = picked-applies (slotIn s w t key .series && evicts (slotIn s w t key)) (λ e. and-true (slotIn s w t key .series) _ e .0)
+  pub ask-applies : (again : Bool) → Applies w (slotIn s w t key .at) (bucketIn s) t (askChange again (slotIn s w t key))
+  ask-applies true = get-applies
+  ask-applies false = p .room
 
   -- an increment that is not refused, with the expired buckets out or not
-  pub leaving-applies : (c : ℕ) (out : Bool) → slotIn s w t key .series ≡ true → over c (totalIf out (slotIn s w t key)) ≡ false →
-      full (ringOf w) (bucketIn s) t (goneIf out (slotIn s w t key)) (slotIn s w t key) ≡ false →
+  pub leaving-applies : (c : ℕ) (out : Bool) → slotIn s w t key .series ≡ true → passes c (totalIf out (slotIn s w t key)) ≡ false →
+      fullAfter (ringOf w) (bucketIn s) t (goneIf out (slotIn s w t key)) (slotIn s w t key) ≡ false →
       EditsAt w (addressed w key) (bucketIn s) t (leaving out (slotIn s w t key) (Increment c 0))
   leaving-applies c out e o f = go out o f
     where
@@ -110,39 +98,62 @@ module _ (s : Settings) (w : List ℕ) (t : ℕ) (key : List ℕ) (p : Passed Ab
       n : slotIn s w t key .pass .buckets ≡ length (buckets (ringOf w) (bodyOf w (addressed w key)))
       n = known e .measured .buckets-are ∙ sym (view-length (ringOf w) (bodyOf w (addressed w key)))
 
-      go : (z : Bool) → over c (totalIf z (slotIn s w t key)) ≡ false → full (ringOf w) (bucketIn s) t (goneIf z (slotIn s w t key)) (slotIn s w t key) ≡ false →
+      go : (z : Bool) → passes c (totalIf z (slotIn s w t key)) ≡ false →
+          fullAfter (ringOf w) (bucketIn s) t (goneIf z (slotIn s w t key)) (slotIn s w t key) ≡ false →
           EditsAt w (addressed w key) (bucketIn s) t (leaving z (slotIn s w t key) (Increment c 0))
       go true o f =
           let k = known e in
-          evicting-edits Absolute s w t (addressed w key) (slotIn s w t key) (p .room) k (bucketIn s) (evicting (slotIn s w t key) (Increment c 0)) refl refl refl refl
-          (fits-after (ringOf w) (bucketIn s) t c (slotIn s w t key .pass .expired) (slotIn s w t key) (buckets (ringOf w) (bodyOf w (addressed w key))) n (k .measured .newest-is) (ap (over c) (sym (k .measured .total)) ∙ o) f)
+          evicting-edits Absolute s w t (addressed w key) (slotIn s w t key) (p .room) k (bucketIn s)
+          (evicting (slotIn s w t key) (Increment c 0)) refl refl refl refl
+          (fits-after (ringOf w) (bucketIn s) t c (slotIn s w t key .pass .expired) (slotIn s w t key) (buckets (ringOf w) (bodyOf w (addressed w key))) n
+          (k .measured .newest-is) (ap (passes c) (sym (k .measured .total)) ∙ o) f)
       go false o f =
           let k = known e in
-          keeping-edits Absolute s w t (addressed w key) (slotIn s w t key) (p .room) k (bucketIn s) (leaving false (slotIn s w t key) (Increment c 0)) refl refl refl refl
-          (fits-after (ringOf w) (bucketIn s) t c 0 (slotIn s w t key) (buckets (ringOf w) (bodyOf w (addressed w key))) n (k .measured .newest-is) (ap (over c) (sym (k .total-is ∙ k .now .total)) ∙ o) f)
+          keeping-edits Absolute s w t (addressed w key) (slotIn s w t key) (p .room) k (bucketIn s)
+          (leaving false (slotIn s w t key) (Increment c 0)) refl refl refl refl
+          (fits-after (ringOf w) (bucketIn s) t c 0 (slotIn s w t key) (buckets (ringOf w) (bodyOf w (addressed w key))) n (k .measured .newest-is)
+          (ap (passes c) (sym (k .total-is ∙ k .now .total)) ∙ o) f)
 
   -- an unknown key's series begins
-  pub opening-applies : (limit c total : ℕ) → over c total ≡ false → vacant w < slotsOf w → EditsAt w (vacant w) (bucketIn s) t (opening limit (Increment c 0) 0 0 1)
-  unfolding over sumOf
+  pub opening-applies : (limit c total : ℕ) → passes c total ≡ false → vacant w < slotsOf w →
+      EditsAt w (vacant w) (bucketIn s) t (opening limit (Increment c 0) 0 0 1)
+  unfolding passes sumOf
   opening-applies limit c total o h =
       opening-edits w (vacant w) (p .room) h (bucketIn s) t limit 0 0 1 (Increment c 0)
       (record { least = omega arith; total = omega (arith, ltb-false mostTotal (total + c) o); free = λ z. omega (arith, p .room .some) })
 
-  -- an increment that is not refused
-  pub inc-applies : (limit c : ℕ) (rated out : Bool) →
-      first (incRefusals (ringOf w) (bucketIn s) t c rated (lacks (slotsOf w) (place w (slotIn s w t key)) (slotIn s w t key)) out (slotIn s w t key)) ≡ 0 →
-      Applies w (place w (slotIn s w t key)) (bucketIn s) t (incChange limit c out (slotIn s w t key))
-  unfolding incRefusals incChange place lacks
-  inc-applies limit c rated out h =
+  -- its place: its slot, or a free one
+  place-is : placeOf w (slotIn s w t key) ≡ cond (slotIn s w t key .series) (slotIn s w t key .at) (vacant w)
+  unfolding placeOf
+  place-is = ap (λ (z : Bool). cond z (slotIn s w t key .at) (vacant w)) (has-series s w t key p)
+
+  lacks-as : lacksAt w (placeOf w (slotIn s w t key)) (slotIn s w t key) ≡ not (slotIn s w t key .series) &&
+      leb (slotsOf w) (cond (slotIn s w t key .series) (slotIn s w t key .at) (vacant w))
+  unfolding lacksAt
+  lacks-as = ap₂ (λ (z : Bool) (n : ℕ). not z && leb (slotsOf w) n) (has-series s w t key p) place-is
+
+  -- an increment that is not refused, of a key that may or may not; an unknown one may
+  pub inc-applies : (limit c : ℕ) (rated may out : Bool) → (slotIn s w t key .series ≡ false → may ≡ true) →
+      first (incRefusals (ringOf w) (bucketIn s) t c rated may (lacksAt w (placeOf w (slotIn s w t key)) (slotIn s w t key)) out (slotIn s w t key)) ≡ 0 →
+      Applies w (placeOf w (slotIn s w t key)) (bucketIn s) t (incChange limit c may out (slotIn s w t key))
+  unfolding incRefusals incChange
+  inc-applies limit c rated may out unknown h =
       let f = all-false _ (omega arith) h in
-      go (slotIn s w t key .series) refl (allowed (slotIn s w t key)) refl (f .1 .0) (f .1 .1 .0) (f .1 .1 .1 .0)
+      subst (λ (n : ℕ). Applies w n (bucketIn s) t (incChange limit c may out (slotIn s w t key))) (sym place-is)
+      (go (slotIn s w t key .series) refl may refl (f .1 .0) (sym lacks-as ∙ f .1 .1 .0) (f .1 .1 .1 .0))
     where
-      go : (y : Bool) → slotIn s w t key .series ≡ y → (z : Bool) → allowed (slotIn s w t key) ≡ z →
-          z && over c (totalIf out (slotIn s w t key)) ≡ false → not y && leb (slotsOf w) (cond y (slotIn s w t key .at) (vacant w)) ≡ false →
-          z && full (ringOf w) (bucketIn s) t (goneIf out (slotIn s w t key)) (slotIn s w t key) ≡ false →
+      go : (y : Bool) → slotIn s w t key .series ≡ y → (z : Bool) → may ≡ z →
+          z && passes c (totalIf out (slotIn s w t key)) ≡ false → not y && leb (slotsOf w) (cond y (slotIn s w t key .at) (vacant w)) ≡ false →
+          z && fullAfter (ringOf w) (bucketIn s) t (goneIf out (slotIn s w t key)) (slotIn s w t key) ≡ false →
           Applies w (cond y (slotIn s w t key .at) (vacant w)) (bucketIn s) t
-          (pickChange y (pickChange z (Update (leaving out (slotIn s w t key) (Increment c 0))) (Update (evicting (slotIn s w t key) Nothing))) (Take (opening limit (Increment c 0) 0 0 1)))
-      go true e true a o l f = subst (λ (n : ℕ). EditsAt w n (bucketIn s) t (leaving out (slotIn s w t key) (Increment c 0))) (sym (known e .at-is)) (leaving-applies c out e o f)
+          (pickChange y (pickChange z (Update (leaving out (slotIn s w t key) (Increment c 0))) (Update (evicting (slotIn s w t key) Nothing)))
+          (Take (opening limit (Increment c 0) 0 0 1)))
+      go true e true a o l f = subst (λ (n : ℕ). EditsAt w n (bucketIn s) t (leaving out (slotIn s w t key) (Increment c 0))) (sym (known e .at-is))
+          (leaving-applies c out e o f)
       go true e false a o l f = evict-applies e
       go false e true a o l f = opening-applies limit c (totalIf out (slotIn s w t key)) o (leb-false (slotsOf w) (vacant w) l)
-      go false e false a o l f = absurd (false≢true (sym a ∙ unknown-allowed (slotIn s w t key) e))
+      go false e false a o l f = absurd (false≢true (sym a ∙ unknown e))
+
+  -- by the rule
+  pub may-unknown : slotIn s w t key .series ≡ false → mayIn (slotIn s w t key) ≡ true
+  may-unknown e = unknown-allowed (cutWord (slotIn s w t key .limit)) (slotIn s w t key) e

@@ -5,28 +5,29 @@ ghost use Rattle.calls.specs.Delete as Delete;
 ghost use Rattle.calls.specs.Rate.{setRateLimit};
 ghost use Rattle.calls.specs.Set as Set;
 ghost use Rattle.cleanup.specs.Cleanup as Cleanup;
-ghost use Rattle.common.specs.declared.history_mode.HistoryUpdateMode.the-variants.{Replace, Preserve};
-ghost use Rattle.judge.specs.declared.RoomKind.the-variants.{Absolute};
+ghost use Rattle.answers.specs.declared.HistoryUpdateMode.the-variants.{Replace, Preserve};
+ghost use Rattle.rules.specs.declared.RoomKind.the-variants.{Absolute};
 ghost use Rattle.absolute.specs.Calls as Calls;
-use absolute_rules::ask_change;
-use absolute_rules::clears;
-use absolute_rules::decided;
-use absolute_rules::get_change;
-use absolute_rules::inc_change;
-use absolute_rules::late;
-use absolute_rules::place;
-use common::DeleteAnswer;
-use common::DoneAnswer;
-use common::HistoryPreservation;
-use common::HistoryUpdateMode;
-use common::OldRateAnswer;
+use absolute_opened::allows;
+use absolute_opened::ask_change;
+use absolute_opened::clears;
+use absolute_opened::decided;
+use absolute_opened::evicts;
+use absolute_opened::get_change;
+use absolute_opened::inc_change;
+use absolute_opened::late;
+use answers::DeleteAnswer;
+use answers::DoneAnswer;
+use answers::HistoryPreservation;
+use answers::HistoryUpdateMode;
+use answers::OldRateAnswer;
+use answers::RateLimitDecision;
+use answers::SetAnswer;
+use answers::TotalAnswer;
 use common::RateLimit;
 use common::RateLimitComparator;
-use common::RateLimitDecision;
-use common::SetAnswer;
-use common::Settings;
-use common::TotalAnswer;
-use judge::RoomKind;
+use rules::RoomKind;
+use settings::Settings;
 
 // A key's live total.
 pub fn get(settings: Settings, room: &mut [u64], reading: u64, key: &[u8]) -> TotalAnswer
@@ -61,8 +62,10 @@ pub fn is_allowed(
         return RateLimitDecision::Refused(code);
     }
     let x = j.slot;
-    let answer = decided(window, reading, x);
-    change::apply(room, x.at, key, bucket.0, reading, ask_change(x));
+    let limit = common::cut_limit(x.limit);
+    let answer = decided(window, reading, allows(limit, x), x);
+    let again = evicts(limit, x);
+    change::apply(room, x.at, key, bucket.0, reading, ask_change(again, x));
     answer
 }
 
@@ -85,21 +88,17 @@ pub fn inc(
         return RateLimitDecision::Refused(code);
     }
     let x = j.slot;
-    let at = place(room, x);
-    let out = clears(room, bucket.0, reading, count, x);
-    let number = late(room, bucket.0, reading, rate, count, at, out, x);
+    let at = plan::place(room, x);
+    let limit = common::cut_limit(x.limit);
+    let may = allows(limit, x);
+    let out = clears(room, limit, bucket.0, reading, count, x);
+    let number = late(room, bucket.0, reading, rate, count, at, may, out, x);
     if number != 0 {
         return RateLimitDecision::Refused(number);
     }
-    let answer = decided(window, reading, x);
-    change::apply(
-        room,
-        at,
-        key,
-        bucket.0,
-        reading,
-        inc_change(rate, window, count, out, x),
-    );
+    let answer = decided(window, reading, may, x);
+    let change = inc_change(rate, window, count, may, out, x);
+    change::apply(room, at, key, bucket.0, reading, change);
     answer
 }
 
@@ -163,7 +162,8 @@ pub fn set_if_preserve_history(
     count: u64,
     preservation: HistoryPreservation,
 ) -> SetAnswer
-    ensures { λ r. ⌜ Told (Set.set Absolute settings (now (room .entry)) reading (now (key .entry)) rate comparator count (Preserve preservation)) r (now (room .exit)) ⌝ }
+    ensures { λ r. ⌜ Told (Set.set Absolute settings (now (room .entry)) reading (now (key .entry)) rate comparator count (Preserve preservation)) r
+        (now (room .exit)) ⌝ }
 {
     calls::set(
         RoomKind::Absolute,

@@ -1,3 +1,2 @@
-pub mod Answers
-pub mod Printing
-pub mod HexLaws
+pub mod HistoryMode
+pub mod Rows

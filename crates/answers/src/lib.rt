@@ -1,164 +1,98 @@
-// The line that the program `desk` prints for a call, written into a lent slice. A line stands here without its newline.
+// What the calls answer, and how a set treats a key's buckets. Each answer may be a refusal with its number; `specs/Rows.antt`
+// gives each one's number and values.
 ghost use mathlib.Core.Path.{_≡_};
-ghost use Prim.Native.Nat.{_+_, _≤_, _<_};
-ghost use mathlib.Core.List.{_++_};
-ghost use lib.ListN.{length};
-ghost use Rattle.lines.specs.Numbers.{showNumber};
-ghost use Rattle.lines.specs.Shown.{factorText};
-ghost use Rattle.answers.specs.Answers.{showField, answerText, showHex16, hexDigit, hexDigits, showVerdict, showCounts, longest};
-ghost use Rattle.answers.specs.Printing.{Put, PutField, PutFour, Printed};
+ghost use Rattle.answers.specs.HistoryMode.{noSnapshot};
+use common::RateLimit;
+use common::WindowSize;
 
-// The words of an answer.
-pub enum Answer {
-    Allowed,
-    Rejected,
-    Yes,
-    No,
-    Value,
-    Refused,
+// Which end of the buckets stays when a set changes the total.
+pub enum HistoryPreservation {
+    PreserveNewest,
+    PreserveOldest,
 }
 
-// What a line says. `factor` is the factor's bits.
-pub struct AnswerLine {
-    pub t: u64,
-    pub code: u64,
-    pub answer: Answer,
-    pub factor: u64,
-    pub wait: u64,
-    pub left: u64,
+pub enum HistoryUpdateMode {
+    Replace,
+    Preserve(HistoryPreservation),
+}
+
+// Whether the comparator was met, and the live totals before and after.
+pub struct ConditionalSetOutcome {
+    pub matched: bool,
+    pub previous_total: u64,
+    pub current_total: u64,
+}
+
+pub struct SuppressedRateLimitSnapshot {
     pub total: u64,
-    pub declined: u64,
+    pub total_declined: u64,
+    pub suppression_factor: f64,
 }
 
-// Each `put` writes its bytes from `at` on and answers the place past them.
-fn put_text(out: &mut [u8], at: usize, text: &[u8]) -> usize
-    requires { ⌜ at + length (now text) ≤ length (now out) ⌝ }
-    ensures { λ r. ⌜ Put (now (out .entry)) at (now (text .entry)) (now (out .exit)) r ⌝ }
-{
-    let mut i = 0;
-    let mut o = at;
-    while i < text.len() {
-        out[o] = text[i];
-        o += 1;
-        i += 1;
-    }
-    o
-}
-
-fn decimal_digit(d: u64) -> u8
-    requires { ⌜ d < 10 ⌝ }
-    ensures { λ r. ⌜ r ≡ 48 + d ⌝ }
-{
-    b'0' + (d as u8)
-}
-
-fn put_number(out: &mut [u8], at: usize, n: u64) -> usize
-    requires { ⌜ at + length (showNumber n) ≤ length (now out) ⌝ }
-    ensures { λ r. ⌜ Put (now (out .entry)) at (showNumber n) (now (out .exit)) r ⌝ }
-{
-    if n < 10 {
-        out[at] = decimal_digit(n);
-        return at + 1;
-    }
-    let next = put_number(out, at, n / 10);
-    out[next] = decimal_digit(n % 10);
-    next + 1
-}
-
-fn hex_digit(d: u64) -> u8
-    requires { ⌜ d < 16 ⌝ }
-    ensures { λ r. ⌜ r ≡ hexDigit d ⌝ }
-{
-    if d < 10 {
-        b'0' + (d as u8)
-    } else {
-        b'a' - 10 + (d as u8)
+impl SuppressedRateLimitSnapshot {
+    pub fn default() -> Self
+        ensures { λ r. ⌜ r ≡ noSnapshot ⌝ }
+    {
+        SuppressedRateLimitSnapshot {
+            total: 0,
+            total_declined: 0,
+            suppression_factor: 0.0,
+        }
     }
 }
 
-// The `count` lowest hex digits of a word.
-fn put_hex(out: &mut [u8], at: usize, word: u64, count: usize) -> usize
-    requires { ⌜ at + count ≤ length (now out) ⌝ }
-    ensures { λ r. ⌜ Put (now (out .entry)) at (hexDigits count word) (now (out .exit)) r ⌝ }
-{
-    if count == 0 {
-        return at;
-    }
-    let next = put_hex(out, at, word / 16, count - 1);
-    out[next] = hex_digit(word % 16);
-    next + 1
+// An increment, and whether a key is allowed. `retry_after` is in milliseconds.
+pub enum RateLimitDecision {
+    Allowed,
+    Rejected {
+        window_size: WindowSize,
+        retry_after: u64,
+        remaining_after_waiting: u64,
+    },
+    Suppressed {
+        suppression_factor: f64,
+        is_allowed: bool,
+    },
+    Refused(u64),
 }
 
-fn put_field(out: &mut [u8], at: usize, text: &[u8], n: u64) -> usize
-    requires { ⌜ (length (now text) ≤ 10) × (at + 30 ≤ length (now out)) ⌝ }
-    ensures { λ r. ⌜ PutField (now (out .entry)) at (showField (now (text .entry)) n) (now (out .exit)) r ⌝ }
-{
-    let next = put_text(out, at, text);
-    put_number(out, next, n)
+// A live total.
+pub enum TotalAnswer {
+    Total(u64),
+    Refused(u64),
 }
 
-fn put_answer(out: &mut [u8], at: usize, answer: Answer) -> usize
-    requires { ⌜ at + 30 ≤ length (now out) ⌝ }
-    ensures { λ r. ⌜ PutField (now (out .entry)) at (answerText answer) (now (out .exit)) r ⌝ }
-{
-    match answer {
-        Answer::Allowed => put_text(out, at, b" answer=allowed"),
-        Answer::Rejected => put_text(out, at, b" answer=rejected"),
-        Answer::Yes => put_text(out, at, b" answer=yes"),
-        Answer::No => put_text(out, at, b" answer=no"),
-        Answer::Value => put_text(out, at, b" answer=value"),
-        Answer::Refused => put_text(out, at, b" answer=refused"),
-    }
+pub enum SnapshotAnswer {
+    Snapshot(SuppressedRateLimitSnapshot),
+    Refused(u64),
 }
 
-fn put_factor(out: &mut [u8], at: usize, factor: u64) -> usize
-    requires { ⌜ at + 30 ≤ length (now out) ⌝ }
-    ensures { λ r. ⌜ PutField (now (out .entry)) at (factorText ++ showHex16 factor) (now (out .exit)) r ⌝ }
-{
-    let next = put_text(out, at, b" factor=");
-    put_hex(out, next, factor, 16)
+pub enum FactorAnswer {
+    Factor(f64),
+    Refused(u64),
 }
 
-// The first four fields.
-fn put_verdict(out: &mut [u8], t: u64, code: u64, answer: Answer, factor: u64) -> usize
-    requires { ⌜ longest ≤ length (now out) ⌝ }
-    ensures { λ r. ⌜ PutFour (now (out .entry)) 0 (showVerdict t code answer factor) (now (out .exit)) r ⌝ }
-{
-    let a = put_field(out, 0, b"t=", t);
-    let b = put_field(out, a, b" code=", code);
-    let c = put_answer(out, b, answer);
-    put_factor(out, c, factor)
+// Setting a rate: the one before, of a known key.
+pub enum OldRateAnswer {
+    Was(RateLimit),
+    Unknown,
+    Refused(u64),
 }
 
-// The last four.
-fn put_counts(out: &mut [u8], at: usize, wait: u64, left: u64, total: u64, declined: u64) -> usize
-    requires { ⌜ at + 120 ≤ length (now out) ⌝ }
-    ensures { λ r. ⌜ PutFour (now (out .entry)) at (showCounts wait left total declined) (now (out .exit)) r ⌝ }
-{
-    let a = put_field(out, at, b" wait=", wait);
-    let b = put_field(out, a, b" left=", left);
-    let c = put_field(out, b, b" total=", total);
-    put_field(out, c, b" declined=", declined)
+// A delete: what the key had.
+pub enum DeleteAnswer {
+    Deleted(u64),
+    Unknown,
+    Refused(u64),
 }
 
-// Room enough for any line.
-pub const LONGEST: usize = 240;
+pub enum SetAnswer {
+    Set(ConditionalSetOutcome),
+    Refused(u64),
+}
 
-// Writes the line at the start of `out` and answers its length; into less than `LONGEST` bytes it writes nothing and answers 0.
-pub fn print(line: AnswerLine, out: &mut [u8]) -> usize
-    ensures { λ r. ⌜ Printed line (now (out .entry)) (now (out .exit)) r ⌝ }
-{
-    if out.len() < LONGEST {
-        return 0;
-    }
-    let t = line.t;
-    let code = line.code;
-    let answer = line.answer;
-    let factor = line.factor;
-    let wait = line.wait;
-    let left = line.left;
-    let total = line.total;
-    let declined = line.declined;
-    let next = put_verdict(out, t, code, answer, factor);
-    put_counts(out, next, wait, left, total, declined)
+// Clear and cleanup.
+pub enum DoneAnswer {
+    Done,
+    Refused(u64),
 }

@@ -8,12 +8,12 @@ use Prim.Native.Nat.{ℕ, _<_}
 use lib.Dec.{ltb}
 use borrow.Author.Tests.{ltb-true, ltb-false}
 use Rattle.common.specs.Refusals.{first}
-use Rattle.common.specs.Settings.{bucketIn}
-use Rattle.common.specs.declared.settings.Settings.{Settings}
+use Rattle.settings.specs.Settings.{bucketIn}
+use Rattle.settings.specs.declared.Settings.{Settings}
 use Rattle.room.specs.Room.{slotsOf}
 use Rattle.change.specs.declared.Change.{Change}
 use Rattle.change.specs.Words.{Applies}
-use Rattle.judge.specs.declared.RoomKind.{RoomKind}
+use Rattle.rules.specs.declared.RoomKind.{RoomKind}
 use Rattle.judge.specs.declared.Judged.{Judged}
 use Rattle.judge.specs.declared.Slot.{Slot}
 use Rattle.judge.specs.Sound.{addressed}
@@ -38,7 +38,8 @@ module _ (kind : RoomKind) (s : Settings) (w : List ℕ) (t : ℕ) (key : List �
   judged-slot h = ap (λ (y : Judged). y .slot) e ∙ slot-is kind s w t key (sym judged-code ∙ h)
 
   -- a change that applies at the key's slot
-  pub judged-applies : (change : Slot → Change) → j .code ≡ 0 → Applies w (slotIn s w t key .at) (bucketIn s) t (change (slotIn s w t key)) → Applies w (j .slot .at) (bucketIn s) t (change (j .slot))
+  pub judged-applies : (change : Slot → Change) → j .code ≡ 0 → Applies w (slotIn s w t key .at) (bucketIn s) t (change (slotIn s w t key)) →
+      Applies w (j .slot .at) (bucketIn s) t (change (j .slot))
   judged-applies change h a = subst (λ (x : Slot). Applies w (x .at) (bucketIn s) t (change x)) (sym (judged-slot h)) a
 
   module _ {A : Type 0} (turned : ℕ → A) (own : Slot → List (ℕ × Bool)) (does : Slot → Verdict A) where
@@ -47,9 +48,11 @@ module _ (kind : RoomKind) (s : Settings) (w : List ℕ) (t : ℕ) (key : List �
 
     pub judged-own : (n : ℕ) → j .code ≡ 0 → n ≡ first (own (j .slot)) → (n ≡ 0 → ⊥) → Told (calls turned kind s w t key own does) (turned n) w
     judged-own n h f z =
-        call-own turned kind s w t key (own (slotIn s w t key)) (does (slotIn s w t key)) n (sym judged-code ∙ h) (f ∙ ap (λ (x : Slot). first (own x)) (judged-slot h)) z
+        call-own turned kind s w t key (own (slotIn s w t key)) (does (slotIn s w t key)) n (sym judged-code ∙ h)
+        (f ∙ ap (λ (x : Slot). first (own x)) (judged-slot h)) z
 
-    pub judged-done : (r : A) (x : List ℕ) → j .code ≡ 0 → first (own (j .slot)) ≡ 0 → Told (does (j .slot)) r x → Told (calls turned kind s w t key own does) r x
+    pub judged-done : (r : A) (x : List ℕ) → j .code ≡ 0 → first (own (j .slot)) ≡ 0 → Told (does (j .slot)) r x →
+        Told (calls turned kind s w t key own does) r x
     judged-done r x h f o =
         let q = judged-slot h in
         call-done turned kind s w t key (own (slotIn s w t key)) (does (slotIn s w t key)) r x (sym judged-code ∙ h)

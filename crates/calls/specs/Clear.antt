@@ -8,14 +8,14 @@ use native.Mathlib.Omega.{arith}
 use lib.Dec.{ltb, eqb}
 use borrow.Author.Tests.{lt-ltb, le-ltb, eqb-true, eqb-false, not-false}
 use Rattle.common.specs.Refusals.{first, first-found, first-none, all-false}
-use Rattle.common.specs.Settings.{faults}
-use Rattle.common.specs.declared.settings.Settings.{Settings}
-use Rattle.common.specs.declared.answers.DoneAnswer.{DoneAnswer}
-use Rattle.common.specs.declared.answers.DoneAnswer.the-variants.{Done, Refused}
+use Rattle.settings.specs.Settings.{faults}
+use Rattle.settings.specs.declared.Settings.{Settings}
+use Rattle.answers.specs.declared.DoneAnswer.{DoneAnswer}
+use Rattle.answers.specs.declared.DoneAnswer.the-variants.{Done, Refused}
 use Rattle.room.specs.Room.{Room, sized, lastOf, withReading, cleared}
 use Rattle.room.specs.Laws.{room-sized, sized-room}
 use Rattle.judge.specs.Laws.{faults-positive}
-use Rattle.judge.specs.Verdict.{Verdict, verdict, judge, Told, told-turned, told-done}
+use Rattle.judge.specs.Verdict.{Verdict, verdict, unlessRefused, Told, told-turned, told-done}
 
 -- "clear judges lengths only"; 6: "the reading is below the last of a call not refused"
 unfoldable pub unclear : List ℕ → ℕ → List (ℕ × Bool)
@@ -26,7 +26,7 @@ clearRefusal s w t = first (faults s ++ unclear w t)
 
 -- every slot is free then, and no other word changes but the last reading
 abbrev pub clear : Settings → List ℕ → ℕ → Verdict DoneAnswer
-clear s w t = judge Refused (clearRefusal s w t) w (verdict Done (withReading (cleared w) t))
+clear s w t = unlessRefused Refused (clearRefusal s w t) w (verdict Done (withReading (cleared w) t))
 
 -- ---- its number
 
@@ -61,7 +61,8 @@ module _ (s : Settings) (w : List ℕ) (t : ℕ) where
   -- ---- what it is told
   pub clear-refused : (n : ℕ) → n ≡ clearRefusal s w t → (n ≡ 0 → ⊥) → Told (clear s w t) (Refused n) w
   clear-refused n e z =
-      subst (λ (m : ℕ). Told (judge Refused m w (verdict Done (withReading (cleared w) t))) (Refused n) w) e (told-turned Refused n w (verdict Done (withReading (cleared w) t)) z)
+      subst (λ (m : ℕ). Told (unlessRefused Refused m w (verdict Done (withReading (cleared w) t))) (Refused n) w) e
+      (told-turned Refused n w (verdict Done (withReading (cleared w) t)) z)
 
   pub clear-done : (x : List ℕ) → clearRefusal s w t ≡ 0 → x ≡ withReading (cleared w) t → Told (clear s w t) Done x
   clear-done x e p = told-done Refused (clearRefusal s w t) w (verdict Done (withReading (cleared w) t)) Done x e (record { answer = refl; words = p })

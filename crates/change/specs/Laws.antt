@@ -1,31 +1,33 @@
 -- A change that fits leaves a sound body with the buckets that the rules say, and its other words; and the room with it.
 -- Assumes nothing.
-use mathlib.Core.Path.{_≡_, refl, sym, ap, subst, _∙_}
-use mathlib.Core.Bool.{Bool, true, false, cond, false≢true}
+use mathlib.Core.Path.{_≡_, refl, sym, ap, _∙_}
+use mathlib.Core.Bool.{Bool, true, false, cond}
 use mathlib.Core.List.{List, [], _∷_}
-use Prim.Native.Nat.{ℕ, suc, _+_, _*_, _≤_, _<_}
+use Prim.Native.Nat.{ℕ, _+_, _*_, _≤_, _<_}
 use native.Mathlib.Omega.{arith}
 use lib.ListN.{length, getD, drop}
-use Rattle.base.specs.Writes.{writes, length-writes, read-past, read-first, read-nth}
-use Rattle.history.specs.Rules.{joins, joined}
-use Rattle.history.specs.Words.{Takes, Sets}
+use Rattle.base.specs.Writes.{writes, length-writes, read-past, read-first}
+use Rattle.rules.specs.Buckets.{joins}
+use Rattle.history.specs.Words.{Takes}
 use Rattle.history.specs.Changes.{Became, became, evict-became, increment-became, replace-became}
 use Rattle.history.specs.Preserves.{preserve-became}
 use Rattle.ring.specs.declared.Bucket.{Bucket}
-use Rattle.ring.specs.Ring.{countOf, counts, declineds, sumOf, noBucket, wrap, cellOf, bucketAt, mostTotal, mostRing, sizeOf, totalOf, declinedOf, headOf, lenOf, buckets, without, Shape, Leaves}
+use Rattle.layout.specs.Layout.{limitAt, factorAt, factorTimeAt, fixedWords, mostRing, sizeOf}
+use Rattle.ring.specs.Ring.{countOf, counts, sumOf, wrap, cellOf, bucketAt, totalOf, declinedOf, headOf, lenOf, buckets, without}
 use Rattle.ring.specs.Sums.{sum-none}
 use Rattle.ring.specs.View.{view-length, view-at, view-is, bucket-past}
-use Rattle.ring.specs.Holds.{Holds, Beside, beside-all, beside-on}
+use Rattle.ring.specs.Holds.{Holds, Beside, beside-all}
 use Rattle.ring.specs.Sound.{Sound, sound-holds, holds-sound}
-use Rattle.room.specs.Room.{Room, slotsOf, ringOf, bodyOf, withBody, withUse, withReading, entered, keyOf, keyAt, useOf, lastOf, size}
+use Rattle.room.specs.Room.{Room, ringOf, bodyOf, keyOf, keyAt, useOf, lastOf}
 use Rattle.room.specs.Laws.{body-length}
-use Rattle.frame.specs.Frame.{Changed, body-change, put-use, put-entry, put-reading, use-run, unchanged, inside-after}
+use Rattle.frame.specs.Frame.{Changed, body-change, put-use, put-entry, unchanged}
 use Rattle.change.specs.declared.Then.{Then}
 use Rattle.change.specs.declared.Then.the-variants.{Nothing, Increment, Replace, Preserve}
 use Rattle.change.specs.declared.Edit.{Edit}
 use Rattle.change.specs.declared.Change.{Change}
 use Rattle.change.specs.declared.Change.the-variants.{Keep, Free, Update, Take}
-use Rattle.change.specs.Words.{Applies, carried, begun, started, acted, fixed, edited, withEdit, updated, taken, Starts, Acts, startedView, actedView, editedView, Fits, ActsOn, Stays, Edits, EditsAt}
+use Rattle.change.specs.Words.{Applies, carried, begun, started, acted, fixed, edited, withEdit, updated, taken, Starts, Acts, startedView, actedView}
+use Rattle.change.specs.Words.{editedView, Fits, ActsOn, Edits, EditsAt}
 
 -- ---- the buckets that stay
 
@@ -35,7 +37,8 @@ begins-holds r b long one small =
     let w0 : List ℕ = writes b ((1, 0) ∷ (2, 0) ∷ (3, 0) ∷ (4, 0) ∷ []) in
     let l : length w0 ≡ length b = length-writes ((1, 0) ∷ (2, 0) ∷ (3, 0) ∷ (4, 0) ∷ []) b in
     let n : lenOf w0 ≡ 0 = read-first [] (writes b ((1, 0) ∷ (2, 0) ∷ (3, 0) ∷ [])) 4 0 (omega (arith, length-writes ((1, 0) ∷ (2, 0) ∷ (3, 0) ∷ []) b)) tt in
-    let h : headOf w0 ≡ 0 = read-first ((4, 0) ∷ []) (writes b ((1, 0) ∷ (2, 0) ∷ [])) 3 0 (omega (arith, length-writes ((1, 0) ∷ (2, 0) ∷ []) b)) (omega arith) in
+    let h : headOf w0 ≡ 0 = read-first ((4, 0) ∷ []) (writes b ((1, 0) ∷ (2, 0) ∷ [])) 3 0 (omega (arith, length-writes ((1, 0) ∷ (2, 0) ∷ []) b))
+    (omega arith) in
     let d : declinedOf w0 ≡ 0 = read-first ((3, 0) ∷ (4, 0) ∷ []) (writes b ((1, 0) ∷ [])) 2 0 (omega (arith, length-writes ((1, 0) ∷ []) b)) (omega arith) in
     let t : totalOf w0 ≡ 0 = read-first ((2, 0) ∷ (3, 0) ∷ (4, 0) ∷ []) b 1 0 (omega arith) (omega arith) in
     record {
@@ -49,7 +52,12 @@ begins-beside : (b : List ℕ) → Beside b (begun b)
 unfolding begun
 begins-beside b =
     let ws : List (ℕ × ℕ) = (1, 0) ∷ (2, 0) ∷ (3, 0) ∷ (4, 0) ∷ [] in
-    record { long = length-writes ws b; limit = read-past ws b 0 (omega arith); factor = read-past ws b 5 (omega arith); since = read-past ws b 6 (omega arith) }
+    record {
+      long = length-writes ws b;
+      limit = read-past ws b 0 (omega arith);
+      factor = read-past ws b 5 (omega arith);
+      since = read-past ws b 6 (omega arith);
+    }
 
 module _ (r s t : ℕ) (b : List ℕ) (e : Edit) (h : Edits r s t b e) where
   pub started-became : Became r b t (started r b e) (startedView e (buckets r b))
@@ -86,32 +94,29 @@ acted-became r s t (Preserve p n) b o a = preserve-became p r b t n a
 -- ---- the words that buckets do not use
 
 module _ (b : List ℕ) (l f u : ℕ) where
-  fixes : List (ℕ × ℕ)
-  fixes = (0, l) ∷ (5, f) ∷ (6, u) ∷ []
-
   pub fixed-word : (j : ℕ) → 0 < j → j < 5 → getD (fixed b l f u) j 0 ≡ getD b j 0
   unfolding fixed
-  fixed-word j p q = read-past ((0, l) ∷ (5, f) ∷ (6, u) ∷ []) b j (omega arith)
+  fixed-word j p q = read-past ((limitAt, l) ∷ (factorAt, f) ∷ (factorTimeAt, u) ∷ []) b j (omega arith)
 
   pub fixed-length : length (fixed b l f u) ≡ length b
   unfolding fixed
-  fixed-length = length-writes ((0, l) ∷ (5, f) ∷ (6, u) ∷ []) b
+  fixed-length = length-writes ((limitAt, l) ∷ (factorAt, f) ∷ (factorTimeAt, u) ∷ []) b
 
-  pub fixed-limit : 7 ≤ length b → getD (fixed b l f u) 0 0 ≡ l
+  pub fixed-limit : fixedWords ≤ length b → getD (fixed b l f u) limitAt 0 ≡ l
   unfolding fixed
   fixed-limit h = read-first ((5, f) ∷ (6, u) ∷ []) b 0 l (omega arith) (omega arith)
 
-  pub fixed-factor : 7 ≤ length b → getD (fixed b l f u) 5 0 ≡ f
+  pub fixed-factor : fixedWords ≤ length b → getD (fixed b l f u) factorAt 0 ≡ f
   unfolding fixed
   fixed-factor h = read-first ((6, u) ∷ []) (writes b ((0, l) ∷ [])) 5 f (omega (arith, length-writes ((0, l) ∷ []) b)) (omega arith)
 
-  pub fixed-time : 7 ≤ length b → getD (fixed b l f u) 6 0 ≡ u
+  pub fixed-time : fixedWords ≤ length b → getD (fixed b l f u) factorTimeAt 0 ≡ u
   unfolding fixed
   fixed-time h = read-first [] (writes b ((0, l) ∷ (5, f) ∷ [])) 6 u (omega (arith, length-writes ((0, l) ∷ (5, f) ∷ []) b)) tt
 
-  fixed-cell : (w : ℕ) → 7 ≤ w → bucketAt (fixed b l f u) w ≡ bucketAt b w
+  fixed-cell : (w : ℕ) → fixedWords ≤ w → bucketAt (fixed b l f u) w ≡ bucketAt b w
   unfolding fixed
-  fixed-cell w h = bucket-past ((0, l) ∷ (5, f) ∷ (6, u) ∷ []) b w (omega arith) (omega arith) (omega arith)
+  fixed-cell w h = bucket-past ((limitAt, l) ∷ (factorAt, f) ∷ (factorTimeAt, u) ∷ []) b w (omega arith) (omega arith) (omega arith)
 
   fixed-view : (r : ℕ) → buckets r (fixed b l f u) ≡ buckets r b
   fixed-view r =
@@ -123,7 +128,13 @@ module _ (b : List ℕ) (l f u : ℕ) where
 
   pub fixed-holds : (r : ℕ) (xs : List Bucket) → Holds r b xs → Holds r (fixed b l f u) xs
   fixed-holds r xs h = record {
-    shape = record { small = h .shape .small; long = fixed-length ∙ h .shape .long; head = omega (arith, fixed-word 3 (omega arith) (omega arith), h .shape .head); len = omega (arith, fixed-word 4 (omega arith) (omega arith), h .shape .len) };
+    shape = record {
+      small = h .shape .small;
+      long = fixed-length ∙ h .shape .long;
+      head = omega (arith, fixed-word 3 (omega arith) (omega arith), h .shape .head);
+      len =
+          omega (arith, fixed-word 4 (omega arith) (omega arith), h .shape .len);
+    };
     view = fixed-view r ∙ h .view;
     total = fixed-word 1 (omega arith) (omega arith) ∙ h .total;
     declined = fixed-word 2 (omega arith) (omega arith) ∙ h .declined;
@@ -144,7 +155,11 @@ pub record Edited (r s t : ℕ) (b : List ℕ) (e : Edit) (v : List ℕ) : Type 
 
 module _ (r s t : ℕ) (b : List ℕ) (e : Edit) (h : Edits r s t b e) where
   pub edit-starts : Starts r b e
-  edit-starts = record { long = h .long; leaves = λ p. let y = h .stays p in record { shape = y .sound .shape; some = y .some; count = y .total; denied = y .declined } }
+  edit-starts = record {
+    long = h .long;
+    leaves = λ p. let y = h .stays p in
+        record { shape = y .sound .shape; some = y .some; count = y .total; denied = y .declined };
+  }
 
   pub edit-acts : Acts r s t (started r b e) (e .then)
   edit-acts = let o = started-became r s t b e h in acts-fit r s t (e .then) (started r b e) (startedView e (buckets r b)) (o .sound) (o .holds .view) (h .acts)
@@ -156,7 +171,7 @@ module _ (r s t : ℕ) (b : List ℕ) (e : Edit) (h : Edits r s t b e) where
       let a = acted-became r s t (e .then) (started r b e) (o .sound) edit-acts in
       let v = acted r s t (e .then) (started r b e) in
       let k : length v ≡ length b = a .beside .long ∙ o .beside .long in
-      let n : 7 ≤ length v = omega (arith, h .long) in
+      let n : fixedWords ≤ length v = omega (arith, h .long) in
       let f = fixed-holds v (e .limit) (e .factor) (e .«factor_time») r (actedView s t (e .then) (buckets r (started r b e))) (a .holds) in
       record {
         long = fixed-length v (e .limit) (e .factor) (e .«factor_time») ∙ k;
@@ -170,7 +185,7 @@ module _ (r s t : ℕ) (b : List ℕ) (e : Edit) (h : Edits r s t b e) where
 -- ---- a room, edited
 
 module _ (w : List ℕ) (at s t : ℕ) (e : Edit) (h : EditsAt w at s t e) where
-  pub edit-size : length (edited (ringOf w) s t (bodyOf w at) e) ≡ size (ringOf w)
+  pub edit-size : length (edited (ringOf w) s t (bodyOf w at) e) ≡ sizeOf (ringOf w)
   edit-size = edited-is (ringOf w) s t (bodyOf w at) e (h .edits) .long ∙ body-length w at (h .room) (h .inside)
 
   pub edit-change : Changed w (withEdit w at s t e) at (useOf w at) (keyAt w at) (edited (ringOf w) s t (bodyOf w at) e) (lastOf w)

@@ -1,15 +1,16 @@
 -- The words that a change leaves, and what it asks. r is the ring, s the bucket size, t the reading.
 -- Assumes nothing.
 use mathlib.Core.Path.{_≡_}
-use mathlib.Core.Bool.{Bool, true, false, cond}
+use mathlib.Core.Bool.{false, cond}
 use mathlib.Core.List.{List, [], _∷_}
-use Prim.Native.Nat.{ℕ, _+_, _*_, _≤_, _<_}
+use Prim.Native.Nat.{ℕ, _+_, _≤_, _<_}
 use lib.ListN.{length, drop}
 use Rattle.base.specs.Writes.{writes}
 use Rattle.history.specs.Words.{incremented, replacedWords, preservedWords, Takes, Sets}
-use Rattle.history.specs.Rules.{joins, joined, replaced, preserved}
+use Rattle.rules.specs.Buckets.{joins, joined, replaced, preserved}
 use Rattle.ring.specs.declared.Bucket.{Bucket}
-use Rattle.ring.specs.Ring.{counts, declineds, mostTotal, mostRing, lenOf, buckets, without, Leaves, sizeOf}
+use Rattle.layout.specs.Layout.{freeUse, limitAt, totalAt, declinedAt, headAt, lenAt, factorAt, factorTimeAt, mostRing, mostTotal, sizeOf}
+use Rattle.ring.specs.Ring.{counts, declineds, lenOf, buckets, without, Leaves}
 use Rattle.ring.specs.Sound.{Sound}
 use Rattle.room.specs.Room.{Room, slotsOf, ringOf, bodyOf, withBody, withUse, withReading, entered, keyOf}
 use Rattle.change.specs.declared.Then.{Then}
@@ -21,7 +22,7 @@ use Rattle.change.specs.declared.Change.the-variants.{Keep, Free, Update
 -- ---- a body
 
 unfoldable pub begun : List ℕ → List ℕ
-begun b = writes b ((1, 0) ∷ (2, 0) ∷ (3, 0) ∷ (4, 0) ∷ [])
+begun b = writes b ((totalAt, 0) ∷ (declinedAt, 0) ∷ (headAt, 0) ∷ (lenAt, 0) ∷ [])
 
 unfoldable pub started : ℕ → List ℕ → Edit → List ℕ
 started r b e = cond (e .begins) (begun b) (without r b (e .gone))
@@ -33,7 +34,7 @@ acted r s t (Replace n) b = replacedWords r b t n
 acted r s t (Preserve p n) b = preservedWords p r b t n
 
 unfoldable pub fixed : List ℕ → ℕ → ℕ → ℕ → List ℕ
-fixed b limit factor time = writes b ((0, limit) ∷ (5, factor) ∷ (6, time) ∷ [])
+fixed b limit factor time = writes b ((limitAt, limit) ∷ (factorAt, factor) ∷ (factorTimeAt, time) ∷ [])
 
 unfoldable pub edited : ℕ → ℕ → ℕ → List ℕ → Edit → List ℕ
 edited r s t b e = fixed (acted r s t (e .then) (started r b e)) (e .limit) (e .factor) (e .«factor_time»)
@@ -102,7 +103,7 @@ taken w at key s t e = entered (withEdit w at s t e) at (e .used) (keyOf key)
 
 unfoldable pub carried : List ℕ → ℕ → List ℕ → ℕ → ℕ → Change → List ℕ
 carried w at key s t Keep = w
-carried w at key s t Free = withUse w at 0
+carried w at key s t Free = withUse w at freeUse
 carried w at key s t (Update e) = updated w at s t e
 carried w at key s t (Take e) = taken w at key s t e
 

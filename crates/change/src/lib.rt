@@ -2,24 +2,11 @@
 ghost use mathlib.Core.Path.{_≡_};
 ghost use Prim.Native.Nat.{_+_, _*_, _<_, _≤_};
 ghost use lib.ListN.{length};
+ghost use Rattle.layout.specs.Layout.{fixedWords};
 ghost use Rattle.room.specs.Room.{Room, slotsOf, ringOf, bodyOf};
 ghost use Rattle.change.specs.Words.{begun, started, acted, fixed, edited, withEdit, updated, taken, carried, applied};
 ghost use Rattle.change.specs.Words.{Starts, Acts, Edits, EditsAt, Applies};
-use common::HistoryPreservation;
-
-const LIMIT: usize = 0;
-
-const TOTAL: usize = 1;
-
-const DECLINED: usize = 2;
-
-const HEAD: usize = 3;
-
-const LEN: usize = 4;
-
-const FACTOR: usize = 5;
-
-const FACTOR_TIME: usize = 6;
+use answers::HistoryPreservation;
 
 // What becomes of the buckets that stay.
 pub enum Then {
@@ -61,13 +48,13 @@ pub enum Change {
 
 // A series with no buckets.
 fn begin(b: &mut [u64])
-    requires { ⌜ 7 ≤ length (now b) ⌝ }
+    requires { ⌜ fixedWords ≤ length (now b) ⌝ }
     ensures { λ _. ⌜ now (b .exit) ≡ begun (now (b .entry)) ⌝ }
 {
-    b[TOTAL] = 0;
-    b[DECLINED] = 0;
-    b[HEAD] = 0;
-    b[LEN] = 0;
+    b[layout::TOTAL] = 0;
+    b[layout::DECLINED] = 0;
+    b[layout::HEAD] = 0;
+    b[layout::LEN] = 0;
 }
 
 // The buckets that stay.
@@ -107,12 +94,12 @@ fn act(b: &mut [u64], r: usize, size: u64, reading: u64, then: Then)
 
 // The words that buckets do not use.
 fn fix(b: &mut [u64], limit: u64, factor: u64, factor_time: u64)
-    requires { ⌜ 7 ≤ length (now b) ⌝ }
+    requires { ⌜ fixedWords ≤ length (now b) ⌝ }
     ensures { λ _. ⌜ now (b .exit) ≡ fixed (now (b .entry)) limit factor «factor_time» ⌝ }
 {
-    b[LIMIT] = limit;
-    b[FACTOR] = factor;
-    b[FACTOR_TIME] = factor_time;
+    b[layout::LIMIT] = limit;
+    b[layout::FACTOR] = factor;
+    b[layout::FACTOR_TIME] = factor_time;
 }
 
 fn edit_body(b: &mut [u64], r: usize, size: u64, reading: u64, e: Edit)
@@ -130,9 +117,9 @@ fn edit_at(w: &mut [u64], at: usize, size: u64, reading: u64, e: Edit)
     requires { ⌜ EditsAt (now w) at size reading e ⌝ }
     ensures { λ _. ⌜ now (w .exit) ≡ withEdit (now (w .entry)) at size reading e ⌝ }
 {
-    let r = w[room::RING] as usize;
+    let r = w[layout::RING] as usize;
     let a = room::start(w, at);
-    let z = a + (room::FIXED + room::CELL * r);
+    let z = a + (layout::FIXED + layout::CELL * r);
     edit_body(&mut w[a..z], r, size, reading, e);
 }
 
@@ -159,7 +146,7 @@ fn carry(w: &mut [u64], at: usize, key: &[u8], size: u64, reading: u64, change: 
     match change {
         Change::Keep => {}
         Change::Free => {
-            room::set_use(w, at, 0);
+            room::set_use(w, at, layout::FREE);
         }
         Change::Update(e) => {
             update(w, at, size, reading, e);

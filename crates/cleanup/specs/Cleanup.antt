@@ -7,28 +7,21 @@ use Prim.Native.Nat.{ℕ, zero, suc, _+_, _-_, _≤_, _<_}
 use lib.ListN.{length}
 use lib.Dec.{leb, ltb}
 use Rattle.common.specs.Refusals.{first}
-use Rattle.common.specs.Settings.{faults}
-use Rattle.common.specs.declared.answers.DoneAnswer.{DoneAnswer}
-use Rattle.common.specs.declared.answers.DoneAnswer.the-variants.{Done, Refused}
-use Rattle.common.specs.declared.settings.Settings.{Settings}
-use Rattle.history.specs.Rules.{newest}
+use Rattle.settings.specs.Settings.{faults}
+use Rattle.answers.specs.declared.DoneAnswer.{DoneAnswer}
+use Rattle.answers.specs.declared.DoneAnswer.the-variants.{Done, Refused}
+use Rattle.settings.specs.declared.Settings.{Settings}
+use Rattle.rules.specs.Buckets.{newest}
+use Rattle.rules.specs.Stale.{seriesStays, factorStays}
 use Rattle.ring.specs.declared.Bucket.{Bucket}
 use Rattle.ring.specs.Ring.{buckets, Shape}
 use Rattle.room.specs.Room.{Room, slotsOf, ringOf, lastOf, useOf, bodyOf, free, sized, withUse, withReading}
-use Rattle.judge.specs.declared.RoomKind.{RoomKind}
+use Rattle.rules.specs.declared.RoomKind.{RoomKind}
 use Rattle.judge.specs.Sound.{factorTimeOf, hasSeries, hasCached, soundSlot}
-use Rattle.judge.specs.Verdict.{Verdict, verdict, judge}
+use Rattle.judge.specs.Verdict.{Verdict, verdict, unlessRefused}
 use Rattle.cleanup.specs.Every.{every}
 
 -- ---- what stays
-
--- "Cleanup drops a series with no bucket or whose newest age is over the stale time"
-unfoldable pub seriesStays : List Bucket → ℕ → ℕ → Bool
-seriesStays xs t stale = ltb 0 (length xs) && leb (t - newest xs .time) stale
-
--- "a cached factor stays only at an age below it": of a factor with this time
-unfoldable pub factorStays : ℕ → ℕ → ℕ → Bool
-factorStays time t stale = ltb (t - time) stale
 
 abbrev pub seriesUse : List Bucket → ℕ → ℕ → ℕ
 seriesUse xs t stale = cond (seriesStays xs t stale) 1 0
@@ -90,4 +83,4 @@ abbrev pub refusal : RoomKind → Settings → List ℕ → ℕ → ℕ
 refusal kind s w t = first (faults s ++ misfits kind s w t)
 
 unfoldable pub cleanup : RoomKind → Settings → List ℕ → ℕ → ℕ → Verdict DoneAnswer
-cleanup kind s w t stale = judge Refused (refusal kind s w t) w (verdict Done (cleaned w t stale))
+cleanup kind s w t stale = unlessRefused Refused (refusal kind s w t) w (verdict Done (cleaned w t stale))

@@ -1,12 +1,12 @@
 -- A test that each of the first n numbers passes, with the ends of a loop that asks them in turn.
 -- Assumes nothing.
-use mathlib.Core.Path.{_≡_, refl, ap, _∙_}
+use mathlib.Core.Path.{_≡_, ap, _∙_}
 use mathlib.Core.Bool.{Bool, true, false, _&&_}
-use Prim.Native.Nat.{ℕ, zero, suc, _+_, _≤_, _<_}
+use Prim.Native.Nat.{ℕ, zero, suc, _+_, _<_}
 use native.Mathlib.Decide.{ℕ-discrete}
 use native.Mathlib.Numerals.{add-one}
 use native.Mathlib.Omega.{arith}
-use Rattle.base.specs.Decides.{and-true, true-and, not-so, so-not}
+use Rattle.base.specs.Decides.{and-true, not-so, so-not}
 
 unfoldable pub every : (ℕ → Bool) → ℕ → Bool
 every p zero = true
@@ -21,12 +21,6 @@ every-at p (suc n) i h e = go (ℕ-discrete i n) (and-true (every p n) (p n) e) 
     go : Dec (i ≡ n) → (every p n ≡ true) × (p n ≡ true) → (i < n → every p n ≡ true → p i ≡ true) → p i ≡ true
     go (yes q) a f = ap p q ∙ a .1
     go (no q) a f = f (omega arith) (a .0)
-
--- what each passes, all pass
-pub every-all : (p : ℕ → Bool) (n : ℕ) → ((i : ℕ) → i < n → p i ≡ true) → every p n ≡ true
-unfolding every
-every-all p zero f = refl
-every-all p (suc n) f = true-and (every p n) (p n) (every-all p n (λ i h. f i (omega arith))) (f n (omega arith))
 
 -- a loop's turn, and its end at one that does not pass
 pub every-on : (p : ℕ → Bool) (n : ℕ) → every p n ≡ true → p n ≡ true → every p (n + 1) ≡ true

@@ -1,37 +1,37 @@
 -- What the code has tested, turned into what the definitions say; and what is known of a cleanup that is not refused.
 -- Assumes nothing.
-use mathlib.Core.Path.{_≡_, refl, sym, ap, subst, _∙_}
-use mathlib.Core.Bool.{Bool, true, false, not, _&&_, _||_, cond, false≢true}
-use mathlib.Core.List.{List, [], _∷_, _++_}
+use mathlib.Core.Path.{_≡_, refl, sym, ap, _∙_}
+use mathlib.Core.Bool.{Bool, true, false, not, _||_, cond, false≢true}
+use mathlib.Core.List.{List}
 use mathlib.Core.Logic.{_≢_}
 use Prim.Native.Nat.{ℕ, _+_, _-_, _≤_, _<_}
-use native.Mathlib.Decide.{ℕ-discrete}
 use native.Mathlib.Omega.{arith}
 use lib.ListN.{length, getD}
-use lib.Dec.{leb, ltb, eqb}
-use borrow.Author.Tests.{eq-eqb, ne-eqb, eqb-true, eqb-false, lt-ltb, le-ltb, ltb-false, ltb-true, le-leb, leb-true, not-false}
-use Rattle.base.specs.Decides.{and-true, not-so}
+use lib.Dec.{leb, eqb}
+use borrow.Author.Tests.{ne-eqb, eqb-true, eqb-false, lt-ltb, le-ltb, ltb-false, le-leb, leb-true, not-false}
+use Rattle.base.specs.Decides.{other-true, and-true, not-so}
 use Rattle.common.specs.Refusals.{first, Positive, first-found, first-none, all-false}
-use Rattle.common.specs.Settings.{windowIn, faults, Proper, proper, unrefused}
-use Rattle.common.specs.declared.answers.DoneAnswer.the-variants.{Done, Refused}
-use Rattle.common.specs.declared.settings.Settings.{Settings}
-use Rattle.history.specs.Rules.{newest}
+use Rattle.settings.specs.Settings.{windowIn, faults, Proper, proper, unrefused}
+use Rattle.answers.specs.declared.DoneAnswer.the-variants.{Done, Refused}
+use Rattle.settings.specs.declared.Settings.{Settings}
+use Rattle.rules.specs.Buckets.{newest}
 use Rattle.ring.specs.declared.Bucket.{Bucket}
 use Rattle.ring.specs.Ring.{Shape, noBucket, lenOf, buckets}
 use Rattle.ring.specs.View.{view-length}
 use Rattle.ring.specs.Sound.{soundBuckets, sound-true}
-use Rattle.room.specs.Room.{Room, slotsOf, ringOf, lastOf, useOf, keySound, bodyOf, free, sized}
+use Rattle.room.specs.Room.{Room, slotsOf, ringOf, lastOf, useOf, keySound, bodyOf, sized}
 use Rattle.room.specs.Entries.{free-yes, free-no}
 use Rattle.room.specs.Laws.{room-sized, sized-room}
-use Rattle.judge.specs.declared.RoomKind.{RoomKind}
+use Rattle.rules.specs.declared.RoomKind.{RoomKind}
 use Rattle.judge.specs.declared.Slot.{Slot}
 use Rattle.judge.specs.Laws.{faults-positive}
 use Rattle.judge.specs.Right.{slotRight, slot-here, right-is}
 use Rattle.judge.specs.Slot.{slotOf}
 use Rattle.judge.specs.Sound.{factorTimeOf, hasSeries, hasCached, rightUse, soundSeries, soundCached, soundSlot}
-use Rattle.cleanup.specs.Every.{every, every-at}
+use Rattle.cleanup.specs.Every.{every-at}
 use Rattle.judge.specs.Verdict.{verdict, Told, told-turned, told-done}
-use Rattle.cleanup.specs.Cleanup.{seriesStays, seriesUse, factorStays, factorUse, useAfter, cleaned, Ready, slotPasses, allPass, misfits, refusal, cleanup}
+use Rattle.cleanup.specs.Cleanup.{seriesUse, factorUse, useAfter, cleaned, Ready, slotPasses, allPass, misfits, refusal, cleanup}
+use Rattle.rules.specs.Stale.{seriesStays, factorStays}
 
 -- ---- one slot
 
@@ -135,11 +135,6 @@ sound-parts kind s w i e =
 pub parts-sound : (kind : RoomKind) (s : Settings) (w : List ℕ) (i : ℕ) → SoundParts kind s w i → soundSlot kind s w i ≡ true
 unfolding soundSlot
 parts-sound kind s w i p = rw (p .key, p .uses, p .series, p .cached)
-
--- a || that is true though its left side is not
-pub other-true : (a b : Bool) → a ≡ true → not a || b ≡ true → b ≡ true
-other-true true b e f = f
-other-true false b e f = absurd (false≢true e)
 
 has-some : (u : ℕ) → hasSeries u ≡ true → u ≢ 0
 has-some u e z = false≢true (sym (ap hasSeries z) ∙ e)

@@ -4,18 +4,19 @@ use mathlib.Core.Path.{_≡_, refl, sym, ap, subst, _∙_}
 use mathlib.Core.Bool.{true}
 use mathlib.Core.List.{List}
 use mathlib.Core.Logic.{_≢_}
-use Prim.Native.Nat.{ℕ, zero, suc, _+_, _*_, _≤_, _<_}
+use Prim.Native.Nat.{ℕ, zero, suc, _+_, _≤_, _<_}
 use native.Mathlib.Decide.{ℕ-discrete}
 use native.Mathlib.Numerals.{add-one}
 use native.Mathlib.Omega.{arith}
 use lib.ListN.{length, getD, set, length-set}
 use lib.Seq.{getD-set-same, getD-set-other}
+use Rattle.layout.specs.Layout.{slotsWord, ringWord}
 use Rattle.ring.specs.Ring.{Shape}
-use Rattle.room.specs.Room.{slotsWord, ringWord, lastWord, entryWords, headerWords, slotsOf, ringOf, entryOf, Room, useOf, keyAt, bodyOf, withUse, withReading}
+use Rattle.room.specs.Room.{slotsOf, ringOf, entryOf, Room, useOf, bodyOf, withUse}
 use Rattle.room.specs.Laws.{room-same}
-use Rattle.frame.specs.Frame.{key-ext, body-ext}
+use Rattle.frame.specs.Frame.{body-ext}
 use Rattle.judge.specs.Sound.{hasSeries}
-use Rattle.cleanup.specs.Cleanup.{useAfter, useNext, swept, cleaned, Readable, Ready}
+use Rattle.cleanup.specs.Cleanup.{useAfter, useNext, swept, Readable, Ready}
 
 module _ (w : List ℕ) (t stale : ℕ) where
   pub swept-length : (n : ℕ) → length (swept w t stale n) ≡ length w
@@ -27,7 +28,8 @@ module _ (w : List ℕ) (t stale : ℕ) where
   pub swept-other : (n j : ℕ) → ((i : ℕ) → i < n → j ≢ entryOf i) → getD (swept w t stale n) j 0 ≡ getD w j 0
   unfolding swept withUse
   swept-other zero j h = refl
-  swept-other (suc n) j h = getD-set-other (swept w t stale n) (entryOf n) j (useNext w t stale n) 0 (h n (omega arith)) ∙ swept-other n j (λ i l. h i (omega arith))
+  swept-other (suc n) j h = getD-set-other (swept w t stale n) (entryOf n) j (useNext w t stale n) 0 (h n (omega arith)) ∙
+      swept-other n j (λ i l. h i (omega arith))
 
   pub swept-slots : (n : ℕ) → slotsOf (swept w t stale n) ≡ slotsOf w
   swept-slots n = swept-other n slotsWord (λ i l. omega arith)
@@ -37,10 +39,6 @@ module _ (w : List ℕ) (t stale : ℕ) where
 
   pub swept-room : (n : ℕ) → Room w → Room (swept w t stale n)
   swept-room n o = room-same w (swept w t stale n) (swept-slots n) (swept-ring n) (swept-length n) o
-
-  -- keys and bodies
-  pub swept-key : (n i : ℕ) → keyAt (swept w t stale n) i ≡ keyAt w i
-  swept-key n i = key-ext w (swept w t stale n) i (λ j p q. swept-other n j (λ h l. omega arith))
 
   pub swept-body : (n i : ℕ) → n ≤ slotsOf w → bodyOf (swept w t stale n) i ≡ bodyOf w i
   swept-body n i h = body-ext w (swept w t stale n) (swept-length n) (swept-slots n) (swept-ring n) (λ j p. swept-other n j (λ k l. omega arith)) i

@@ -3,22 +3,15 @@ ghost use mathlib.Core.Path.{_≡_};
 ghost use Prim.Native.Nat.{_+_, _*_, _<_, _≤_};
 ghost use mathlib.Core.Bool.{true};
 ghost use lib.ListN.{length};
-ghost use Rattle.common.specs.Settings.{windowIn, Proper};
+ghost use Rattle.settings.specs.Settings.{windowIn, Proper};
 ghost use Rattle.ring.specs.Ring.{buckets, Shape};
 ghost use Rattle.room.specs.Room.{Room, slotsOf};
 ghost use Rattle.judge.specs.Verdict.{Told};
 ghost use Rattle.cleanup.specs.Cleanup.{seriesUse, factorUse, useAfter, useNext, swept, cleaned, Opens, Readable, Ready};
 ghost use Rattle.cleanup.specs.Cleanup.{slotPasses, allPass, refusal, cleanup};
-use common::DoneAnswer;
-use common::Settings;
-use judge::RoomKind;
-
-const FACTOR_TIME: usize = 6;
-
-// What a series and a cached factor add to a slot's use.
-const SERIES: u64 = 1;
-
-const CACHED: u64 = 2;
+use answers::DoneAnswer;
+use rules::RoomKind;
+use settings::Settings;
 
 // Whether slot `i` is free or sound: the one pass over its buckets is made here.
 fn slot_passes(kind: RoomKind, settings: Settings, w: &[u64], i: usize, reading: u64) -> bool
@@ -34,14 +27,14 @@ fn slot_passes(kind: RoomKind, settings: Settings, w: &[u64], i: usize, reading:
         return false;
     }
     let x = judge::open_at(w, i, reading, window.0);
-    judge::slot_right(kind, settings, w[room::LAST], u, x)
+    judge::slot_right(kind, settings, w[layout::LAST], u, x)
 }
 
 fn all_pass(kind: RoomKind, settings: Settings, w: &[u64], reading: u64) -> bool
     requires { ⌜ Room (now w) × (windowIn settings ≤ 33554432) ⌝ }
     ensures { λ x. ⌜ x ≡ allPass kind settings (now (w .entry)) ⌝ }
 {
-    let n = w[room::SLOTS] as usize;
+    let n = w[layout::SLOTS] as usize;
     let mut i = 0;
     while i < n {
         if !slot_passes(kind, settings, w, i, reading) {
@@ -60,7 +53,7 @@ fn judge_room(kind: RoomKind, settings: Settings, w: &[u64], reading: u64) -> u6
     if !all_pass(kind, settings, w, reading) {
         return 5;
     }
-    if reading < w[room::LAST] {
+    if reading < w[layout::LAST] {
         return 6;
     }
     0
@@ -94,7 +87,7 @@ fn series_use(b: &[u64], r: usize, reading: u64, stale: u64) -> u64
     if stale < ring::less(reading, time) {
         return 0;
     }
-    SERIES
+    layout::SERIES
 }
 
 // What a cached factor adds.
@@ -102,7 +95,7 @@ fn factor_use(time: u64, reading: u64, stale: u64) -> u64
     ensures { λ x. ⌜ x ≡ factorUse time reading stale ⌝ }
 {
     if ring::less(reading, time) < stale {
-        return CACHED;
+        return layout::CACHED;
     }
     0
 }
@@ -114,8 +107,8 @@ fn use_after(b: &[u64], r: usize, u: u64, reading: u64, stale: u64) -> u64
 {
     match u {
         1 => series_use(b, r, reading, stale),
-        2 => factor_use(b[FACTOR_TIME], reading, stale),
-        3 => series_use(b, r, reading, stale) + factor_use(b[FACTOR_TIME], reading, stale),
+        2 => factor_use(b[layout::FACTOR_TIME], reading, stale),
+        3 => series_use(b, r, reading, stale) + factor_use(b[layout::FACTOR_TIME], reading, stale),
         _ => 0,
     }
 }
@@ -125,10 +118,10 @@ fn use_next(w: &[u64], i: usize, reading: u64, stale: u64) -> u64
     requires { ⌜ Readable (now w) i ⌝ }
     ensures { λ x. ⌜ x ≡ useNext (now (w .entry)) reading stale i ⌝ }
 {
-    let r = w[room::RING] as usize;
+    let r = w[layout::RING] as usize;
     let u = room::use_of(w, i);
     let a = room::start(w, i);
-    let e = a + (room::FIXED + room::CELL * r);
+    let e = a + (layout::FIXED + layout::CELL * r);
     use_after(&w[a..e], r, u, reading, stale)
 }
 
@@ -136,7 +129,7 @@ fn sweep(w: &mut [u64], reading: u64, stale: u64)
     requires { ⌜ Ready (now w) ⌝ }
     ensures { λ _. ⌜ now (w .exit) ≡ swept (now (w .entry)) reading stale (slotsOf (now (w .entry))) ⌝ }
 {
-    let n = w[room::SLOTS] as usize;
+    let n = w[layout::SLOTS] as usize;
     let mut at = 0;
     while at < n {
         let u = use_next(w, at, reading, stale);

@@ -1,15 +1,8 @@
-pub mod Answers
 pub mod Comparator
-pub mod Factor
-pub mod FactorLaws
-pub mod Floats
-pub mod HistoryMode
-pub mod LimitLaws
+pub mod Cut
 pub mod Limits
 pub mod Ranges
 pub mod Refusals
-pub mod Settings
-pub mod Share
-pub mod UnitCases
+pub mod Tested
 pub mod Units
 pub mod Words

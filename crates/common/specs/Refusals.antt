@@ -27,7 +27,8 @@ unfolding first
 first-found [] ys h = absurd (h refl)
 first-found (x ∷ xs) ys h = go (x .1) (first-found xs ys) h
   where
-    go : (b : Bool) → ((first xs ≡ 0 → ⊥) → first (xs ++ ys) ≡ first xs) → (cond b (x .0) (first xs) ≡ 0 → ⊥) → cond b (x .0) (first (xs ++ ys)) ≡ cond b (x .0) (first xs)
+    go : (b : Bool) → ((first xs ≡ 0 → ⊥) → first (xs ++ ys) ≡ first xs) → (cond b (x .0) (first xs) ≡ 0 → ⊥) →
+        cond b (x .0) (first (xs ++ ys)) ≡ cond b (x .0) (first xs)
     go true f g = refl
     go false f g = f g
 

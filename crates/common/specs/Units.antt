@@ -1,14 +1,13 @@
 -- The units of time and rate: what a period constructor makes of a number, and how a unit is read back.
 -- Assumes nothing.
 use mathlib.Core.Path.{_≡_, refl}
-use mathlib.Core.Bool.{Bool, true, false, _&&_, cond}
+use mathlib.Core.Bool.{_&&_, cond}
 use Prim.Native.Nat.{ℕ, _*_, _/_, _-_, _^_, _≤_, _<_, min}
-use native.Mathlib.Nat.{mul-pos, div-lt-iff-lt-mul, le-div-iff-mul-le}
-use native.Mathlib.Omega.{arith}
+use native.Mathlib.Nat.{div-lt-iff-lt-mul, le-div-iff-mul-le}
 use lib.Dec.{leb, ltb}
 use lib.IntN.{pos}
 use lib.Ieee.{Float, binary64, ofInt, div, mul}
-use borrow.Author.Tests.{lt-ltb, le-leb, lt-leb, ltb-true, leb-true}
+use borrow.Author.Tests.{lt-ltb, le-leb, lt-leb}
 use Rattle.common.specs.declared.units.Period.{Period}
 use Rattle.common.specs.declared.units.Period.the-variants.{Within, Outside}
 use Rattle.common.specs.declared.units.WindowSizeAnswer.{WindowSizeAnswer}
@@ -19,7 +18,7 @@ use Rattle.common.specs.declared.units.CachePeriodAnswer.{CachePeriodAns
 use Rattle.common.specs.declared.units.CachePeriodAnswer.the-variants as cache
 use Rattle.common.specs.declared.units.RateLimitAnswer.{RateLimitAnswer}
 use Rattle.common.specs.declared.units.RateLimitAnswer.the-variants as rate
-use Rattle.common.specs.Ranges.{mostWindow, mostBucket, mostCache, within, windowOk, bucketOk, cacheOk, rateOk, and-no, within-facts, within-true}
+use Rattle.common.specs.Ranges.{mostWindow, mostBucket, mostCache, rateOk, and-no}
 
 -- ---- periods, in seconds
 
@@ -68,16 +67,6 @@ period-over top m v p q = period-past top m v (div-lt-iff-lt-mul p .0 q)
 pub period-fits : (top m v : ℕ) → 0 < m → v ≤ top / m → v * m ≤ top
 period-fits top m v p q = le-div-iff-mul-le p .0 q
 
--- what is made lies in the range: what holds of all that is made of a number in range, and of a refusal, holds of each answer
-pub period-all : {A : Type 0} (P : A → Type 0) (f : Period → A) (top m v : ℕ) → 0 < m → ((x : ℕ) → within 1 top x ≡ true → P (f (Within x))) → P (f Outside) → P (f (periodOf top m v))
-unfolding periodOf
-period-all P f top m v p made none = go (ltb 0 v) (leb (v * m) top) (ltb-true 0 v) (leb-true (v * m) top)
-  where
-    go : (a b : Bool) → (a ≡ true → 0 < v) → (b ≡ true → v * m ≤ top) → P (f (cond (a && b) (Within (v * m)) Outside))
-    go true true g h = let q = mul-pos (g refl) p in made (v * m) (within-true 1 top (v * m) (record { low = omega arith; high = h refl }))
-    go true false g h = none
-    go false b g h = none
-
 -- ---- the units made: refusals 1, 2 and 3
 
 abbrev pub windowMade : Period → WindowSizeAnswer
@@ -102,48 +91,11 @@ bucketOf m v = bucketMade (periodOf mostBucket m v)
 unfoldable pub cacheOf : ℕ → ℕ → CachePeriodAnswer
 cacheOf m v = cacheMade (periodOf mostCache m v)
 
--- every answer is a unit in range, or the unit's own refusal
-abbrev pub WindowFine : WindowSizeAnswer → Type 0
-WindowFine (window.Made w) = windowOk (w .0) ≡ true
-WindowFine (window.Refused n) = n ≡ 1
-
-abbrev pub BucketFine : BucketSizeAnswer → Type 0
-BucketFine (bucket.Made b) = bucketOk (b .0) ≡ true
-BucketFine (bucket.Refused n) = n ≡ 2
-
-abbrev pub CacheFine : CachePeriodAnswer → Type 0
-CacheFine (cache.Made p) = cacheOk (p .0) ≡ true
-CacheFine (cache.Refused n) = n ≡ 3
-
-pub window-fine : (m v : ℕ) → 0 < m → WindowFine (windowOf m v)
-unfolding windowOf
-window-fine m v p = period-all WindowFine windowMade mostWindow m v p (λ x h. h) refl
-
-pub bucket-fine : (m v : ℕ) → 0 < m → BucketFine (bucketOf m v)
-unfolding bucketOf
-bucket-fine m v p = period-all BucketFine bucketMade mostBucket m v p (λ x h. h) refl
-
-pub cache-fine : (m v : ℕ) → 0 < m → CacheFine (cacheOf m v)
-unfolding cacheOf
-cache-fine m v p = period-all CacheFine cacheMade mostCache m v p (λ x h. h) refl
-
 -- ---- rates: refusal 8
 
 -- x per second
 unfoldable pub rateFrom : Float → RateLimitAnswer
 rateFrom x = cond (rateOk x) (rate.Made (record { 0 = x })) (rate.Refused 8)
-
-abbrev pub RateFine : RateLimitAnswer → Type 0
-RateFine (rate.Made r) = rateOk (r .0) ≡ true
-RateFine (rate.Refused n) = n ≡ 8
-
-pub rate-fine : (x : Float) → RateFine (rateFrom x)
-unfolding rateFrom
-rate-fine x = go (rateOk x) (λ e. e)
-  where
-    go : (b : Bool) → (b ≡ true → rateOk x ≡ true) → RateFine (cond b (rate.Made (record { 0 = x })) (rate.Refused 8))
-    go true e = e refl
-    go false e = refl
 
 -- the double nearest to a whole number
 abbrev pub real : ℕ → Float
@@ -166,11 +118,6 @@ inPeriods p s = div binary64 (real s) (real p)
 -- a rate of x per second, per period of p seconds
 abbrev pub perPeriod : ℕ → Float → Float
 perPeriod p x = mul binary64 x (real p)
-
--- a window in range has its exact milliseconds
-pub milliseconds-exact : (s : ℕ) → windowOk s ≡ true → millisecondsOf s ≡ s * 1000
-unfolding millisecondsOf
-milliseconds-exact s e = let w = within-facts 1 mostWindow s e in omega arith
 
 -- ---- defaults
 

@@ -1,41 +1,16 @@
-// What both limiters share below the room: units, settings, comparator, history modes, answers, limits, the factor and
-// the draw, and the share of a cut bucket. Whatever the room keeps of doubles goes through here as words.
-mod answers;
+// The leaf: units, limits and comparator. Whatever the room keeps of doubles goes through here as words.
 mod comparator;
-mod factor;
-mod history_mode;
 mod limits;
-mod settings;
-mod share;
 mod units;
 mod words;
 
-pub use answers::DeleteAnswer;
-pub use answers::DoneAnswer;
-pub use answers::FactorAnswer;
-pub use answers::OldRateAnswer;
-pub use answers::RateLimitDecision;
-pub use answers::SetAnswer;
-pub use answers::SnapshotAnswer;
-pub use answers::TotalAnswer;
 pub use comparator::RateLimitComparator;
-pub use factor::CachedFactor;
-pub use factor::admits;
-pub use factor::fresh_factor;
-pub use factor::is_factor;
-pub use history_mode::ConditionalSetOutcome;
-pub use history_mode::HistoryPreservation;
-pub use history_mode::HistoryUpdateMode;
-pub use history_mode::SuppressedRateLimitSnapshot;
 pub use limits::absolute_limit;
 pub use limits::cut;
 pub use limits::cut_limit;
 pub use limits::hard_limit;
 pub use limits::is_limit;
 pub use limits::soft_limit;
-pub use settings::Settings;
-pub use settings::is_hard_limit_factor;
-pub use share::mul_div;
 pub use units::BucketSize;
 pub use units::BucketSizeAnswer;
 pub use units::CachePeriodAnswer;
@@ -44,5 +19,6 @@ pub use units::RateLimitAnswer;
 pub use units::SuppressionFactorCachePeriod;
 pub use units::WindowSize;
 pub use units::WindowSizeAnswer;
+pub use units::is_real_from;
 pub use words::double_of;
 pub use words::word_of;

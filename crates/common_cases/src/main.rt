@@ -6,10 +6,10 @@ use common::CachePeriodAnswer;
 use common::RateLimit;
 use common::RateLimitAnswer;
 use common::RateLimitComparator;
-use common::Settings;
 use common::SuppressionFactorCachePeriod;
 use common::WindowSize;
 use common::WindowSizeAnswer;
+use settings::Settings;
 
 const REFUSED: u64 = 1_000_000_000_000;
 
@@ -420,12 +420,12 @@ fn the_factor_and_the_draw_1() {
     head(b"the factor and the draw");
     case(
         b"S 10, total 20, W 10, last second 2",
-        common::word_of(common::fresh_factor(10, 20, WindowSize(10), 2)),
+        common::word_of(suppression::fresh_factor(10, 20, WindowSize(10), 2)),
         4602678819172646912,
     );
     case(
         b"S 10, total 15, W 10, last second 5",
-        common::word_of(common::fresh_factor(10, 15, WindowSize(10), 5)),
+        common::word_of(suppression::fresh_factor(10, 15, WindowSize(10), 5)),
         4605380978949069210,
     );
 }
@@ -433,12 +433,12 @@ fn the_factor_and_the_draw_1() {
 fn the_factor_and_the_draw_2() {
     case(
         b"S 10, total 10, W 10, last second 1",
-        common::word_of(common::fresh_factor(10, 10, WindowSize(10), 1)),
+        common::word_of(suppression::fresh_factor(10, 10, WindowSize(10), 1)),
         0,
     );
     case(
         b"S 9007199254740992, total 9007199254740992, W 33554432, last second 1",
-        common::word_of(common::fresh_factor(
+        common::word_of(suppression::fresh_factor(
             9007199254740992,
             9007199254740992,
             WindowSize(33554432),
@@ -449,15 +449,15 @@ fn the_factor_and_the_draw_2() {
 }
 
 fn the_factor_and_the_draw_3() {
-    case(b"0 is a factor", said(common::is_factor(0)), 1);
+    case(b"0 is a factor", said(suppression::is_factor(0)), 1);
     case(
         b"0.5 is a factor",
-        said(common::is_factor(4602678819172646912)),
+        said(suppression::is_factor(4602678819172646912)),
         1,
     );
     case(
         b"1 is a factor",
-        said(common::is_factor(4607182418800017408)),
+        said(suppression::is_factor(4607182418800017408)),
         1,
     );
 }
@@ -465,12 +465,12 @@ fn the_factor_and_the_draw_3() {
 fn the_factor_and_the_draw_4() {
     case(
         b"-0.0 is a factor",
-        said(common::is_factor(9223372036854775808)),
+        said(suppression::is_factor(9223372036854775808)),
         0,
     );
     case(
         b"a NaN is a factor",
-        said(common::is_factor(9221120237041090561)),
+        said(suppression::is_factor(9221120237041090561)),
         0,
     );
 }
@@ -478,18 +478,18 @@ fn the_factor_and_the_draw_4() {
 fn the_factor_and_the_draw_5() {
     case(
         b"factor 0.0 admits 9007199254740991",
-        said(common::admits(0.0, 9007199254740991)),
+        said(suppression::admits(0.0, 9007199254740991)),
         1,
     );
-    case(b"factor 1.0 admits 0", said(common::admits(1.0, 0)), 0);
+    case(b"factor 1.0 admits 0", said(suppression::admits(1.0, 0)), 0);
     case(
         b"factor 0.5 admits 4503599627370495",
-        said(common::admits(0.5, 4503599627370495)),
+        said(suppression::admits(0.5, 4503599627370495)),
         1,
     );
     case(
         b"factor 0.5 admits 4503599627370496",
-        said(common::admits(0.5, 4503599627370496)),
+        said(suppression::admits(0.5, 4503599627370496)),
         0,
     );
 }
@@ -497,27 +497,27 @@ fn the_factor_and_the_draw_5() {
 fn the_factor_and_the_draw_6() {
     case(
         b"factor 0.9999999999999999 admits 1",
-        said(common::admits(0.9999999999999999, 1)),
+        said(suppression::admits(0.9999999999999999, 1)),
         0,
     );
     case(
         b"factor 1.1102230246251565e-16 admits 9007199254740990",
-        said(common::admits(1.1102230246251565e-16, 9007199254740990)),
+        said(suppression::admits(1.1102230246251565e-16, 9007199254740990)),
         1,
     );
     case(
         b"factor 1.1102230246251565e-16 admits 9007199254740991",
-        said(common::admits(1.1102230246251565e-16, 9007199254740991)),
+        said(suppression::admits(1.1102230246251565e-16, 9007199254740991)),
         0,
     );
 }
 
 fn floor_a_b_c_1() {
     head(b"floor(a * b / c)");
-    case(b"5 * 3 / 7", common::mul_div(5, 3, 7), 2);
+    case(b"5 * 3 / 7", share::mul_div(5, 3, 7), 2);
     case(
         b"9007199254740992 * 9007199254740992 / 9007199254740992",
-        common::mul_div(9007199254740992, 9007199254740992, 9007199254740992),
+        share::mul_div(9007199254740992, 9007199254740992, 9007199254740992),
         9007199254740992,
     );
 }
@@ -525,21 +525,21 @@ fn floor_a_b_c_1() {
 fn floor_a_b_c_2() {
     case(
         b"9007199254740991 * 9007199254740990 / 9007199254740989",
-        common::mul_div(9007199254740991, 9007199254740990, 9007199254740989),
+        share::mul_div(9007199254740991, 9007199254740990, 9007199254740989),
         9007199254740992,
     );
     case(
         b"9007199254740992 * 9007199254740992 / 1",
-        common::mul_div(9007199254740992, 9007199254740992, 1),
+        share::mul_div(9007199254740992, 9007199254740992, 1),
         18446744073709551615,
     );
-    case(b"7 * 3 / 0", common::mul_div(7, 3, 0), 0);
+    case(b"7 * 3 / 0", share::mul_div(7, 3, 0), 0);
 }
 
 fn floor_a_b_c_3() {
     case(
         b"18446744073709551615 * 18446744073709551615 / 18446744073709551615",
-        common::mul_div(
+        share::mul_div(
             18446744073709551615,
             18446744073709551615,
             18446744073709551615,
@@ -548,7 +548,7 @@ fn floor_a_b_c_3() {
     );
     case(
         b"123456789012345 * 987654321 / 1000000007",
-        common::mul_div(123456789012345, 987654321, 1000000007),
+        share::mul_div(123456789012345, 987654321, 1000000007),
         121932630271299,
     );
 }

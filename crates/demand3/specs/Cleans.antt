@@ -1,36 +1,34 @@
 -- A cleanup with a stale time of at least the window keeps what holds of a key: a series that goes has no bucket that still counts.
 -- Assumes nothing.
 use mathlib.Core.Path.{_≡_, refl, sym, ap, ap₂, subst, _∙_}
-use mathlib.Core.Bool.{Bool, true, false, _&&_, cond, false≢true}
+use mathlib.Core.Bool.{Bool, true, false, _&&_, false≢true}
 use mathlib.Core.List.{List, [], _∷_}
 use mathlib.Core.Logic.{_≢_}
 use Prim.Native.Nat.{ℕ, _-_, _≤_, _<_}
-use native.Mathlib.Decide.{ℕ-discrete}
 use native.Mathlib.Omega.{arith}
-use lib.Dec.{leb, ltb, eqb}
+use lib.Dec.{leb, ltb}
 use lib.ListN.{length}
-use borrow.Author.Tests.{eqb-true, ltb-false, leb-false}
-use Rattle.base.specs.Decides.{and-true, true-and}
+use borrow.Author.Tests.{ltb-false, leb-false}
+use Rattle.base.specs.Decides.{and-true, true-and, other-true}
 use Rattle.common.specs.Limits.{cutWord}
-use Rattle.common.specs.Settings.{windowIn, bucketIn}
-use Rattle.common.specs.declared.settings.Settings.{Settings}
-use Rattle.history.specs.Rules.{windowTicks, newest}
+use Rattle.settings.specs.Settings.{windowIn, bucketIn}
+use Rattle.settings.specs.declared.Settings.{Settings}
+use Rattle.rules.specs.Buckets.{windowTicks, newest}
 use Rattle.ring.specs.declared.Bucket.{Bucket}
 use Rattle.ring.specs.Order.{Fine}
 use Rattle.ring.specs.Ring.{buckets}
 use Rattle.ring.specs.Sound.{soundBuckets, sound-true}
 use Rattle.room.specs.declared.Key.{Key}
 use Rattle.room.specs.Room.{slotsOf, ringOf, lastOf, useOf, bodyOf}
-use Rattle.judge.specs.declared.RoomKind.the-variants as kind
+use Rattle.rules.specs.declared.RoomKind.the-variants as kind
 use Rattle.judge.specs.Sound.{limitOf, hasSeries, soundSeries}
-use Rattle.cleanup.specs.Cleanup.{seriesStays, cleaned, refusal, cleanup}
-use Rattle.cleanup.specs.Laws.{Passed, passed, passed-sound, sound-parts, other-true}
-use Rattle.provider.specs.Laws.{both-passed}
-use Rattle.provider.specs.Provider as Provider
-use Rattle.views.specs.Cleanup.{Cleaned, clean-run, series-kept, clean-distinct, done-run, refused-words}
-use Rattle.spans.specs.Good.{good-later, good-drop}
-use Rattle.spans.specs.Log.{Entry}
-use Rattle.demand3.specs.Kept.{Has, has-or, GoodAt, Kept}
+use Rattle.rules.specs.Stale.{seriesStays}
+use Rattle.cleanup.specs.Laws.{Passed, passed-sound, sound-parts}
+use Rattle.leaves.specs.Cleanup.{Cleaned, series-kept, clean-distinct}
+use Rattle.admissions.specs.Good.{good-later, good-drop}
+use Rattle.admissions.specs.Log.{Entry}
+use Rattle.places.specs.Has.{Has, has-or}
+use Rattle.demand3.specs.Kept.{GoodAt, Kept}
 
 no-buckets : (xs : List Bucket) → length xs ≤ 0 → xs ≡ []
 no-buckets [] h = refl
@@ -79,7 +77,7 @@ module _ (s : Settings) (le : bucketIn s ≤ windowTicks (windowIn s)) (limit st
             }))
         stood i h false e = dropped t (lastOf w) (buckets (ringOf w) (bodyOf w i)) log (in-order i h) e (later _ (a .good i h))
 
-    cleaned-kept : Kept s k limit v log
+    pub cleaned-kept : Kept s k limit v log
     cleaned-kept = record {
       distinct = clean-distinct c (a .distinct);
       limits = λ i h. ap (λ (y : List ℕ). limitOf y) (c .bodies i) ∙ a .limits i (was i h);
@@ -88,21 +86,3 @@ module _ (s : Settings) (le : bucketIn s ≤ windowTicks (windowIn s)) (limit st
           (subst (λ (xs : List Bucket). GoodAt s limit t xs log) (sym (view-is i)) (later _ (a .good i (was i h))));
       bare = λ f. subst (λ (n : ℕ). GoodAt s limit n [] log) (sym (c .last)) (gone f);
     }
-
-  pub cleanup-kept : (k : Key) (w : List ℕ) (t : ℕ) (log : List Entry) → Kept s k limit w log → Kept s k limit (cleanup kind.Suppressed s w t stale .words) log
-  cleanup-kept k w t log a = go (ℕ-discrete (refusal kind.Suppressed s w t) 0)
-    where
-      go : Dec (refusal kind.Suppressed s w t ≡ 0) → Kept s k limit (cleanup kind.Suppressed s w t stale .words) log
-      go (yes e) = cleaned-kept k w (cleanup kind.Suppressed s w t stale .words) t log (passed kind.Suppressed s w t e) (done-run kind.Suppressed s w t stale e) a
-      go (no n) = subst (λ (y : List ℕ). Kept s k limit y log) (sym (refused-words kind.Suppressed s w t stale n)) a
-
-  -- the provider's, which cleans both rooms or neither
-  pub both-kept : (k : Key) (absolute w : List ℕ) (t : ℕ) (log : List Entry) → Kept s k limit w log → Kept s k limit (Provider.cleanup s absolute w t stale .suppressed) log
-  unfolding Provider.decided
-  both-kept k absolute w t log a = go (eqb (Provider.refusalOfBoth s absolute w t) 0) refl
-    where
-      go : (z : Bool) → eqb (Provider.refusalOfBoth s absolute w t) 0 ≡ z → Kept s k limit (cond z (cleaned w t stale) w) log
-      go true e =
-          let p = both-passed s absolute w t (eqb-true _ 0 e) .1 in
-          cleaned-kept k w (cleaned w t stale) t log p (clean-run w t stale (p .room)) a
-      go false e = a

@@ -1,20 +1,21 @@
--- What an increment's decision says of its forecast n: what is admitted is at most H, and what is at most S is Allowed. S and H are the soft and the hard limit.
+-- What an increment's decision says of its forecast n: what is admitted is at most H, and what is at most S is Allowed. S and H are the soft and the hard
+-- limit.
 -- Assumes nothing.
 use mathlib.Core.Path.{_≡_, refl, sym, ap, _∙_}
 use mathlib.Core.Bool.{Bool, true, false, cond}
 use Prim.Native.Nat.{ℕ, _≤_}
-use Rattle.common.specs.Answers.{decisionRow}
-use Rattle.common.specs.LimitLaws.{soft-le-hard}
+use Rattle.answers.specs.Rows.{decisionRow}
+use Rattle.common_laws.specs.LimitLaws.{soft-le-hard}
 use Rattle.common.specs.Limits.{cutWord, softWord}
 use Rattle.common.specs.Ranges.{factorOk}
-use Rattle.common.specs.Settings.{factorIn}
-use Rattle.common.specs.declared.answers.RateLimitDecision.{RateLimitDecision}
-use Rattle.common.specs.declared.answers.RateLimitDecision.the-variants.{Allowed, Rejected, Suppressed, Refused}
-use Rattle.common.specs.declared.settings.Settings.{Settings}
-use Rattle.judge.specs.declared.Slot.{Slot}
-use Rattle.suppressed_rules.specs.Factor.{asked}
-use Rattle.suppressed_rules.specs.Forecast.{reachOf, outcome}
-use Rattle.views.specs.OnBuckets.{admits, reach-admits, reach-soft, declined-all}
+use Rattle.settings.specs.Settings.{factorIn}
+use Rattle.answers.specs.declared.RateLimitDecision.{RateLimitDecision}
+use Rattle.answers.specs.declared.RateLimitDecision.the-variants.{Allowed, Rejected, Suppressed, Refused}
+use Rattle.settings.specs.declared.Settings.{Settings}
+use Rattle.rules.specs.Held.{Held}
+use Rattle.rules.specs.Both.{liveOf}
+use Rattle.rules.specs.Suppressed.{admits, asked, forecast, reachOf, outcome}
+use Rattle.rules.specs.Laws.{reach-admits, reach-soft, declined-all}
 use Rattle.demand3.specs.History.{numberOf, admitsCount}
 
 -- ---- the rows of the decisions
@@ -35,20 +36,22 @@ pub number-refused : (n : ℕ) → numberOf (Refused n) ≡ n
 unfolding decisionRow
 number-refused n = refl
 
--- ---- the outcome of an increment
+-- ---- the outcome of an increment, of a key that holds h
 
-module _ (s : Settings) (t : ℕ) (x : Slot) (limit : ℕ) (z : Bool) (n c draw : ℕ) where
+module _ (s : Settings) (t limit c draw : ℕ) (h : Held) where
   -- "Count, and declined if not admitted"
-  pub declines : outcome s t x limit z n c draw .declined ≡ cond (admitsCount (outcome s t x limit z n c draw .decision)) 0 c
+  pub declines : outcome s t limit c draw h .declined ≡ cond (admitsCount (outcome s t limit c draw h .decision)) 0 c
   unfolding outcome
   declines =
-      declined-all (reachOf n (softWord (factorIn s) limit) (cutWord limit)) (asked s t x limit z) t c draw ∙ sym (ap (λ (is : Bool). cond is 0 c) (admits-is _))
+      declined-all (reachOf (forecast (liveOf s t h) c) (softWord (factorIn s) limit) (cutWord limit)) (asked s t limit h) t c draw ∙
+      sym (ap (λ (is : Bool). cond is 0 c) (admits-is _))
 
-  pub admits-hard : factorOk (factorIn s) ≡ true → admitsCount (outcome s t x limit z n c draw .decision) ≡ true → n ≤ cutWord limit
+  pub admits-hard : factorOk (factorIn s) ≡ true → admitsCount (outcome s t limit c draw h .decision) ≡ true → forecast (liveOf s t h) c ≤ cutWord limit
   unfolding outcome
-  admits-hard f h =
-      reach-admits n (softWord (factorIn s) limit) (cutWord limit) (asked s t x limit z) t c draw (soft-le-hard (factorIn s) limit f) (sym (admits-is _) ∙ h)
+  admits-hard f y =
+      reach-admits (forecast (liveOf s t h) c) (softWord (factorIn s) limit) (cutWord limit) (asked s t limit h) t c draw (soft-le-hard (factorIn s) limit f)
+      (sym (admits-is _) ∙ y)
 
-  pub allows-soft : n ≤ softWord (factorIn s) limit → outcome s t x limit z n c draw .decision ≡ Allowed
+  pub allows-soft : forecast (liveOf s t h) c ≤ softWord (factorIn s) limit → outcome s t limit c draw h .decision ≡ Allowed
   unfolding outcome
-  allows-soft h = reach-soft n (softWord (factorIn s) limit) (cutWord limit) (asked s t x limit z) t c draw h
+  allows-soft y = reach-soft (forecast (liveOf s t h) c) (softWord (factorIn s) limit) (cutWord limit) (asked s t limit h) t c draw y

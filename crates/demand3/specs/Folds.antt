@@ -6,24 +6,26 @@ use mathlib.Core.List.{List, [], _∷_}
 use mathlib.Core.Logic.{_≢_}
 use Prim.Native.Nat.{ℕ, _+_, _-_, _≤_}
 use Rattle.common.specs.Limits.{cutWord}
-use Rattle.common.specs.Settings.{windowIn, bucketIn}
-use Rattle.common.specs.declared.settings.Settings.{Settings}
+use Rattle.settings.specs.Settings.{windowIn, bucketIn}
+use Rattle.settings.specs.declared.Settings.{Settings}
 use Rattle.common.specs.declared.units.RateLimit.{RateLimit}
-use Rattle.history.specs.Rules.{windowTicks}
+use Rattle.rules.specs.Buckets.{windowTicks}
 use Rattle.room.specs.Room.{keyOf, lastOf, empty}
 use Rattle.frame.specs.Keys.{Bytes}
 use Rattle.frame.specs.Whole.{empty-free, empty-distinct}
 use Rattle.calls.specs.Rate.{setRateLimit}
-use Rattle.judge.specs.declared.RoomKind.the-variants as kind
+use Rattle.rules.specs.declared.RoomKind.the-variants as kind
 use Rattle.suppressed.specs.Calls as Calls
-use Rattle.spans.specs.Good.{good-none}
-use Rattle.spans.specs.Log.{Entry, noted, inSpan}
-use Rattle.demand3.specs.History.{Op, inc, get, getFactor, setRate, set, delete, cleanup, cleanupBoth, clear, Call, after, words, admitsCount, sameBytes, same-bytes, bytes-same, logged, admitted, IsKey, Spares, AllSpare, limitWord, hardOf}
-use Rattle.demand3.specs.Kept.{free-has, has-or, Kept}
-use Rattle.demand3.specs.Cleans.{cleanup-kept, both-kept}
-use Rattle.demand3.specs.Steps.{delete-kept, set-kept, rate-other, get-other, factor-other}
+use Rattle.admissions.specs.Good.{good-none}
+use Rattle.admissions.specs.Log.{Entry, noted, inSpan}
+use Rattle.places.specs.Has.{free-has, has-or}
+use Rattle.steps.specs.Each.{step}
+use Rattle.steps.specs.Ops.{Op, draws, snapshot, getFactor, setRate, set, delete, cleanup, cleanupBoth, clear, Call, after, words, Keyed, touches}
+use Rattle.demand3.specs.History.{admitsCount, sameBytes, same-bytes, bytes-same, logged, admitted, IsKey, Spares, AllSpare, limitWord, hardOf}
+use Rattle.demand3.specs.Kept.{Kept}
+use Rattle.demand3.specs.Steps.{Beside, beside-kept}
 use Rattle.demand3.specs.Owned.{get-own, factor-own, rate-own}
-use Rattle.demand3.specs.Increments.{inc-own, inc-other}
+use Rattle.demand3.specs.Increments.{inc-own}
 
 module _ (s : Settings) (le : bucketIn s ≤ windowTicks (windowIn s)) (key : List ℕ) (is : IsKey key) (rate : RateLimit) where
   abbrev Keeps : List ℕ → List Entry → Type 0
@@ -46,36 +48,47 @@ module _ (s : Settings) (le : bucketIn s ≤ windowTicks (windowIn s)) (key : Li
         go true e = let q = same-bytes j key e in subst P (sym q) (f q)
         go false e = g (λ q. true≢false (sym (bytes-same key) ∙ ap (λ (y : List ℕ). sameBytes y key) (sym q) ∙ e))
 
+    -- a call that leaves the key alone
+    beside : (op : Op kind.Suppressed) → Keyed op → Beside s key (touches op) → Keeps (after kind.Suppressed s w t op) log
+    beside op by b = beside-kept s le (limitWord s rate) key is w t log a op _ b (step kind.Suppressed s w t op by)
+
     inc-kept : (j : List ℕ) (r : RateLimit) (c draw : ℕ) → Bytes j → (j ≡ key → r ≡ rate) →
         Keeps (Calls.inc s w t j r c draw .words) (noted (sameBytes j key && admitsCount (Calls.inc s w t j r c draw .answer)) t c log)
     inc-kept j r c draw y q = go (sameBytes j key) refl
       where
-        go : (z : Bool) → sameBytes j key ≡ z → Keeps (Calls.inc s w t j r c draw .words) (noted (z && admitsCount (Calls.inc s w t j r c draw .answer)) t c log)
+        go : (z : Bool) → sameBytes j key ≡ z →
+            Keeps (Calls.inc s w t j r c draw .words) (noted (z && admitsCount (Calls.inc s w t j r c draw .answer)) t c log)
         go true e =
             let h = same-bytes j key e in
             subst (λ (i : List ℕ). Keeps (Calls.inc s w t i r c draw .words) (noted (admitsCount (Calls.inc s w t i r c draw .answer)) t c log)) (sym h)
             (inc-own s le (limitWord s rate) key is w t log a r (ap (limitWord s) (q h)) c draw)
         go false e =
-            inc-other s le (limitWord s rate) key is w t log a j r c draw y (λ h. true≢false (sym (bytes-same key) ∙ ap (λ (i : List ℕ). sameBytes i key) (sym h) ∙ e))
+            let n : j ≢ key = λ h. true≢false (sym (bytes-same key) ∙ ap (λ (i : List ℕ). sameBytes i key) (sym h) ∙ e) in
+            beside (draws j r c draw) y (y, n)
 
-    pub step-kept : (op : Op) → Spares s key rate op → Keeps (after s w t op) (logged s key w t op log)
-    step-kept (inc j r c draw) p = inc-kept j r c draw (p .0) (p .1)
-    step-kept (get j) p =
-        by-key (λ i. Keeps (Calls.get s w t i .words) log) j (λ q. get-own s le (limitWord s rate) key is w t log a) (λ n. get-other s le (limitWord s rate) key is w t log a j p n)
+    pub step-kept : (op : Op kind.Suppressed) → Spares s key rate op → Keeps (after kind.Suppressed s w t op) (logged s key w t op log)
+    step-kept (draws j r c draw) p = inc-kept j r c draw (p .0) (p .1)
+    step-kept (snapshot j) p =
+        by-key (λ i. Keeps (Calls.get s w t i .words) log) j (λ q. get-own s le (limitWord s rate) key is w t log a)
+        (λ n. beside (snapshot j) tt (p, n))
     step-kept (getFactor j) p =
-        by-key (λ i. Keeps (Calls.getFactor s w t i .words) log) j (λ q. factor-own s le (limitWord s rate) key is w t log a) (λ n. factor-other s le (limitWord s rate) key is w t log a j p n)
+        by-key (λ i. Keeps (Calls.getFactor s w t i .words) log) j (λ q. factor-own s le (limitWord s rate) key is w t log a)
+        (λ n. beside (getFactor j) p (p, n))
     step-kept (setRate j r) p =
-        by-key (λ i. Keeps (setRateLimit kind.Suppressed s w t i r .words) log) j (λ q. rate-own s le (limitWord s rate) key is w t log a r (ap (limitWord s) (p .1 q)))
-        (λ n. rate-other s le (limitWord s rate) key is w t log a j r (p .0) n)
-    step-kept (set j r comparator count mode) p = set-kept s le (limitWord s rate) key is w t log a j r comparator count mode (p .0) (p .1)
-    step-kept (delete j) p = delete-kept s le (limitWord s rate) key is w t log a j (p .0) (p .1)
-    step-kept (cleanup stale) p = cleanup-kept s le (limitWord s rate) stale p (keyOf key) w t log a
-    step-kept (cleanupBoth absolute stale) p = both-kept s le (limitWord s rate) stale p (keyOf key) absolute w t log a
+        by-key (λ i. Keeps (setRateLimit kind.Suppressed s w t i r .words) log) j
+        (λ q. rate-own s le (limitWord s rate) key is w t log a r (ap (limitWord s) (p .1 q)))
+        (λ n. beside (setRate j r) tt (p .0, n))
+    step-kept (set j r comparator count mode) p = beside (set j r comparator count mode) (p .0) p
+    step-kept (delete j) p = beside (delete j) tt p
+    step-kept (cleanup stale) p = beside (cleanup stale) tt p
+    step-kept (cleanupBoth absolute stale) p = beside (cleanupBoth absolute stale) tt p
     step-kept clear p = absurd p
 
-  pub all-kept : (w : List ℕ) → Keeps w [] → (calls : List Call) → AllSpare s key rate calls → Keeps (words s w calls) (admitted s key w calls)
+  pub all-kept : (w : List ℕ) → Keeps w [] → (calls : List (Call kind.Suppressed)) → AllSpare s key rate calls →
+      Keeps (words kind.Suppressed s w calls) (admitted s key w calls)
   all-kept w a [] p = a
-  all-kept w a (c ∷ cs) p = step-kept (words s w cs) (c .reading) (admitted s key w cs) (all-kept w a cs (p .1)) (c .op) (p .0)
+  all-kept w a (c ∷ cs) p = step-kept (words kind.Suppressed s w cs) (c .reading) (admitted s key w cs) (all-kept w a cs (p .1)) (c .op) (p .0)
 
-  pub kept-ceiling : (w : List ℕ) (log : List Entry) → Keeps w log → (from : ℕ) → inSpan from (from + (windowTicks (windowIn s) - bucketIn s)) log ≤ hardOf s rate
+  pub kept-ceiling : (w : List ℕ) (log : List Entry) → Keeps w log → (from : ℕ) →
+      inSpan from (from + (windowTicks (windowIn s) - bucketIn s)) log ≤ hardOf s rate
   kept-ceiling w log a from = has-or w (keyOf key) (a .distinct) (λ i h. a .good i h .ceiling from) (λ f. a .bare f .ceiling from)

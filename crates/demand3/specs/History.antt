@@ -1,5 +1,6 @@
--- Histories of calls on a suppressed room, by the verdicts that the calls' contracts name: the words after them, and what a key was admitted, counted from the answers given.
--- A history is a list of calls, newest first. Assumes nothing.
+-- Histories of calls on a suppressed room (`Call`, `words` of the steps): what a key was admitted, counted from the answers given, and the calls that
+-- leave a key to the limiter.
+-- Assumes nothing.
 use mathlib.Core.Path.{_≡_, refl, ap₂}
 use mathlib.Core.Bool.{Bool, true, false, _&&_, _||_, false≢true}
 use mathlib.Core.List.{List, [], _∷_}
@@ -9,62 +10,18 @@ use lib.Dec.{eqb}
 use lib.ListN.{length, getD}
 use borrow.Author.Tests.{eq-eqb, eqb-true}
 use Rattle.base.specs.Decides.{and-true, true-and}
-use Rattle.common.specs.Answers.{decisionRow}
+use Rattle.answers.specs.Rows.{decisionRow}
 use Rattle.common.specs.Limits.{hardWord, cutWord, softWord}
-use Rattle.common.specs.Settings.{windowIn, factorIn}
-use Rattle.common.specs.declared.answers.RateLimitDecision.{RateLimitDecision}
-use Rattle.common.specs.declared.comparator.RateLimitComparator.{RateLimitComparator}
-use Rattle.common.specs.declared.history_mode.HistoryUpdateMode.{HistoryUpdateMode}
-use Rattle.common.specs.declared.settings.Settings.{Settings}
+use Rattle.settings.specs.Settings.{windowIn, factorIn}
+use Rattle.answers.specs.declared.RateLimitDecision.{RateLimitDecision}
+use Rattle.settings.specs.declared.Settings.{Settings}
 use Rattle.common.specs.declared.units.RateLimit.{RateLimit}
-use Rattle.history.specs.Rules.{windowTicks}
+use Rattle.rules.specs.Buckets.{windowTicks}
 use Rattle.frame.specs.Keys.{Bytes}
-use Rattle.judge.specs.declared.RoomKind.the-variants as kind
-use Rattle.calls.specs.Clear as Clear
-use Rattle.calls.specs.Delete as Delete
-use Rattle.calls.specs.Rate as Rate
-use Rattle.calls.specs.Set as Set
-use Rattle.cleanup.specs.Cleanup as Cleanup
+use Rattle.rules.specs.declared.RoomKind.the-variants as kind
 use Rattle.suppressed.specs.Calls as Own
-use Rattle.provider.specs.Provider as Provider
-use Rattle.spans.specs.Log.{Entry, noted}
-
--- ---- calls
-
-pub data Op : Type 0 where
-  -- key, rate, count, draw
-  inc : List ℕ → RateLimit → ℕ → ℕ → Op
-  get : List ℕ → Op
-  getFactor : List ℕ → Op
-  setRate : List ℕ → RateLimit → Op
-  set : List ℕ → RateLimit → RateLimitComparator → ℕ → HistoryUpdateMode → Op
-  delete : List ℕ → Op
-  -- the stale time; and the provider's cleanup, which the words of an absolute room come with
-  cleanup : ℕ → Op
-  cleanupBoth : List ℕ → ℕ → Op
-  clear : Op
-
-pub record Call : Type 0 where
-  pub reading : ℕ
-  pub op : Op
-
--- ---- the words after
-
-abbrev pub after : Settings → List ℕ → ℕ → Op → List ℕ
-after s w t (inc key rate count draw) = Own.inc s w t key rate count draw .words
-after s w t (get key) = Own.get s w t key .words
-after s w t (getFactor key) = Own.getFactor s w t key .words
-after s w t (setRate key rate) = Rate.setRateLimit kind.Suppressed s w t key rate .words
-after s w t (set key rate comparator count mode) = Set.set kind.Suppressed s w t key rate comparator count mode .words
-after s w t (delete key) = Delete.delete kind.Suppressed s w t key .words
-after s w t (cleanup stale) = Cleanup.cleanup kind.Suppressed s w t stale .words
-after s w t (cleanupBoth absolute stale) = Provider.cleanup s absolute w t stale .suppressed
-after s w t clear = Clear.clear s w t .words
-
--- of a history, from the words w
-abbrev pub words : Settings → List ℕ → List Call → List ℕ
-words s w [] = w
-words s w (c ∷ cs) = after s (words s w cs) (c .reading) (c .op)
+use Rattle.admissions.specs.Log.{Entry, noted}
+use Rattle.steps.specs.Ops.{Op, draws, snapshot, getFactor, setRate, set, delete, cleanup, cleanupBoth, clear, Call, words}
 
 -- ---- what a key was admitted
 
@@ -98,9 +55,9 @@ bytes-same [] = refl
 bytes-same (x ∷ xs) = true-and (eqb x x) _ (eq-eqb x x refl) (bytes-same xs)
 
 -- the key's log after a call
-abbrev pub logged : Settings → List ℕ → List ℕ → ℕ → Op → List Entry → List Entry
-logged s key w t (inc k rate count draw) log = noted (sameBytes k key && admitsCount (Own.inc s w t k rate count draw .answer)) t count log
-logged s key w t (get k) log = log
+abbrev pub logged : Settings → List ℕ → List ℕ → ℕ → Op kind.Suppressed → List Entry → List Entry
+logged s key w t (draws k rate count draw) log = noted (sameBytes k key && admitsCount (Own.inc s w t k rate count draw .answer)) t count log
+logged s key w t (snapshot k) log = log
 logged s key w t (getFactor k) log = log
 logged s key w t (setRate k rate) log = log
 logged s key w t (set k rate comparator count mode) log = log
@@ -110,9 +67,9 @@ logged s key w t (cleanupBoth absolute stale) log = log
 logged s key w t clear log = log
 
 -- of a history, from the words w
-abbrev pub admitted : Settings → List ℕ → List ℕ → List Call → List Entry
+abbrev pub admitted : Settings → List ℕ → List ℕ → List (Call kind.Suppressed) → List Entry
 admitted s key w [] = []
-admitted s key w (c ∷ cs) = logged s key (words s w cs) (c .reading) (c .op) (admitted s key w cs)
+admitted s key w (c ∷ cs) = logged s key (words kind.Suppressed s w cs) (c .reading) (c .op) (admitted s key w cs)
 
 -- ---- calls that leave a key to the limiter
 
@@ -121,10 +78,11 @@ pub record IsKey (key : List ℕ) : Type 0 where
   pub bytes : Bytes key
   pub short : length key ≤ 32
 
--- the key's rate never changes, nobody sets or deletes the key, and nobody clears the room or cleans it with a stale time below the window. Keys are bytes, of any number
-abbrev pub Spares : Settings → List ℕ → RateLimit → Op → Type 0
-Spares s key rate (inc k r count draw) = Bytes k × (k ≡ key → r ≡ rate)
-Spares s key rate (get k) = Bytes k
+-- the key's rate never changes, nobody sets or deletes the key, and nobody clears the room or cleans it with a stale time below the window. Keys are
+-- bytes, of any number
+abbrev pub Spares : Settings → List ℕ → RateLimit → Op kind.Suppressed → Type 0
+Spares s key rate (draws k r count draw) = Bytes k × (k ≡ key → r ≡ rate)
+Spares s key rate (snapshot k) = Bytes k
 Spares s key rate (getFactor k) = Bytes k
 Spares s key rate (setRate k r) = Bytes k × (k ≡ key → r ≡ rate)
 Spares s key rate (set k r comparator count mode) = Bytes k × (k ≢ key)
@@ -133,7 +91,7 @@ Spares s key rate (cleanup stale) = windowTicks (windowIn s) ≤ stale
 Spares s key rate (cleanupBoth absolute stale) = windowTicks (windowIn s) ≤ stale
 Spares s key rate clear = ⊥
 
-abbrev pub AllSpare : Settings → List ℕ → RateLimit → List Call → Type 0
+abbrev pub AllSpare : Settings → List ℕ → RateLimit → List (Call kind.Suppressed) → Type 0
 AllSpare s key rate [] = Unit {0}
 AllSpare s key rate (c ∷ cs) = Spares s key rate (c .op) × AllSpare s key rate cs
 

@@ -1,56 +1,59 @@
--- `inc` keeps what holds of a key: of another key it changes another slot; of the key itself the count joins the live buckets, and the log what is admitted.
+-- An increment of the key itself keeps what holds of it: the count joins the live buckets, and the log what is admitted.
 -- Assumes nothing.
-use mathlib.Core.Path.{_≡_, refl, sym, ap, subst, _∙_}
+use mathlib.Core.Path.{_≡_, refl, sym, ap, ap₂, subst, _∙_}
 use mathlib.Core.Bool.{Bool, true, false, cond, true≢false}
 use mathlib.Core.List.{List, []}
 use mathlib.Core.Logic.{_≢_}
-use Prim.Native.Nat.{ℕ, _+_, _-_, _≤_, _<_}
+use Prim.Native.Nat.{ℕ, _+_, _-_, _≤_}
 use native.Mathlib.Omega.{arith}
-use lib.Dec.{leb}
 use lib.ListN.{drop}
-use borrow.Author.Tests.{leb-false}
-use Rattle.common.specs.Limits.{hardWord, cutWord, softWord}
-use Rattle.common.specs.Refusals.{first, all-false, none-first}
-use Rattle.common.specs.Settings.{windowIn, bucketIn, factorIn}
-use Rattle.common.specs.declared.answers.RateLimitDecision.the-variants as decided
-use Rattle.common.specs.declared.settings.Settings.{Settings}
+use Rattle.common.specs.Limits.{cutWord, softWord}
+use Rattle.common.specs.Refusals.{first}
+use Rattle.settings.specs.Settings.{windowIn, bucketIn, factorIn}
+use Rattle.answers.specs.declared.RateLimitDecision.the-variants as decided
+use Rattle.settings.specs.declared.Settings.{Settings}
 use Rattle.common.specs.declared.units.RateLimit.{RateLimit}
-use Rattle.history.specs.Rules.{windowTicks, within, joined}
-use Rattle.history.specs.declared.tally.Pass.{Pass}
+use Rattle.rules.specs.Buckets.{windowTicks, recent, joined}
+use Rattle.sweep.specs.declared.tally.Pass.{Pass}
 use Rattle.ring.specs.declared.Bucket.{Bucket}
 use Rattle.ring.specs.Order.{Fine}
 use Rattle.ring.specs.Ring.{countOf, deniedOf, counts, declineds, buckets}
 use Rattle.ring.specs.Sums.{sum-none}
-use Rattle.room.specs.Room.{slotsOf, ringOf, keyOf, bodyOf}
+use Rattle.room.specs.Room.{ringOf, keyOf, bodyOf}
 use Rattle.frame.specs.Distinct.{Distinct}
 use Rattle.frame.specs.Keys.{Bytes}
 use Rattle.change.specs.declared.Change.{Change}
 use Rattle.change.specs.declared.Edit.{Edit}
 use Rattle.change.specs.declared.Then.the-variants.{Increment}
-use Rattle.change.specs.Words.{startedView, actedView, editedView, applied, Applies}
-use Rattle.judge.specs.declared.RoomKind.the-variants as kind
+use Rattle.change.specs.Words.{startedView, actedView, editedView, applied}
+use Rattle.rules.specs.declared.RoomKind.the-variants as kind
 use Rattle.judge.specs.declared.Slot.{Slot}
 use Rattle.judge.specs.Judge.{early, Passed, hasSlot, slotIn}
 use Rattle.judge.specs.Laws.{passed}
+use Rattle.judge.specs.Verdict.{call-either}
 use Rattle.plan.specs.Plan.{evicting, opening}
-use Rattle.calls.specs.Rate.{limitIn}
-use Rattle.calls.specs.SetLaws.{known-has}
-use Rattle.suppressed_rules.specs.declared.factor.Caching.{Caching}
-use Rattle.suppressed_rules.specs.declared.forecast.Outcome.{Outcome}
-use Rattle.suppressed.specs.Calls.{unperceived, limitFor, incOutcome, incOwn, incDoes, incOn, inc}
+use Rattle.rules.specs.Both.{limitIn, liveOf}
+use Rattle.calls.specs.Applies.{known-has}
+use Rattle.rules.specs.declared.Caching.{Caching}
+use Rattle.rules.specs.declared.Outcome.{Outcome}
+use Rattle.rules.specs.Held.{Held}
+use Rattle.rules.specs.Suppressed.{limitFor, forecast, outcome, incTurns}
+use Rattle.judge.specs.Held.{heldIn, noneFree}
+use Rattle.plan.specs.Seen.{Seen, seen}
+use Rattle.suppressed.specs.Calls.{inc}
 use Rattle.suppressed_edits.specs.Edits.{recached, incEdit, incChange}
-use Rattle.suppressed_rules.specs.Forecast.{forecast}
-use Rattle.suppressed.specs.Laws.{inc-applies, place-used}
-use Rattle.suppressed_edits.specs.Refusals.{placeOf, incLate}
-use Rattle.suppressed.specs.Standing.{unknown, unperceived-is}
-use Rattle.spans.specs.Good.{good-record, good-floor}
-use Rattle.spans.specs.Log.{Entry, noted, aged}
+use Rattle.suppressed_opened.specs.Opened.{forecastAt}
+use Rattle.suppressed.specs.Laws.{place-used}
+use Rattle.plan.specs.Plan.{placeOf}
+use Rattle.suppressed.specs.Standing.{unknown}
+use Rattle.admissions.specs.Good.{good-record, good-floor}
+use Rattle.admissions.specs.Log.{Entry, noted, aged}
+use Rattle.places.specs.Placed.{Own, own-either}
+use Rattle.steps.specs.Each.{draws-does}
+use Rattle.steps.specs.Moves.{moves-placed}
 use Rattle.demand3.specs.History.{IsKey, numberOf, admitsCount}
 use Rattle.demand3.specs.Decided.{admits-refused, number-refused, declines, admits-hard, allows-soft}
 use Rattle.demand3.specs.Kept.{GoodAt, Kept}
-use Rattle.demand3.specs.Placed.{Placed, Own, own-either}
-use Rattle.demand3.specs.Places.{inc-placed}
-use Rattle.demand3.specs.Steps.{call-either, other-kept}
 use Rattle.demand3.specs.Owned.{after-series, edit-kept, limit-known, good-known, live-is, live-fine, live-sums, good-live, good-bare}
 
 -- ---- the edit and the limit, of a known key and of one that begins
@@ -64,62 +67,30 @@ module _ (s : Settings) (x : Slot) (rate : RateLimit) where
   unfolding incEdit
   edit-new limit c d e = ap (λ (z : Bool). cond z (evicting x (Increment c d)) (opening limit (Increment c d) (x .factor) (x .«factor_time») (x .used))) e
 
-  limit-own : x .series ≡ true → limitFor s x rate ≡ x .limit
-  unfolding limitFor
-  limit-own e = ap (λ (z : Bool). cond z (x .limit) (hardWord (rate .0) (factorIn s) (windowIn s))) e
-
-  limit-new : x .series ≡ false → limitFor s x rate ≡ limitIn kind.Suppressed s rate
-  unfolding limitFor
-  limit-new e = ap (λ (z : Bool). cond z (x .limit) (hardWord (rate .0) (factorIn s) (windowIn s))) e
-
--- ---- an increment that is not refused can be carried out, at its place
+-- ---- an increment that is not refused changes the key's slot
 
 module _ (s : Settings) (w : List ℕ) (t : ℕ) (j : List ℕ) (rate : RateLimit) (c draw : ℕ) where
   abbrev x : Slot
   x = slotIn s w t j
 
   abbrev o : Outcome
-  o = incOutcome s t rate c draw (slotIn s w t j) (unperceived s (slotIn s w t j))
+  o = outcome s t (limitFor s rate (heldIn w j)) c draw (heldIn w j)
 
   abbrev edit : Edit
-  edit = recached x (o .caching) (incEdit x (limitFor s x rate) c (o .declined))
+  edit = recached x (o .caching) (incEdit x (limitFor s rate (heldIn w j)) c (o .declined))
 
   abbrev change : Change
-  change = incChange x (limitFor s x rate) c (o .declined) (o .caching)
+  change = incChange x (limitFor s rate (heldIn w j)) c (o .declined) (o .caching)
 
-  module _ (e : early kind.Suppressed s w t j ≡ 0) (f : first (incOwn s w t rate c draw x o) ≡ 0) where
-    late : first (incLate s x (leb (slotsOf w) (placeOf w x)) (ringOf w) t rate c draw) ≡ 0
-    late =
-        let g = all-false (incOwn s w t rate c draw x o) (omega arith) f in
-        none-first (incLate s x (leb (slotsOf w) (placeOf w x)) (ringOf w) t rate c draw) (g .0, (g .1 .0, (g .1 .1 .0, (g .1 .1 .1 .0, (g .1 .1 .1 .1 .0, tt)))))
+  own : Bytes j → early kind.Suppressed s w t j ≡ 0 → first (incTurns s (ringOf w) (noneFree w) t rate c draw (heldIn w j)) ≡ 0 → Distinct w →
+      Own w (applied w (placeOf w x) j (bucketIn s) t change) (placeOf w x) (bucketIn s) t (keyOf j) edit
+  unfolding incChange
+  own by e f d =
+      let m = draws-does s w t j rate c draw by e f in
+      own-either w (placeOf w x) j (bucketIn s) t d edit (hasSlot x) (m .applies) (moves-placed x w (keyOf j) (placeOf w x) change (m .moves))
 
-    inside : placeOf w x < slotsOf w
-    inside = leb-false (slotsOf w) (placeOf w x) (all-false (incOwn s w t rate c draw x o) (omega arith) f .1 .1 .1 .0)
-
-    carried-out : Applies w (placeOf w x) (bucketIn s) t change
-    carried-out =
-        inc-applies s w t j e x refl (placeOf w x) refl (leb (slotsOf w) (placeOf w x)) refl rate c draw (ringOf w) (first (incLate s x (leb (slotsOf w) (placeOf w x)) (ringOf w) t rate c draw)) refl refl late o (limitFor s x rate)
-        (forecast x c) refl refl (ap (incOutcome s t rate c draw x) (unperceived-is s w t j (passed kind.Suppressed s w t j e) x refl)) change refl
-
-    placed : Placed w (placeOf w x) (keyOf j) change
-    placed = inc-placed s w t j (passed kind.Suppressed s w t j e) (limitFor s x rate) c (o .declined) (o .caching) inside
-
-    own : Distinct w → Own w (applied w (placeOf w x) j (bucketIn s) t change) (placeOf w x) (bucketIn s) t (keyOf j) edit
-    unfolding incChange
-    own d = own-either w (placeOf w x) j (bucketIn s) t d edit (hasSlot x) carried-out placed
-
-module _ (s : Settings) (le : bucketIn s ≤ windowTicks (windowIn s)) (limit : ℕ) (key : List ℕ) (is : IsKey key) (w : List ℕ) (t : ℕ) (log : List Entry) (a : Kept s (keyOf key) limit w log) where
-  -- ---- another key
-
-  pub inc-other : (j : List ℕ) (rate : RateLimit) (c draw : ℕ) → Bytes j → j ≢ key → Kept s (keyOf key) limit (inc s w t j rate c draw .words) log
-  unfolding inc incOn
-  inc-other j rate c draw y n =
-      let x = slotIn s w t j in
-      let o = incOutcome s t rate c draw x (unperceived s x) in
-      call-either decided.Refused kind.Suppressed s w t j (incOwn s w t rate c draw x o) (incDoes s w t j rate c x o) (λ v. Kept s (keyOf key) limit (v .words) log) (λ m z. a)
-      (λ e f.
-      other-kept s le limit key is w t log a j y n (passed kind.Suppressed s w t j e) (placeOf w x) _ (carried-out s w t j rate c draw e f) (placed s w t j rate c draw e f))
-
+module _ (s : Settings) (le : bucketIn s ≤ windowTicks (windowIn s)) (limit : ℕ) (key : List ℕ) (is : IsKey key) (w : List ℕ) (t : ℕ) (log : List Entry)
+    (a : Kept s (keyOf key) limit w log) where
   -- ---- the key itself: `yes` says whether c is admitted
 
   module _ (p : Passed kind.Suppressed s w t key) (c d : ℕ) (yes : Bool) (q : d ≡ cond yes 0 c) (v : List ℕ) (k : Caching) where
@@ -129,7 +100,8 @@ module _ (s : Settings) (le : bucketIn s ≤ windowTicks (windowIn s)) (limit : 
     abbrev view : List Bucket
     view = buckets (ringOf w) (bodyOf w (slotIn s w t key .at))
 
-    joins-known : known .series ≡ true → (yes ≡ true → forecast known c ≤ cutWord limit) → Own w v (known .at) (bucketIn s) t (keyOf key) (recached known k (evicting known (Increment c d))) →
+    joins-known : known .series ≡ true → (yes ≡ true → forecastAt known c ≤ cutWord limit) →
+        Own w v (known .at) (bucketIn s) t (keyOf key) (recached known k (evicting known (Increment c d))) →
         Kept s (keyOf key) limit v (noted yes t c log)
     unfolding recached editedView actedView startedView
     joins-known e f o =
@@ -143,7 +115,8 @@ module _ (s : Settings) (le : bucketIn s ≤ windowTicks (windowIn s)) (limit : 
         })
         (λ h. absurd (true≢false (sym (after-series k known) ∙ h)))
 
-    joins-new : (at l m n u : ℕ) → known .series ≡ false → l ≡ limit → (yes ≡ true → c ≤ cutWord limit) → Own w v at (bucketIn s) t (keyOf key) (recached known k (opening l (Increment c d) m n u)) →
+    joins-new : (at l m n u : ℕ) → known .series ≡ false → l ≡ limit → (yes ≡ true → c ≤ cutWord limit) →
+        Own w v at (bucketIn s) t (keyOf key) (recached known k (opening l (Increment c d) m n u)) →
         Kept s (keyOf key) limit v (noted yes t c log)
     unfolding recached editedView actedView startedView
     joins-new at l m n u e r f o =
@@ -162,84 +135,110 @@ module _ (s : Settings) (le : bucketIn s ≤ windowTicks (windowIn s)) (limit : 
     abbrev slot : Slot
     slot = slotIn s w t key
 
+    abbrev held : Held
+    held = heldIn w key
+
+    abbrev deciding : ℕ
+    deciding = limitFor s rate (heldIn w key)
+
     abbrev out : Outcome
-    out = incOutcome s t rate c draw (slotIn s w t key) (unperceived s (slotIn s w t key))
+    out = outcome s t (limitFor s rate (heldIn w key)) c draw (heldIn w key)
+
+    sees : Passed kind.Suppressed s w t key → Seen (windowIn s) t (heldIn w key) (slotIn s w t key)
+    sees p = seen kind.Suppressed s w t key p
 
     -- the limit that decides
-    limit-is : Passed kind.Suppressed s w t key → limitFor s slot rate ≡ limit
-    limit-is p = go (slot .series) refl
+    limit-is : Passed kind.Suppressed s w t key → limitFor s rate (heldIn w key) ≡ limit
+    limit-is p = go (held .known) refl
       where
-        go : (z : Bool) → slot .series ≡ z → limitFor s slot rate ≡ limit
-        go true e = limit-own s slot rate e ∙ limit-known s le limit key is w t log a p e
-        go false e = limit-new s slot rate e ∙ r
+        go : (z : Bool) → heldIn w key .known ≡ z → limitFor s rate (heldIn w key) ≡ limit
+        go true e =
+            ap (λ (z : Bool). cond z (held .limit) (limitIn kind.Suppressed s rate)) e ∙ sym (sees p .limit-is e) ∙
+            limit-known s le limit key is w t log a p (sees p .series-is ∙ e)
+        go false e = ap (λ (z : Bool). cond z (held .limit) (limitIn kind.Suppressed s rate)) e ∙ r
+
+    -- the slot's live counts are the live buckets'
+    forecast-is : Passed kind.Suppressed s w t key → forecast (liveOf s t (heldIn w key)) c ≡ forecastAt (slotIn s w t key) c
+    forecast-is p = sym (ap₂ (λ (m n : ℕ). m - n + c) (sees p .live-is) (sees p .declined-is))
 
     -- nothing was counted of a key that is unknown
-    nothing : Passed kind.Suppressed s w t key → slot .series ≡ false → forecast slot c ≡ c
+    nothing : Passed kind.Suppressed s w t key → slot .series ≡ false → forecastAt slot c ≡ c
     nothing p e =
         let u = unknown s w t key p slot refl e in
         let m = ap (λ (y : Pass). y .«live_total») u in
         omega arith
 
-    below : Passed kind.Suppressed s w t key → admitsCount (out .decision) ≡ true → forecast slot c ≤ cutWord limit
+    below : Passed kind.Suppressed s w t key → admitsCount (out .decision) ≡ true → forecastAt slot c ≤ cutWord limit
     below p y =
-        subst (λ (l : ℕ). forecast slot c ≤ cutWord l) (limit-is p)
-        (admits-hard s t slot (limitFor s slot rate) (unperceived s slot) (forecast slot c) c draw (p .settings .factor) y)
+        subst (λ (l : ℕ). forecastAt slot c ≤ cutWord l) (limit-is p)
+        (subst (λ (n : ℕ). n ≤ cutWord deciding) (forecast-is p) (admits-hard s t deciding c draw held (p .settings .factor) y))
 
-    done-kept : (e : early kind.Suppressed s w t key ≡ 0) → first (incOwn s w t rate c draw slot out) ≡ 0 →
-        Kept s (keyOf key) limit (applied w (placeOf w slot) key (bucketIn s) t (incChange slot (limitFor s slot rate) c (out .declined) (out .caching))) (noted (admitsCount (out .decision)) t c log)
+    done-kept : (e : early kind.Suppressed s w t key ≡ 0) → first (incTurns s (ringOf w) (noneFree w) t rate c draw held) ≡ 0 →
+        Kept s (keyOf key) limit (applied w (placeOf w slot) key (bucketIn s) t (incChange slot (deciding) c (out .declined) (out .caching)))
+        (noted (admitsCount (out .decision)) t c log)
     done-kept e f = go (slot .series) refl
       where
         p : Passed kind.Suppressed s w t key
         p = passed kind.Suppressed s w t key e
 
         v : List ℕ
-        v = applied w (placeOf w slot) key (bucketIn s) t (incChange slot (limitFor s slot rate) c (out .declined) (out .caching))
+        v = applied w (placeOf w slot) key (bucketIn s) t (incChange slot (deciding) c (out .declined) (out .caching))
 
         q : out .declined ≡ cond (admitsCount (out .decision)) 0 c
-        q = declines s t slot (limitFor s slot rate) (unperceived s slot) (forecast slot c) c draw
+        q = declines s t deciding c draw held
 
         go : (z : Bool) → slot .series ≡ z → Kept s (keyOf key) limit v (noted (admitsCount (out .decision)) t c log)
         go true h =
             joins-known p c (out .declined) (admitsCount (out .decision)) q v (out .caching) h (below p)
-            (subst (λ (y : Edit). Own w v (slot .at) (bucketIn s) t (keyOf key) (recached slot (out .caching) y)) (edit-known s slot rate (limitFor s slot rate) c (out .declined) h)
-            (subst (λ (i : ℕ). Own w v i (bucketIn s) t (keyOf key) (recached slot (out .caching) (incEdit slot (limitFor s slot rate) c (out .declined)))) (place-used s w t key e slot refl (known-has slot h))
-            (own s w t key rate c draw e f (a .distinct))))
+            (subst (λ (y : Edit). Own w v (slot .at) (bucketIn s) t (keyOf key) (recached slot (out .caching) y))
+            (edit-known s slot rate (deciding) c (out .declined) h)
+            (subst (λ (i : ℕ). Own w v i (bucketIn s) t (keyOf key) (recached slot (out .caching) (incEdit slot (deciding) c (out .declined))))
+            (place-used s w t key e slot refl (known-has slot h))
+            (own s w t key rate c draw (is .bytes) e f (a .distinct))))
         go false h =
-            joins-new p c (out .declined) (admitsCount (out .decision)) q v (out .caching) (placeOf w slot) (limitFor s slot rate) (slot .factor) (slot .«factor_time») (slot .used) h (limit-is p)
+            joins-new p c (out .declined) (admitsCount (out .decision)) q v (out .caching) (placeOf w slot) (deciding) (slot .factor)
+            (slot .«factor_time») (slot .used) h (limit-is p)
             (λ y. omega (arith, below p y, nothing p h))
-            (subst (λ (y : Edit). Own w v (placeOf w slot) (bucketIn s) t (keyOf key) (recached slot (out .caching) y)) (edit-new s slot rate (limitFor s slot rate) c (out .declined) h)
-            (own s w t key rate c draw e f (a .distinct)))
+            (subst (λ (y : Edit). Own w v (placeOf w slot) (bucketIn s) t (keyOf key) (recached slot (out .caching) y))
+            (edit-new s slot rate (deciding) c (out .declined) h)
+            (own s w t key rate c draw (is .bytes) e f (a .distinct)))
 
     pub inc-own : Kept s (keyOf key) limit (inc s w t key rate c draw .words) (noted (admitsCount (inc s w t key rate c draw .answer)) t c log)
-    unfolding inc incOn
+    unfolding inc
     inc-own =
-        call-either decided.Refused kind.Suppressed s w t key (incOwn s w t rate c draw slot out) (incDoes s w t key rate c slot out)
+        call-either decided.Refused kind.Suppressed s w t key (incTurns s (ringOf w) (noneFree w) t rate c draw held) _
         (λ v. Kept s (keyOf key) limit (v .words) (noted (admitsCount (v .answer)) t c log))
         (λ m z. subst (λ (y : Bool). Kept s (keyOf key) limit w (noted y t c log)) (sym (admits-refused m)) a) done-kept
 
     -- ---- what is at most S, with all admitted at ages up to the window, is Allowed
 
-    soft-enough : Passed kind.Suppressed s w t key → c + aged (windowTicks (windowIn s)) t log ≤ softWord (factorIn s) limit → forecast slot c ≤ softWord (factorIn s) limit
+    soft-enough : Passed kind.Suppressed s w t key → c + aged (windowTicks (windowIn s)) t log ≤ softWord (factorIn s) limit →
+        forecastAt slot c ≤ softWord (factorIn s) limit
     soft-enough p h = go (slot .series) refl
       where
-        go : (z : Bool) → slot .series ≡ z → forecast slot c ≤ softWord (factorIn s) limit
+        go : (z : Bool) → slot .series ≡ z → forecastAt slot c ≤ softWord (factorIn s) limit
         go true e =
             let xs = buckets (ringOf w) (bodyOf w (slot .at)) in
             let l = live-is s le limit key is w t log a p e in
-            let g : counts (within (windowTicks (windowIn s)) t xs) - declineds (within (windowTicks (windowIn s)) t xs) ≤ aged (windowTicks (windowIn s)) t log =
-            good-floor (windowTicks (windowIn s)) (bucketIn s) (cutWord limit) (subst (λ (ys : List Bucket). Fine 0 ys t) (sym l) (live-fine s le limit key is w t log a p e)) (good-known s le limit key is w t log a p e) in
-            let m : counts (within (windowTicks (windowIn s)) t xs) - declineds (within (windowTicks (windowIn s)) t xs) ≡ counts (drop (slot .pass .expired) xs) - declineds (drop (slot .pass .expired) xs) =
+            let g : counts (recent (windowTicks (windowIn s)) t xs) - declineds (recent (windowTicks (windowIn s)) t xs) ≤
+            aged (windowTicks (windowIn s)) t log =
+            good-floor (windowTicks (windowIn s)) (bucketIn s) (cutWord limit)
+            (subst (λ (ys : List Bucket). Fine 0 ys t) (sym l) (live-fine s le limit key is w t log a p e)) (good-known s le limit key is w t log a p e) in
+            let m : counts (recent (windowTicks (windowIn s)) t xs) - declineds (recent (windowTicks (windowIn s)) t xs) ≡
+            counts (drop (slot .pass .expired) xs) - declineds (drop (slot .pass .expired) xs) =
             ap (λ (ys : List Bucket). counts ys - declineds ys) l in
             omega (arith, h, g, m, live-sums s le limit key is w t log a p e)
         go false e = omega (arith, h, nothing p e)
 
-    pub inc-soft : numberOf (inc s w t key rate c draw .answer) ≡ 0 → c + aged (windowTicks (windowIn s)) t log ≤ softWord (factorIn s) limit → inc s w t key rate c draw .answer ≡ decided.Allowed
-    unfolding inc incOn
+    pub inc-soft : numberOf (inc s w t key rate c draw .answer) ≡ 0 → c + aged (windowTicks (windowIn s)) t log ≤ softWord (factorIn s) limit →
+        inc s w t key rate c draw .answer ≡ decided.Allowed
+    unfolding inc
     inc-soft =
-        call-either decided.Refused kind.Suppressed s w t key (incOwn s w t rate c draw slot out) (incDoes s w t key rate c slot out)
+        call-either decided.Refused kind.Suppressed s w t key (incTurns s (ringOf w) (noneFree w) t rate c draw held) _
         (λ v. numberOf (v .answer) ≡ 0 → c + aged (windowTicks (windowIn s)) t log ≤ softWord (factorIn s) limit → v .answer ≡ decided.Allowed)
         (λ m z n h. absurd (z (sym (number-refused m) ∙ n)))
         (λ e f n h.
         let p = passed kind.Suppressed s w t key e in
-        allows-soft s t slot (limitFor s slot rate) (unperceived s slot) (forecast slot c) c draw
-        (subst (λ (l : ℕ). forecast slot c ≤ softWord (factorIn s) l) (sym (limit-is p)) (soft-enough p h)))
+        allows-soft s t deciding c draw held
+        (subst (λ (n : ℕ). n ≤ softWord (factorIn s) deciding) (sym (forecast-is p))
+        (subst (λ (l : ℕ). forecastAt slot c ≤ softWord (factorIn s) l) (sym (limit-is p)) (soft-enough p h))))

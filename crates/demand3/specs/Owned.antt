@@ -4,52 +4,60 @@ use mathlib.Core.Path.{_≡_, refl, sym, ap, ap₂, subst, _∙_}
 use mathlib.Core.Bool.{Bool, true, false, cond, false≢true, true≢false}
 use mathlib.Core.List.{List, []}
 use Prim.Native.Nat.{ℕ, _-_, _≤_}
-use lib.Dec.{leb, eqb}
+use lib.Dec.{eqb}
 use lib.ListN.{drop}
-use borrow.Author.Tests.{leb-false}
 use Rattle.common.specs.Limits.{cutWord}
-use Rattle.common.specs.Settings.{windowIn, bucketIn}
-use Rattle.common.specs.declared.settings.Settings.{Settings}
+use Rattle.settings.specs.Settings.{windowIn, bucketIn}
+use Rattle.settings.specs.declared.Settings.{Settings}
 use Rattle.common.specs.declared.units.RateLimit.{RateLimit}
-use Rattle.common.specs.declared.answers.FactorAnswer.the-variants as factored
-use Rattle.common.specs.declared.answers.OldRateAnswer.the-variants as rated
-use Rattle.common.specs.declared.answers.SnapshotAnswer.the-variants as gotten
-use Rattle.history.specs.Measured.{evicted-live}
-use Rattle.history.specs.Rules.{windowTicks, within}
+use Rattle.answers.specs.declared.FactorAnswer.the-variants as factored
+use Rattle.answers.specs.declared.OldRateAnswer.the-variants as rated
+use Rattle.answers.specs.declared.SnapshotAnswer.the-variants as gotten
+use Rattle.sweep.specs.Measured.{evicted-live}
+use Rattle.rules.specs.Buckets.{windowTicks, recent}
 use Rattle.ring.specs.declared.Bucket.{Bucket}
 use Rattle.ring.specs.Order.{Fine, fine-drop}
 use Rattle.ring.specs.Ring.{counts, declineds, buckets}
 use Rattle.room.specs.declared.Key.{Key}
-use Rattle.room.specs.Room.{slotsOf, ringOf, keyOf, bodyOf}
+use Rattle.room.specs.Room.{ringOf, keyOf, bodyOf}
 use Rattle.change.specs.declared.Change.the-variants.{Keep, Update}
 use Rattle.change.specs.declared.Edit.{Edit}
 use Rattle.change.specs.declared.Then.the-variants as then
 use Rattle.change.specs.Laws.{edited-is}
 use Rattle.change.specs.Words.{startedView, actedView, editedView, edited, applied, Applies}
-use Rattle.judge.specs.declared.RoomKind.the-variants as kind
+use Rattle.rules.specs.declared.RoomKind.the-variants as kind
 use Rattle.judge.specs.declared.Slot.{Slot}
 use Rattle.judge.specs.Judge.{early, Passed, slotIn}
 use Rattle.judge.specs.Laws.{passed}
 use Rattle.judge.specs.Sound.{hasSeries}
+use Rattle.judge.specs.Verdict.{call-either}
 use Rattle.plan.specs.Known.{Known}
 use Rattle.plan.specs.Plan.{keeping, evicting}
 use Rattle.calls.specs.Calls.{known-at}
-use Rattle.calls.specs.Rate.{limitIn, forgotten, usedWith, relimited, limiting, rateOwnOf, limits, setRateLimit, rate-applies}
-use Rattle.calls.specs.SetLaws.{known-has}
-use Rattle.suppressed_rules.specs.declared.factor.Caching.{Caching}
-use Rattle.suppressed_rules.specs.declared.factor.Caching.the-variants.{Left, Cached}
-use Rattle.suppressed.specs.Calls.{asking, getOwn, getDoes, getOn, get, factorOwn, factorDoes, factorOn, getFactor}
+use Rattle.rules.specs.Both.{limitIn}
+use Rattle.shared_opened.specs.Opened.{forgotten, usedWith, relimited, limiting}
+use Rattle.rules.specs.Sets.{rateTurns}
+use Rattle.rules.specs.Suppressed.{asking, getTurns, factorTurns}
+use Rattle.judge.specs.Held.{heldIn, noneFree}
+use Rattle.calls.specs.Rate.{setRateLimit}
+use Rattle.calls.specs.Applies.{rate-applies}
+use Rattle.calls.specs.Applies.{known-has}
+use Rattle.rules.specs.declared.Caching.{Caching}
+use Rattle.rules.specs.declared.Caching.the-variants.{Left, Cached}
+use Rattle.suppressed.specs.Calls.{get, getFactor}
 use Rattle.suppressed_edits.specs.Edits.{useLeft, useAfter, recached, getChange, loneEdit, loneChange, factorChange}
-use Rattle.suppressed_rules.specs.Factor.{stays}
-use Rattle.suppressed.specs.Laws.{get-applies, factor-applies, place-used}
-use Rattle.suppressed_edits.specs.Refusals.{placeOf}
-use Rattle.spans.specs.Good.{good-later, good-evict}
-use Rattle.spans.specs.Log.{Entry}
+use Rattle.suppressed_opened.specs.Opened.{staysAt}
+use Rattle.suppressed.specs.Laws.{get-applies, place-used}
+use Rattle.plan.specs.Plan.{placeOf}
+use Rattle.admissions.specs.Good.{good-later, good-evict}
+use Rattle.admissions.specs.Log.{Entry}
+use Rattle.places.specs.Placed.{Placed, Own, own-either}
+use Rattle.steps.specs.Each.{snapshot-does, factor-does}
+use Rattle.steps.specs.Moves.{moves-placed}
+use Rattle.steps.specs.Places.{owns, series-has, has-series}
 use Rattle.demand3.specs.History.{IsKey}
 use Rattle.demand3.specs.Kept.{GoodAt, Kept, kept-own}
-use Rattle.demand3.specs.Placed.{Placed, Own, own-either}
-use Rattle.demand3.specs.Places.{owns, series-has, has-series, factor-placed}
-use Rattle.demand3.specs.Steps.{call-either, keep-kept, not-full}
+use Rattle.demand3.specs.Steps.{keep-kept}
 
 -- ---- uses
 
@@ -58,7 +66,7 @@ left-series true = refl
 left-series false = refl
 
 pub after-series : (k : Caching) (x : Slot) → hasSeries (useAfter k x) ≡ true
-after-series Left x = left-series (stays x)
+after-series Left x = left-series (staysAt x)
 after-series (Cached k) x = refl
 
 forgotten-series : (u : ℕ) → hasSeries u ≡ true → hasSeries (forgotten u) ≡ true
@@ -85,7 +93,8 @@ module _ (s : Settings) (le : bucketIn s ≤ windowTicks (windowIn s)) (limit : 
     pub good : GoodAt s limit t (editedView (bucketIn s) t e xs) log
 
   pub edit-kept : (k : Key) (w v : List ℕ) (at : ℕ) (e : Edit) (t : ℕ) (log : List Entry) → Own w v at (bucketIn s) t k e →
-      (hasSeries (e .used) ≡ true → Leaves t e (buckets (ringOf w) (bodyOf w at)) log) → (hasSeries (e .used) ≡ false → GoodAt s limit t [] log) → Kept s k limit v log
+      (hasSeries (e .used) ≡ true → Leaves t e (buckets (ringOf w) (bodyOf w at)) log) → (hasSeries (e .used) ≡ false → GoodAt s limit t [] log) →
+      Kept s k limit v log
   edit-kept k w v at e t log o f g =
       let d = edited-is (ringOf w) (bucketIn s) t (bodyOf w at) e (o .edits .edits) in
       kept-own s le k limit w v at (e .used) (edited (ringOf w) (bucketIn s) t (bodyOf w at) e) t log (o .changed) (o .distinct) (o .only)
@@ -93,7 +102,8 @@ module _ (s : Settings) (le : bucketIn s ≤ windowTicks (windowIn s)) (limit : 
 
   -- ---- what a call that passes refusals 1 to 7 knows of the key
 
-  module _ (key : List ℕ) (is : IsKey key) (w : List ℕ) (t : ℕ) (log : List Entry) (a : Kept s (keyOf key) limit w log) (p : Passed kind.Suppressed s w t key) where
+  module _ (key : List ℕ) (is : IsKey key) (w : List ℕ) (t : ℕ) (log : List Entry) (a : Kept s (keyOf key) limit w log)
+      (p : Passed kind.Suppressed s w t key) where
     abbrev x : Slot
     x = slotIn s w t key
 
@@ -104,19 +114,21 @@ module _ (s : Settings) (le : bucketIn s ≤ windowTicks (windowIn s)) (limit : 
     known e = known-at kind.Suppressed s w t key p e
 
     pub limit-known : x .series ≡ true → x .limit ≡ limit
-    limit-known e = known e .limit-is ∙ a .limits (x .at) (series-has s w t key p e)
+    limit-known e = known e .limit-is ∙ a .limits (x .at) (series-has kind.Suppressed s w t key p e)
 
     pub good-known : x .series ≡ true → GoodAt s limit t view log
-    good-known e = good-later (windowTicks (windowIn s)) (bucketIn s) (cutWord limit) le t (p .later) (a .good (x .at) (series-has s w t key p e))
+    good-known e =
+        good-later (windowTicks (windowIn s)) (bucketIn s) (cutWord limit) le t (p .later) (a .good (x .at) (series-has kind.Suppressed s w t key p e))
 
     -- the live buckets, as the rule has them and as the pass found them
-    pub live-is : x .series ≡ true → within (windowTicks (windowIn s)) t view ≡ drop (x .pass .expired) view
+    pub live-is : x .series ≡ true → recent (windowTicks (windowIn s)) t view ≡ drop (x .pass .expired) view
     live-is e = evicted-live (windowIn s) t 0 t view (known e .now .each) ∙ ap (λ (i : ℕ). drop i view) (sym (known e .measured .expired-are))
 
     pub live-fine : x .series ≡ true → Fine 0 (drop (x .pass .expired) view) t
     live-fine e = fine-drop (x .pass .expired) 0 view t (known e .now .each)
 
-    pub live-sums : x .series ≡ true → x .pass .«live_total» - x .pass .«live_declined» ≡ counts (drop (x .pass .expired) view) - declineds (drop (x .pass .expired) view)
+    pub live-sums : x .series ≡ true →
+        x .pass .«live_total» - x .pass .«live_declined» ≡ counts (drop (x .pass .expired) view) - declineds (drop (x .pass .expired) view)
     live-sums e = ap₂ (λ (m n : ℕ). m - n) (known e .measured .total) (known e .measured .declined)
 
     pub good-live : x .series ≡ true → GoodAt s limit t (drop (x .pass .expired) view) log
@@ -127,34 +139,39 @@ module _ (s : Settings) (le : bucketIn s ≤ windowTicks (windowIn s)) (limit : 
     pub good-bare : x .series ≡ false → GoodAt s limit t [] log
     good-bare e =
         good-later (windowTicks (windowIn s)) (bucketIn s) (cutWord limit) le t (p .later)
-        (a .bare (λ i h. true≢false (sym (has-series s w t key p (a .distinct) i h) ∙ e)))
+        (a .bare (λ i h. true≢false (sym (has-series kind.Suppressed s w t key p (a .distinct) i h) ∙ e)))
 
     -- ---- get, and get_suppression_factor of a known key
 
-    evict-kept : (v : List ℕ) (k : Caching) → x .series ≡ true → Own w v (x .at) (bucketIn s) t (keyOf key) (recached x k (evicting x then.Nothing)) → Kept s (keyOf key) limit v log
+    evict-kept : (v : List ℕ) (k : Caching) → x .series ≡ true → Own w v (x .at) (bucketIn s) t (keyOf key) (recached x k (evicting x then.Nothing)) →
+        Kept s (keyOf key) limit v log
     unfolding recached editedView actedView startedView
     evict-kept v k e o =
         edit-kept (keyOf key) w v (x .at) (recached x k (evicting x then.Nothing)) t log o (λ h. record { limit-is = limit-known e; good = good-live e })
         (λ h. absurd (true≢false (sym (after-series k x) ∙ h)))
 
-    change-kept : (k : Caching) → Applies w (x .at) (bucketIn s) t (getChange x k) → Kept s (keyOf key) limit (applied w (x .at) key (bucketIn s) t (getChange x k)) log
+    change-kept : (k : Caching) → Applies w (x .at) (bucketIn s) t (getChange x k) →
+        Kept s (keyOf key) limit (applied w (x .at) key (bucketIn s) t (getChange x k)) log
     unfolding getChange
     change-kept k o = go (x .series) refl o
       where
         go : (z : Bool) → x .series ≡ z → Applies w (x .at) (bucketIn s) t (cond z (Update (recached x k (evicting x then.Nothing))) Keep) →
             Kept s (keyOf key) limit (applied w (x .at) key (bucketIn s) t (cond z (Update (recached x k (evicting x then.Nothing))) Keep)) log
         go true e q =
-            evict-kept _ k e (own-either w (x .at) key (bucketIn s) t (a .distinct) (recached x k (evicting x then.Nothing)) true q (owns s w t key p (known-has x e)))
+            let c = recached x k (evicting x then.Nothing) in
+            evict-kept _ k e (own-either w (x .at) key (bucketIn s) t (a .distinct) c true q (owns kind.Suppressed s w t key p (known-has x e)))
         go false e q = keep-kept s le limit key is w t log a (x .at) key q (p .later)
 
-    lone-kept : (k : Caching) → x .series ≡ false → Applies w (placeOf w x) (bucketIn s) t (loneChange (x .cached) k t) → Placed w (placeOf w x) (keyOf key) (loneChange (x .cached) k t) →
+    lone-kept : (k : Caching) → x .series ≡ false → Applies w (placeOf w x) (bucketIn s) t (loneChange (x .cached) k t) →
+        Placed w (placeOf w x) (keyOf key) (loneChange (x .cached) k t) →
         Kept s (keyOf key) limit (applied w (placeOf w x) key (bucketIn s) t (loneChange (x .cached) k t)) log
     lone-kept Left e o q = keep-kept s le limit key is w t log a (placeOf w x) key o (p .later)
     lone-kept (Cached k) e o q =
         edit-kept (keyOf key) w _ (placeOf w x) (loneEdit t) t log (own-either w (placeOf w x) key (bucketIn s) t (a .distinct) (loneEdit t) (x .cached) o q)
         (λ h. absurd (false≢true h)) (λ h. good-bare e)
 
-    factor-kept : early kind.Suppressed s w t key ≡ 0 → (k : Caching) → Applies w (placeOf w x) (bucketIn s) t (factorChange x k t) → Placed w (placeOf w x) (keyOf key) (factorChange x k t) →
+    factor-kept : early kind.Suppressed s w t key ≡ 0 → (k : Caching) → Applies w (placeOf w x) (bucketIn s) t (factorChange x k t) →
+        Placed w (placeOf w x) (keyOf key) (factorChange x k t) →
         Kept s (keyOf key) limit (applied w (placeOf w x) key (bucketIn s) t (factorChange x k t)) log
     unfolding factorChange
     factor-kept n k o q = go (x .series) refl o q
@@ -163,7 +180,8 @@ module _ (s : Settings) (le : bucketIn s ≤ windowTicks (windowIn s)) (limit : 
             Placed w (placeOf w x) (keyOf key) (cond z (getChange x k) (loneChange (x .cached) k t)) →
             Kept s (keyOf key) limit (applied w (placeOf w x) key (bucketIn s) t (cond z (getChange x k) (loneChange (x .cached) k t))) log
         go true e u v =
-            subst (λ (i : ℕ). Kept s (keyOf key) limit (applied w i key (bucketIn s) t (getChange x k)) log) (sym (place-used s w t key n x refl (known-has x e)))
+            subst (λ (i : ℕ). Kept s (keyOf key) limit (applied w i key (bucketIn s) t (getChange x k)) log)
+            (sym (place-used s w t key n x refl (known-has x e)))
             (change-kept k (get-applies s w t key n x refl k (getChange x k) refl))
         go false e u v = lone-kept k e u v
 
@@ -173,12 +191,15 @@ module _ (s : Settings) (le : bucketIn s ≤ windowTicks (windowIn s)) (limit : 
     unfolding limiting editedView actedView startedView
     limiting-kept o = go (x .series) refl o
       where
-        go : (z : Bool) → x .series ≡ z → Applies w (x .at) (bucketIn s) t (cond z (Update (relimited (keeping x then.Nothing) limit (usedWith x limit))) Keep) →
-            Kept s (keyOf key) limit (applied w (x .at) key (bucketIn s) t (cond z (Update (relimited (keeping x then.Nothing) limit (usedWith x limit))) Keep)) log
+        go : (z : Bool) → x .series ≡ z →
+            Applies w (x .at) (bucketIn s) t (cond z (Update (relimited (keeping x then.Nothing) limit (usedWith x limit))) Keep) →
+            Kept s (keyOf key) limit
+            (applied w (x .at) key (bucketIn s) t (cond z (Update (relimited (keeping x then.Nothing) limit (usedWith x limit))) Keep)) log
         go true e q =
             let c = relimited (keeping x then.Nothing) limit (usedWith x limit) in
-            let u : hasSeries (x .used) ≡ true = ap hasSeries (known e .used-is) ∙ series-has s w t key p e .series in
-            edit-kept (keyOf key) w _ (x .at) c t log (own-either w (x .at) key (bucketIn s) t (a .distinct) c true q (owns s w t key p (known-has x e)))
+            let u : hasSeries (x .used) ≡ true = ap hasSeries (known e .used-is) ∙ series-has kind.Suppressed s w t key p e .series in
+            edit-kept (keyOf key) w _ (x .at) c t log
+            (own-either w (x .at) key (bucketIn s) t (a .distinct) c true q (owns kind.Suppressed s w t key p (known-has x e)))
             (λ h. record { limit-is = refl; good = good-known e }) (λ h. absurd (true≢false (sym (used-series x limit u) ∙ h)))
         go false e q = keep-kept s le limit key is w t log a (x .at) key q (p .later)
 
@@ -186,30 +207,31 @@ module _ (s : Settings) (le : bucketIn s ≤ windowTicks (windowIn s)) (limit : 
 
   module _ (key : List ℕ) (is : IsKey key) (w : List ℕ) (t : ℕ) (log : List Entry) (a : Kept s (keyOf key) limit w log) where
     pub get-own : Kept s (keyOf key) limit (get s w t key .words) log
-    unfolding get getOn
+    unfolding get
     get-own =
-        let x = slotIn s w t key in
-        let k = asking s t x in
-        call-either gotten.Refused kind.Suppressed s w t key (getOwn k) (getDoes s w t key x k) (λ v. Kept s (keyOf key) limit (v .words) log) (λ m z. a)
-        (λ e f. change-kept key is w t log a (passed kind.Suppressed s w t key e) (k .caching) (get-applies s w t key e x refl (k .caching) (getChange x (k .caching)) refl))
+        let k = asking s t (heldIn w key) in
+        call-either gotten.Refused kind.Suppressed s w t key (getTurns s t (heldIn w key)) _ (λ v. Kept s (keyOf key) limit (v .words) log) (λ m z. a)
+        (λ e f. let d = snapshot-does s w t key e f in change-kept key is w t log a (d .passed) (k .caching) (d .applies))
 
     pub factor-own : Kept s (keyOf key) limit (getFactor s w t key .words) log
-    unfolding getFactor factorOn
+    unfolding getFactor
     factor-own =
         let x = slotIn s w t key in
-        let k = asking s t x in
-        call-either factored.Refused kind.Suppressed s w t key (factorOwn w x k) (factorDoes s w t key x k) (λ v. Kept s (keyOf key) limit (v .words) log) (λ m z. a)
+        let k = asking s t (heldIn w key) in
+        call-either factored.Refused kind.Suppressed s w t key (factorTurns s (noneFree w) t (heldIn w key)) _ (λ v. Kept s (keyOf key) limit (v .words) log)
+        (λ m z. a)
         (λ e f.
-        let p = passed kind.Suppressed s w t key e in
-        let g = not-full s le limit key is w t log a x k f in
-        factor-kept key is w t log a p e (k .caching)
-        (factor-applies s w t key e x refl (placeOf w x) refl (leb (slotsOf w) (placeOf w x)) refl g (k .caching) (factorChange x (k .caching) t) refl)
-        (factor-placed s w t key p (k .caching) (leb-false (slotsOf w) (placeOf w x) g)))
+        let d = factor-does s w t key (is .bytes) e f in
+        factor-kept key is w t log a (d .passed) e (k .caching) (d .applies)
+        (moves-placed x w (keyOf key) (placeOf w x) (factorChange x (k .caching) t) (d .moves)))
 
-    pub rate-own : (rate : RateLimit) → limitIn kind.Suppressed s rate ≡ limit → Kept s (keyOf key) limit (setRateLimit kind.Suppressed s w t key rate .words) log
+    pub rate-own : (rate : RateLimit) → limitIn kind.Suppressed s rate ≡ limit →
+        Kept s (keyOf key) limit (setRateLimit kind.Suppressed s w t key rate .words) log
+    unfolding setRateLimit
     rate-own rate q =
         let x = slotIn s w t key in
-        call-either rated.Refused kind.Suppressed s w t key (rateOwnOf rate x) (limits kind.Suppressed s w t key rate x) (λ v. Kept s (keyOf key) limit (v .words) log) (λ m z. a)
+        call-either rated.Refused kind.Suppressed s w t key (rateTurns rate) _
+        (λ v. Kept s (keyOf key) limit (v .words) log) (λ m z. a)
         (λ e f.
         let p = passed kind.Suppressed s w t key e in
         subst (λ (l : ℕ). Kept s (keyOf key) limit (applied w (x .at) key (bucketIn s) t (limiting x l)) log) (sym q)

@@ -5,9 +5,9 @@ use mathlib.Core.Bool.{Bool, cond, _&&_}
 use mathlib.Core.List.{List}
 use Prim.Native.Nat.{ℕ, _+_, _≤_}
 use lib.ListN.{length, take, set}
-use Rattle.answers.specs.Answers.{showAnswer, longest}
-use Rattle.answers.specs.Printing.{Put}
-use Rattle.answers.specs.declared.AnswerLine.{AnswerLine}
+use Rattle.printing.specs.Answers.{showAnswer, longest}
+use Rattle.printing.specs.Printing.{Put}
+use Rattle.printing.specs.declared.AnswerLine.{AnswerLine}
 use Rattle.room.specs.Room.{fits, empty}
 use Rattle.desk_step.specs.declared.Opening.{Opening}
 use Rattle.desk_feed.specs.declared.Desk.{Desk}

@@ -6,9 +6,9 @@ use mathlib.Core.List.{List, [], _∷_, _++_}
 use Prim.Native.Nat.{ℕ, suc, _+_}
 use lib.ListN.{length, take, set}
 use lib.Dec.{ltb, eqb}
-use Rattle.common.specs.declared.settings.Settings.{Settings}
-use Rattle.answers.specs.Answers.{showAnswer}
-use Rattle.answers.specs.declared.AnswerLine.{AnswerLine}
+use Rattle.settings.specs.declared.Settings.{Settings}
+use Rattle.printing.specs.Answers.{showAnswer}
+use Rattle.printing.specs.declared.AnswerLine.{AnswerLine}
 use Rattle.desk_step.specs.Desk.{Step, stepped, refusedLine, openingOf}
 use Rattle.desk_step.specs.declared.Opening.{Opening}
 use Rattle.desk_step.specs.declared.Opening.the-variants as opening

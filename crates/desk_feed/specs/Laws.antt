@@ -12,9 +12,9 @@ use lib.Seq.{length-take-le, take-all, take-suc, drop-cons, drop-drop, drop-appe
 use lib.Dec.{ltb}
 use borrow.Author.Tests.{lt-ltb, le-ltb}
 use borrow.Rule.Slice.PartMut.{putMid}
-use Rattle.answers.specs.Answers.{showAnswer, longest, printed}
-use Rattle.answers.specs.Printing.{Put, Printed, put-byte, put-none, put-append}
-use Rattle.answers.specs.declared.AnswerLine.{AnswerLine}
+use Rattle.printing.specs.Answers.{showAnswer, longest, printed}
+use Rattle.printing.specs.Printing.{Put, Printed, put-byte, put-none, put-append}
+use Rattle.printing.specs.declared.AnswerLine.{AnswerLine}
 use Rattle.room.specs.Room.{Made}
 use Rattle.desk_feed.specs.declared.Desk.{Desk}
 use Rattle.desk_feed.specs.declared.Phase.{Phase}
@@ -44,22 +44,27 @@ module _ (l : AnswerLine) (old ys : List ℕ) (at n : ℕ) (h : at + longest ≤
       let z : longest ≤ length part = omega (arith, long) in
       let t : ltb (length part) longest ≡ false = le-ltb (length part) longest z in
       let f : n ≡ length (showAnswer l) = p .long ∙ ap (λ (b : Bool). cond b 0 (length (showAnswer l))) t in
-      let g : ys ≡ showAnswer l ++ drop (length (showAnswer l)) part = p .bytes ∙ ap (λ (b : Bool). cond b part (showAnswer l ++ drop (length (showAnswer l)) part)) t in
-      let m : length ys ≡ length (showAnswer l) + (longest - length (showAnswer l)) = ap length g ∙ length-append (showAnswer l) _ ∙ ap (λ (i : ℕ). length (showAnswer l) + i) (length-drop (length (showAnswer l)) part ∙ ap (λ (i : ℕ). i - length (showAnswer l)) long) in
+      let g : ys ≡ showAnswer l ++ drop (length (showAnswer l)) part =
+      p .bytes ∙ ap (λ (b : Bool). cond b part (showAnswer l ++ drop (length (showAnswer l)) part)) t in
+      let m : length ys ≡ length (showAnswer l) + (longest - length (showAnswer l)) =
+      ap length g ∙ length-append (showAnswer l) _ ∙ ap (λ (i : ℕ). length (showAnswer l) + i)
+      (length-drop (length (showAnswer l)) part ∙ ap (λ (i : ℕ). i - length (showAnswer l)) long) in
       let k : length (showAnswer l) ≤ longest = omega (arith, m, e, long) in
       record {
         put = record {
           past = ap (λ (i : ℕ). at + i) f;
           is =
               ap (λ (y : List ℕ). take at old ++ (y ++ drop (at + longest - at) (drop at old))) g ∙
-              ap (λ (y : List ℕ). take at old ++ y) (append-assoc (showAnswer l) _ _ ∙ ap (λ (y : List ℕ). showAnswer l ++ y) (behind (length (showAnswer l)) k)) ∙
+              ap (λ (y : List ℕ). take at old ++ y)
+              (append-assoc (showAnswer l) _ _ ∙ ap (λ (y : List ℕ). showAnswer l ++ y) (behind (length (showAnswer l)) k)) ∙
               sym (append-assoc (take at old) (showAnswer l) _);
         };
         short = omega (arith, f, k);
       }
 
 -- and its newline
-pub line-put : (l : AnswerLine) (old mid : List ℕ) (at next : ℕ) → at + roomy ≤ length old → PutAnswer l old at mid next → Put old at (shown l) (set mid next newline) (next + 1)
+pub line-put : (l : AnswerLine) (old mid : List ℕ) (at next : ℕ) → at + roomy ≤ length old → PutAnswer l old at mid next →
+    Put old at (shown l) (set mid next newline) (next + 1)
 unfolding shown
 line-put l old mid at next h p = put-byte old (showAnswer l) mid at next newline (p .put) (omega (arith, p .put .past, p .short))
 
@@ -110,7 +115,10 @@ unfolding feed
 feed-snoc w [] b = λ i. record { whole = byte w b .whole; prints = append-nil (byte w b .prints) i }
 feed-snoc w (x ∷ xs) b =
     ap (andThen (byte w x)) (feed-snoc (byte w x .whole) xs b) ∙
-    (λ i. record { whole = byte (feed (byte w x .whole) xs .whole) b .whole; prints = sym (append-assoc (byte w x .prints) (feed (byte w x .whole) xs .prints) (byte (feed (byte w x .whole) xs .whole) b .prints)) i })
+    (λ i. record {
+      whole = byte (feed (byte w x .whole) xs .whole) b .whole;
+      prints = sym (append-assoc (byte w x .prints) (feed (byte w x .whole) xs .prints) (byte (feed (byte w x .whole) xs .whole) b .prints)) i;
+    })
 
 -- where the loop stands: i bytes of the block are taken, p bytes are put
 pub record Stands (w₀ : Whole) (block old : List ℕ) (w : Whole) (new : List ℕ) (i p : ℕ) : Type 0 where
@@ -132,14 +140,18 @@ module _ (w₀ : Whole) (block old : List ℕ) (w : Whole) (new : List ℕ) (i p
   goes-on c e h g =
       ap (takes (length old) w p) (drop-cons block i 0 h) ∙ rw (le-ltb (length old) (p + roomy) g, ← e, add-one i)
 
-  pub stands-next : (c : ℕ) (r : Fed) (a b h new′ : List ℕ) → c ≡ getD block i 0 → i < length block → p + roomy ≤ length old → Gone (byte w c) new p r a b h new′ → length new′ ≡ length new →
+  pub stands-next : (c : ℕ) (r : Fed) (a b h new′ : List ℕ) → c ≡ getD block i 0 → i < length block → p + roomy ≤ length old →
+      Gone (byte w c) new p r a b h new′ → length new′ ≡ length new →
       Stands w₀ block old (whole (r .desk) a b h) new′ (i + 1) (r .next)
   stands-next c r a b h new′ e k g o l =
-      let q : take (i + 1) block ≡ take i block ++ (c ∷ []) = ap (λ (j : ℕ). take j block) (add-one i) ∙ take-suc block i 0 k ∙ ap (λ (x : ℕ). take i block ++ (x ∷ [])) (sym e) in
+      let q : take (i + 1) block ≡ take i block ++ (c ∷ []) =
+      ap (λ (j : ℕ). take j block) (add-one i) ∙ take-suc block i 0 k ∙ ap (λ (x : ℕ). take i block ++ (x ∷ [])) (sym e) in
       let f : feed w₀ (take (i + 1) block) ≡ andThen (feed w₀ (take i block)) (byte w c) =
       ap (feed w₀) q ∙ feed-snoc w₀ (take i block) c ∙ ap (λ (x : Whole). andThen (feed w₀ (take i block)) (byte x c)) (sym (s .after)) in
-      let t : takes (length old) (whole (r .desk) a b h) (r .next) (drop (i + 1) block) ≡ takes (length old) (byte w c .whole) (p + length (byte w c .prints)) (drop (i + 1) block) =
-      ap (λ (x : Whole). takes (length old) x (r .next) (drop (i + 1) block)) (o .after) ∙ ap (λ (x : ℕ). takes (length old) (byte w c .whole) x (drop (i + 1) block)) (o .put .past) in
+      let t : takes (length old) (whole (r .desk) a b h) (r .next) (drop (i + 1) block) ≡
+      takes (length old) (byte w c .whole) (p + length (byte w c .prints)) (drop (i + 1) block) =
+      ap (λ (x : Whole). takes (length old) x (r .next) (drop (i + 1) block)) (o .after) ∙
+      ap (λ (x : ℕ). takes (length old) (byte w c .whole) x (drop (i + 1) block)) (o .put .past) in
       record {
         inside = omega arith;
         same = l ∙ s .same;
@@ -151,7 +163,8 @@ module _ (w₀ : Whole) (block old : List ℕ) (w : Whole) (new : List ℕ) (i p
       }
 
   -- no byte more
-  stop : takes (length old) w p (drop i block) ≡ 0 → (d : Desk) (a b h : List ℕ) → w ≡ whole d a b h → Feeding w₀ block old (record { desk = d; taken = i; put = p }) a b h new
+  stop : takes (length old) w p (drop i block) ≡ 0 → (d : Desk) (a b h : List ℕ) → w ≡ whole d a b h →
+      Feeding w₀ block old (record { desk = d; taken = i; put = p }) a b h new
   stop z d a b h e = record { taken = omega (arith, s .goes, z); after = sym e ∙ s .after; put = s .put }
 
   full : (xs : List ℕ) → length old < p + roomy → takes (length old) w p xs ≡ 0
@@ -164,7 +177,8 @@ module _ (w₀ : Whole) (block old : List ℕ) (w : Whole) (new : List ℕ) (i p
   past h = rw (drop-of-length-le block h)
 
   -- out has no room for a line more; or the block is taken
-  pub stands-full : (d : Desk) (a b h : List ℕ) → w ≡ whole d a b h → length old < p + roomy → Feeding w₀ block old (record { desk = d; taken = i; put = p }) a b h new
+  pub stands-full : (d : Desk) (a b h : List ℕ) → w ≡ whole d a b h → length old < p + roomy →
+      Feeding w₀ block old (record { desk = d; taken = i; put = p }) a b h new
   stands-full d a b h e g = stop (full (drop i block) g) d a b h e
 
   pub stands-end : (d : Desk) (a b h : List ℕ) → w ≡ whole d a b h → length block ≤ i → Feeding w₀ block old (record { desk = d; taken = i; put = p }) a b h new
@@ -178,7 +192,8 @@ unfolding takes
 takes-inside l w p [] = omega arith
 takes-inside l w p (x ∷ xs) = go (ltb l (p + roomy)) (takes-inside l (byte w x .whole) (p + length (byte w x .prints)) xs)
   where
-    go : (b : Bool) → takes l (byte w x .whole) (p + length (byte w x .prints)) xs ≤ length xs → cond b 0 (suc (takes l (byte w x .whole) (p + length (byte w x .prints)) xs)) ≤ suc (length xs)
+    go : (b : Bool) → takes l (byte w x .whole) (p + length (byte w x .prints)) xs ≤ length xs →
+        cond b 0 (suc (takes l (byte w x .whole) (p + length (byte w x .prints)) xs)) ≤ suc (length xs)
     go true h = omega arith
     go false h = omega arith
 

@@ -3,14 +3,14 @@
 ghost use mathlib.Core.Path.{_≡_};
 ghost use Prim.Native.Nat.{_+_, _≤_, min};
 ghost use lib.ListN.{length, take};
-ghost use Rattle.answers.specs.Answers.{longest};
-ghost use Rattle.answers.specs.Printing.{Put};
+ghost use Rattle.printing.specs.Answers.{longest};
+ghost use Rattle.printing.specs.Printing.{Put};
 ghost use Rattle.desk_step.specs.Desk.{openingOf};
 ghost use Rattle.desk_feed.specs.Feed.{roomy, shown, turn, fresh, rested, whole, byte, isOver, finishing, hasEnded};
 ghost use Rattle.desk_feed.specs.Contracts.{PutAnswer, Begins, Took, Gone, Kept, Feeding, BothMade};
-use answers::AnswerLine;
-use common::Settings;
 use desk_step::Opening;
+use printing::AnswerLine;
+use settings::Settings;
 
 const NEWLINE: u8 = b'\n';
 
@@ -27,8 +27,8 @@ fn put_answer(line: AnswerLine, out: &mut [u8], at: usize) -> usize
     requires { ⌜ at + longest ≤ length (now out) ⌝ }
     ensures { λ r. ⌜ PutAnswer line (now (out .entry)) at (now (out .exit)) r ⌝ }
 {
-    let end = at + answers::LONGEST;
-    at + answers::print(line, &mut out[at..end])
+    let end = at + printing::LONGEST;
+    at + printing::print(line, &mut out[at..end])
 }
 
 // The line from `at` on, with its newline.
@@ -84,7 +84,8 @@ fn put_step(
     at: usize,
 ) -> Turn
     requires { ⌜ at + roomy ≤ length (now out) ⌝ }
-    ensures { λ r. ⌜ Took (turn (Phase.Open settings) (now (absolute .entry)) (now (suppressed .entry)) (now (line .entry))) (now (out .entry)) at r (now (absolute .exit)) (now (suppressed .exit)) (now (out .exit)) ⌝ }
+    ensures { λ r. ⌜ Took (turn (Phase.Open settings) (now (absolute .entry)) (now (suppressed .entry)) (now (line .entry))) (now (out .entry)) at r
+        (now (absolute .exit)) (now (suppressed .exit)) (now (out .exit)) ⌝ }
 {
     let answer = desk_step::step(settings, absolute, suppressed, line);
     Turn {
@@ -103,7 +104,8 @@ fn take_line(
     at: usize,
 ) -> Turn
     requires { ⌜ at + roomy ≤ length (now out) ⌝ }
-    ensures { λ r. ⌜ Took (turn phase (now (absolute .entry)) (now (suppressed .entry)) (now (line .entry))) (now (out .entry)) at r (now (absolute .exit)) (now (suppressed .exit)) (now (out .exit)) ⌝ }
+    ensures { λ r. ⌜ Took (turn phase (now (absolute .entry)) (now (suppressed .entry)) (now (line .entry))) (now (out .entry)) at r (now (absolute .exit))
+        (now (suppressed .exit)) (now (out .exit)) ⌝ }
 {
     match phase {
         Phase::Waiting => open_desk(line, out, at),
@@ -163,7 +165,8 @@ fn end_line(
     at: usize,
 ) -> Turn
     requires { ⌜ at + roomy ≤ length (now out) ⌝ }
-    ensures { λ r. ⌜ Took (turn (desk .phase) (now (absolute .entry)) (now (suppressed .entry)) (take (desk .held) (now (hold .entry)))) (now (out .entry)) at r (now (absolute .exit)) (now (suppressed .exit)) (now (out .exit)) ⌝ }
+    ensures { λ r. ⌜ Took (turn (desk .phase) (now (absolute .entry)) (now (suppressed .entry)) (take (desk .held) (now (hold .entry))))
+        (now (out .entry)) at r (now (absolute .exit)) (now (suppressed .exit)) (now (out .exit)) ⌝ }
 {
     let phase = desk.phase;
     let n = least(desk.held, hold.len());
@@ -202,7 +205,8 @@ fn feed_byte(
     at: usize,
 ) -> Fed
     requires { ⌜ at + roomy ≤ length (now out) ⌝ }
-    ensures { λ r. ⌜ Gone (byte (whole desk (now (absolute .entry)) (now (suppressed .entry)) (now (hold .entry))) b) (now (out .entry)) at r (now (absolute .exit)) (now (suppressed .exit)) (now (hold .exit)) (now (out .exit)) ⌝ }
+    ensures { λ r. ⌜ Gone (byte (whole desk (now (absolute .entry)) (now (suppressed .entry)) (now (hold .entry))) b) (now (out .entry)) at r
+        (now (absolute .exit)) (now (suppressed .exit)) (now (hold .exit)) (now (out .exit)) ⌝ }
 {
     if b == NEWLINE {
         let turn = end_line(desk, absolute, suppressed, hold, out, at);
@@ -234,7 +238,8 @@ pub fn feed(
     block: &[u8],
     out: &mut [u8],
 ) -> Progress
-    ensures { λ r. ⌜ Feeding (whole desk (now (absolute .entry)) (now (suppressed .entry)) (now (hold .entry))) (now (block .entry)) (now (out .entry)) r (now (absolute .exit)) (now (suppressed .exit)) (now (hold .exit)) (now (out .exit)) ⌝ }
+    ensures { λ r. ⌜ Feeding (whole desk (now (absolute .entry)) (now (suppressed .entry)) (now (hold .entry))) (now (block .entry)) (now (out .entry)) r
+        (now (absolute .exit)) (now (suppressed .exit)) (now (hold .exit)) (now (out .exit)) ⌝ }
 {
     let mut state = desk;
     let mut taken = 0;
@@ -287,7 +292,8 @@ pub fn finish(
     hold: &[u8],
     out: &mut [u8],
 ) -> Turn
-    ensures { λ r. ⌜ Took (finishing (length (now (out .entry))) (whole desk (now (absolute .entry)) (now (suppressed .entry)) (now (hold .entry)))) (now (out .entry)) 0 r (now (absolute .exit)) (now (suppressed .exit)) (now (out .exit)) ⌝ }
+    ensures { λ r. ⌜ Took (finishing (length (now (out .entry))) (whole desk (now (absolute .entry)) (now (suppressed .entry)) (now (hold .entry))))
+        (now (out .entry)) 0 r (now (absolute .exit)) (now (suppressed .exit)) (now (out .exit)) ⌝ }
 {
     let phase = desk.phase;
     if out.len() < LONGEST_LINE {

@@ -12,7 +12,7 @@ use lib.ListN.{length, take, set, length-append, length-set}
 use lib.Seq.{length-take-le, take-all, take-nil, take-suc-set, take-append-le, set-out}
 use lib.Dec.{ltb, eqb}
 use borrow.Author.Tests.{lt-ltb, le-ltb, eq-eqb, ne-eqb}
-use Rattle.common.specs.declared.settings.Settings.{Settings}
+use Rattle.settings.specs.declared.Settings.{Settings}
 use Rattle.room.specs.Room.{fits}
 use Rattle.lines.specs.Numbers.{show-short}
 use Rattle.lines.specs.Shown.{opText, showCall, showSettings, CallFits, SettingsFit}
@@ -29,7 +29,8 @@ use Rattle.desk_step.specs.declared.Opening.{Opening}
 use Rattle.desk_step.specs.declared.Opening.the-variants as opening
 use Rattle.desk_feed.specs.declared.Phase.{Phase}
 use Rattle.desk_feed.specs.declared.Phase.the-variants.{Waiting, Open, Ended}
-use Rattle.desk_feed.specs.Feed.{newline, roomy, shown, Effect, phaseIn, printsIn, turn, Whole, whole, fresh, After, afterLine, byteAs, byte, andThen, feed, isOver, finishing}
+use Rattle.desk_feed.specs.Feed.{newline, roomy, shown, Effect, phaseIn, printsIn, turn, Whole, whole, fresh, After, afterLine, byteAs, byte, andThen, feed}
+use Rattle.desk_feed.specs.Feed.{isOver, finishing}
 
 -- ---- the definition
 
@@ -63,12 +64,26 @@ op-long SuppressedGet = refl
 call-short : (t : ℕ) (op : Op) (key : List ℕ) (rate n draw : ℕ) → CallFits t key rate n draw → length (showCall t op key rate n draw) ≤ longestRead
 unfolding showCall
 call-short t op key rate n draw f =
-    simp length-append (omega (arith, op-long op, show-short t (f .times), show-short rate (omega (arith, f .rates)), show-short n (f .counts), show-short draw (f .draws), f .keys .short))
+    simp length-append (omega (
+      arith,
+      op-long op,
+      show-short t (f .times),
+      show-short rate (omega (arith, f .rates)),
+      show-short n (f .counts),
+      show-short draw (f .draws),
+      f .keys .short,
+    ))
 
 settings-short : (window bucket factor cache : ℕ) → SettingsFit window bucket factor cache → length (showSettings window bucket factor cache) ≤ longestRead
 unfolding showSettings
 settings-short window bucket factor cache f =
-    simp length-append (omega (arith, show-short window (f .windows), show-short bucket (f .buckets), show-short factor (omega (arith, f .factors)), show-short cache (f .caches)))
+    simp length-append (omega (
+      arith,
+      show-short window (f .windows),
+      show-short bucket (f .buckets),
+      show-short factor (omega (arith, f .factors)),
+      show-short cache (f .caches),
+    ))
 
 pub call-bad : (line : List ℕ) → longestRead < length line → readCall line ≡ call.Bad
 call-bad line h = go (readCall line) (call-read line)
@@ -174,7 +189,8 @@ settled-turn Ended a b l = tt
 
 abbrev CallsRun : List ℕ → Type 0
 CallsRun xs =
-    (p : Phase) (a b h acc : List ℕ) (n l : ℕ) → Settled p → longestRead < length h → roomy ≤ l → Holds n h acc → runOut (desk p n a b h) xs l ≡ turns p a b (callLines acc xs)
+    (p : Phase) (a b h acc : List ℕ) (n l : ℕ) → Settled p → longestRead < length h → roomy ≤ l → Holds n h acc →
+    runOut (desk p n a b h) xs l ≡ turns p a b (callLines acc xs)
 
 -- a newline: the line's turn, and then the rest
 line-step : (xs : List ℕ) → CallsRun xs → (p : Phase) (a b h acc : List ℕ) (n l : ℕ) → longestRead < length h → roomy ≤ l → Holds n h acc →
@@ -207,7 +223,8 @@ finish-idle : (p : Phase) (a b h : List ℕ) (n l : ℕ) → roomy ≤ l → isO
 unfolding finishing
 finish-idle p a b h n l m e = rw (le-ltb l roomy m, e)
 
-finish-line : (p : Phase) (a b h : List ℕ) (n l : ℕ) → roomy ≤ l → isOver (record { phase = p; held = n }) ≡ false → finishing l (desk p n a b h) .prints ≡ turn p a b (take n h) .prints
+finish-line : (p : Phase) (a b h : List ℕ) (n l : ℕ) → roomy ≤ l → isOver (record { phase = p; held = n }) ≡ false →
+    finishing l (desk p n a b h) .prints ≡ turn p a b (take n h) .prints
 unfolding finishing
 finish-line p a b h n l m e = rw (le-ltb l roomy m, e)
 
@@ -251,7 +268,8 @@ calls-run [] = calls-end
 calls-run (x ∷ xs) = calls-step x xs (calls-run xs)
 
 abbrev FirstRun : List ℕ → Type 0
-FirstRun xs = (a b h acc : List ℕ) (n l : ℕ) → longestRead < length h → roomy ≤ l → Holds n h acc → runOut (desk Waiting n a b h) xs l ≡ turns Waiting a b (inputLines acc xs)
+FirstRun xs = (a b h acc : List ℕ) (n l : ℕ) → longestRead < length h → roomy ≤ l → Holds n h acc →
+    runOut (desk Waiting n a b h) xs l ≡ turns Waiting a b (inputLines acc xs)
 
 first-step : (x : ℕ) (xs : List ℕ) → FirstRun xs → FirstRun (x ∷ xs)
 unfolding feed byte inputLines
@@ -286,7 +304,10 @@ unfolding feed
 feed-blocks w [] ys = refl
 feed-blocks w (x ∷ xs) ys =
     ap (andThen (byte w x)) (feed-blocks (byte w x .whole) xs ys) ∙
-    (λ i. record { whole = feed (feed (byte w x .whole) xs .whole) ys .whole; prints = sym (append-assoc (byte w x .prints) (feed (byte w x .whole) xs .prints) (feed (feed (byte w x .whole) xs .whole) ys .prints)) i })
+    (λ i. record {
+      whole = feed (feed (byte w x .whole) xs .whole) ys .whole;
+      prints = sym (append-assoc (byte w x .prints) (feed (byte w x .whole) xs .prints) (feed (feed (byte w x .whole) xs .whole) ys .prints)) i;
+    })
 
 -- ---- bad lines
 

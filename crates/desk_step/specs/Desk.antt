@@ -8,15 +8,15 @@ use Prim.Native.Nat.{ℕ}
 use lib.Dec.{ltb, eqb}
 use lib.Ieee.{binary64, div, toBits}
 use Rattle.common.specs.Refusals.{first}
-use Rattle.common.specs.Settings.{faults}
+use Rattle.settings.specs.Settings.{faults}
 use Rattle.common.specs.Units.{minute, real}
-use Rattle.common.specs.declared.answers.RateLimitDecision.{RateLimitDecision}
-use Rattle.common.specs.declared.answers.RateLimitDecision.the-variants as decision
-use Rattle.common.specs.declared.answers.SnapshotAnswer.{SnapshotAnswer}
-use Rattle.common.specs.declared.answers.SnapshotAnswer.the-variants as snapshot
-use Rattle.common.specs.declared.answers.TotalAnswer.{TotalAnswer}
-use Rattle.common.specs.declared.answers.TotalAnswer.the-variants as total
-use Rattle.common.specs.declared.settings.Settings.{Settings}
+use Rattle.answers.specs.declared.RateLimitDecision.{RateLimitDecision}
+use Rattle.answers.specs.declared.RateLimitDecision.the-variants as decision
+use Rattle.answers.specs.declared.SnapshotAnswer.{SnapshotAnswer}
+use Rattle.answers.specs.declared.SnapshotAnswer.the-variants as snapshot
+use Rattle.answers.specs.declared.TotalAnswer.{TotalAnswer}
+use Rattle.answers.specs.declared.TotalAnswer.the-variants as total
+use Rattle.settings.specs.declared.Settings.{Settings}
 use Rattle.common.specs.declared.units.RateLimit.{RateLimit}
 use Rattle.ring.specs.Ring.{totalOf, declinedOf}
 use Rattle.room.specs.Room.{sized, slotsOf, useOf, keyOf, find, bodyOf}
@@ -32,9 +32,9 @@ use Rattle.lines.specs.declared.Op.{Op}
 use Rattle.lines.specs.declared.Op.the-variants.{AbsoluteInc, AbsoluteGet, SuppressedInc, SuppressedGet}
 use Rattle.lines.specs.declared.SettingsLine.{SettingsLine}
 use Rattle.lines.specs.declared.SettingsLine.the-variants as settings
-use Rattle.answers.specs.declared.Answer.{Answer}
-use Rattle.answers.specs.declared.Answer.the-variants as answer
-use Rattle.answers.specs.declared.AnswerLine.{AnswerLine}
+use Rattle.printing.specs.declared.Answer.{Answer}
+use Rattle.printing.specs.declared.Answer.the-variants as answer
+use Rattle.printing.specs.declared.AnswerLine.{AnswerLine}
 use Rattle.desk_step.specs.declared.Stored.{Stored}
 use Rattle.desk_step.specs.declared.Opening.{Opening}
 use Rattle.desk_step.specs.declared.Opening.the-variants.{Open, Refused}

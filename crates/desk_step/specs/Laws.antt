@@ -8,11 +8,12 @@ use native.Mathlib.Omega.{arith}
 use lib.ListN.{length, getD, drop, length-take, length-drop}
 use lib.Seq.{getD-take, getD-drop}
 use borrow.Author.Tests.{lt-ltb, le-ltb}
-use Rattle.room.specs.Room.{Room, sized, slotsOf, ringOf, useOf, keyOf, find, startOf, size, bodyOf, bodyFrom}
+use Rattle.layout.specs.Layout.{sizeOf}
+use Rattle.room.specs.Room.{Room, sized, slotsOf, ringOf, useOf, keyOf, find, startOf, bodyOf, bodyFrom}
 use Rattle.room.specs.Laws.{room-sized}
 use Rattle.judge.specs.Sound.{hasSeries}
 use Rattle.judge.specs.Verdict.{Verdict, Told}
-use Rattle.answers.specs.declared.AnswerLine.{AnswerLine}
+use Rattle.printing.specs.declared.AnswerLine.{AnswerLine}
 use Rattle.lines.specs.Laws.{keyIn, CallRead, call-read}
 use Rattle.lines.specs.Reading.{readCall}
 use Rattle.lines.specs.declared.CallLine.{CallLine}
@@ -32,7 +33,7 @@ stored-path p q = λ i. record { total = p i; declined = q i }
 
 body-word : (w : List ℕ) (at j : ℕ) → j < 7 → getD (bodyOf w at) j 0 ≡ getD w (startOf w at + j) 0
 unfolding bodyFrom
-body-word w at j h = getD-take (size (ringOf w)) (drop (startOf w at) w) j 0 (omega arith) ∙ getD-drop (startOf w at) w j 0
+body-word w at j h = getD-take (sizeOf (ringOf w)) (drop (startOf w at) w) j 0 (omega arith) ∙ getD-drop (startOf w at) w j 0
 
 module _ (w key : List ℕ) where
   -- words of the wrong lengths are no room
@@ -81,5 +82,6 @@ key-inside line (call.Call t op start end rate n draw) p =
     let k = p .fits .keys .some in
     record { starts = omega (arith, p .ends); ends = omega (arith, p .ends, l, k) }
 
-pub read-inside : (line : List ℕ) (t : ℕ) (op : Op) (start end rate n draw : ℕ) → readCall line ≡ call.Call t op start end rate n draw → KeyInside line start end
+pub read-inside : (line : List ℕ) (t : ℕ) (op : Op) (start end rate n draw : ℕ) → readCall line ≡ call.Call t op start end rate n draw →
+    KeyInside line start end
 read-inside line t op start end rate n draw e = rw e at (key-inside line (readCall line) (call-read line))

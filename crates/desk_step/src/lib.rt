@@ -5,28 +5,23 @@ ghost use Rattle.judge.specs.Verdict.{Told};
 ghost use Rattle.desk_step.specs.Desk.{refusedLine, noStored, storedOf, said, yesOrNo, decisionLine, totalLine, snapshotLine, perMinute};
 ghost use Rattle.desk_step.specs.Desk.{absoluteInc, absoluteGet, suppressedInc, suppressedGet, callOf, stepped, Answered};
 ghost use Rattle.desk_step.specs.Desk.{settingsOf, openWith, openingOf};
-use answers::Answer;
-use answers::AnswerLine;
+use answers::RateLimitDecision;
+use answers::SnapshotAnswer;
+use answers::TotalAnswer;
 use common::BucketSize;
 use common::RateLimit;
-use common::RateLimitDecision;
-use common::Settings;
-use common::SnapshotAnswer;
 use common::SuppressionFactorCachePeriod;
-use common::TotalAnswer;
 use common::WindowSize;
 use lines::CallLine;
 use lines::Op;
 use lines::SettingsLine;
+use printing::Answer;
+use printing::AnswerLine;
+use settings::Settings;
 
 const BAD_LINE: u64 = 14;
 
 const SECONDS_PER_MINUTE: u64 = 60;
-
-// Where a body has its totals.
-const TOTAL: usize = 1;
-
-const DECLINED: usize = 2;
 
 // ---- what a room holds of a key
 
@@ -52,7 +47,7 @@ fn stored_of(w: &[u64], key: &[u8]) -> Stored
     if !room::sized(w) {
         return none_stored();
     }
-    let slots = w[room::SLOTS] as usize;
+    let slots = w[layout::SLOTS] as usize;
     let at = room::find(w, room::key_of(key));
     if slots <= at {
         return none_stored();
@@ -62,8 +57,8 @@ fn stored_of(w: &[u64], key: &[u8]) -> Stored
     }
     let start = room::start(w, at);
     Stored {
-        total: w[start + TOTAL],
-        declined: w[start + DECLINED],
+        total: w[start + layout::TOTAL],
+        declined: w[start + layout::DECLINED],
     }
 }
 
@@ -230,7 +225,8 @@ fn call(
     n: u64,
     draw: u64,
 ) -> AnswerLine
-    ensures { λ r. ⌜ Answered (callOf settings (now (absolute .entry)) (now (suppressed .entry)) t op (now (key .entry)) rate n draw) r (now (absolute .exit)) (now (suppressed .exit)) ⌝ }
+    ensures { λ r. ⌜ Answered (callOf settings (now (absolute .entry)) (now (suppressed .entry)) t op (now (key .entry)) rate n draw) r
+        (now (absolute .exit)) (now (suppressed .exit)) ⌝ }
 {
     match op {
         Op::AbsoluteInc => absolute_inc(settings, absolute, t, key, rate, n),
@@ -247,7 +243,8 @@ pub fn step(
     suppressed: &mut [u64],
     line: &[u8],
 ) -> AnswerLine
-    ensures { λ r. ⌜ Answered (stepped settings (now (absolute .entry)) (now (suppressed .entry)) (now (line .entry))) r (now (absolute .exit)) (now (suppressed .exit)) ⌝ }
+    ensures { λ r. ⌜ Answered (stepped settings (now (absolute .entry)) (now (suppressed .entry)) (now (line .entry))) r (now (absolute .exit))
+        (now (suppressed .exit)) ⌝ }
 {
     let CallLine::Call {
         t,

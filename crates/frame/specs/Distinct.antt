@@ -4,23 +4,23 @@ use mathlib.Core.Path.{_≡_, refl, sym, ap, ap₂, _∙_}
 use mathlib.Core.Bool.{true, false, not, _&&_, false≢true}
 use mathlib.Core.List.{List}
 use mathlib.Core.Logic.{_≢_}
-use Prim.Native.Nat.{ℕ, _+_, _*_, _≤_, _<_}
+use Prim.Native.Nat.{ℕ, _≤_, _<_}
 use native.Mathlib.Decide.{ℕ-discrete}
 use native.Mathlib.Omega.{arith}
-use lib.ListN.{length, getD}
+use lib.ListN.{length}
 use lib.Dec.{eqb}
 use borrow.Author.Tests.{eq-eqb, eqb-true}
 use Rattle.base.specs.Decides.{and-true, not-so, so-not}
-use Rattle.base.specs.Seek.{seek, seek-le, seek-passes, seek-before, seek-only, seek-none, seek-ext}
+use Rattle.base.specs.Seek.{seek, seek-le, seek-passes, seek-before, seek-only, seek-ext}
 use Rattle.room.specs.declared.Key.{Key}
-use Rattle.room.specs.Room.{slotsWord, headerWords, entryWords, slotsOf, entryOf, useOf, keyAt, keyOf, keySound, keyFits, sameKey, free, has, find, vacant}
-use Rattle.room.specs.Entries.{free-yes, free-use, has-free, has-used}
+use Rattle.room.specs.Room.{slotsOf, useOf, keyAt, keyOf, keySound, keyFits, sameKey, free, has, find, vacant}
+use Rattle.room.specs.Entries.{free-use, has-free, has-used}
 use Rattle.frame.specs.Keys.{Bytes, key-fits}
-use Rattle.frame.specs.Frame.{Changed, key-ext, other-use, other-key}
+use Rattle.frame.specs.Frame.{Changed, other-use, other-key}
 
 -- ---- equal keys
 
-pub key-path : (k l : Key) → k .len ≡ l .len → k .a ≡ l .a → k .b ≡ l .b → k .c ≡ l .c → k .d ≡ l .d → k ≡ l
+key-path : (k l : Key) → k .len ≡ l .len → k .a ≡ l .a → k .b ≡ l .b → k .c ≡ l .c → k .d ≡ l .d → k ≡ l
 key-path k l n p q r s = λ i. record { len = n i; a = p i; b = q i; c = r i; d = s i }
 
 pub same-key : (k l : Key) → sameKey k l ≡ true → k ≡ l
@@ -80,22 +80,12 @@ module _ (w : List ℕ) (k : Key) where
   find-none h i l u e = so-not (has w k i) (seek-before (has w k) (slotsOf w) 0 i (omega arith) (omega arith)) (has-it w k i u e)
 
 module _ (w : List ℕ) where
-  pub vacant-le : vacant w ≤ slotsOf w
-  vacant-le = omega (arith, seek-le (free w) (slotsOf w) 0)
-
   pub vacant-free : vacant w < slotsOf w → useOf w (vacant w) ≡ 0
   vacant-free h = free-use w (vacant w) (seek-passes (free w) (slotsOf w) 0 (omega arith))
-
-  pub vacant-none : slotsOf w ≤ vacant w → (i : ℕ) → i < slotsOf w → useOf w i ≢ 0
-  vacant-none h i l e = so-not (free w i) (seek-before (free w) (slotsOf w) 0 i (omega arith) (omega arith)) (free-yes w i e)
 
 -- finding reads the directory only
 pub find-ext : (w v : List ℕ) (k : Key) → slotsOf v ≡ slotsOf w → ((i : ℕ) → i < slotsOf w → has v k i ≡ has w k i) → find v k ≡ find w k
 find-ext w v k n f = ap (seek (has v k) 0) n ∙ seek-ext (has v k) (has w k) (slotsOf w) 0 (λ j p q. f j (omega arith))
-
-pub find-directory : (w v : List ℕ) (k : Key) → ((j : ℕ) → j < headerWords + entryWords * slotsOf w → getD v j 0 ≡ getD w j 0) → find v k ≡ find w k
-find-directory w v k f =
-    find-ext w v k (f slotsWord (omega arith)) (λ i h. has-ext w v k i (f (entryOf i) (omega arith)) (key-ext w v i (λ j p q. f j (omega arith))))
 
 -- ---- a key stands in at most one slot
 
@@ -158,29 +148,11 @@ module _ {w v : List ℕ} {s u : ℕ} {k : Key} {b : List ℕ} {t : ℕ} (c : Ch
       go i h (yes p) = ap (has v q) p ∙ e ∙ ap (has w q) (sym p)
       go i h (no p) = other-has q i h p
 
-  -- slot s, for its own key
-  pub find-here : Distinct v → u ≢ 0 → find v k ≡ s
-  find-here d a = find-where v k s d (omega (arith, c .inside, c .slots)) (λ z. a (sym (c .used) ∙ z)) (c .key)
-
   -- the same as before, for a key that slot s neither had nor has
   pub find-beside : (q : Key) → k ≢ q → (useOf w s ≢ 0 → keyAt w s ≢ q) → find v q ≡ find w q
   find-beside q n m =
       find-by q (has-not v q s (λ e. n (sym (c .key) ∙ e)) ∙ sym (not-so (has w q s) (λ e. m (has-use w q s e) (has-key w q s e))))
 
-  -- the same as before, for every key, where slot s was in use with its key and is
-  pub find-kept : useOf w s ≢ 0 → u ≢ 0 → keyAt w s ≡ k → (q : Key) → find v q ≡ find w q
-  find-kept a a′ e q =
-      find-by q (has-used v q s (λ z. a′ (sym (c .used) ∙ z)) ∙ ap (λ (x : Key). sameKey x q) (c .key ∙ sym e) ∙ sym (has-used w q s a))
-
   -- the same too where it keeps its use and key, in use or not
   pub find-still : useOf w s ≡ u → keyAt w s ≡ k → (q : Key) → find v q ≡ find w q
   find-still a e q = find-by q (has-ext w v q s (c .used ∙ sym a) (c .key ∙ sym e))
-
-  -- none, for the key of a slot that is free now
-  pub find-freed : Distinct w → useOf w s ≢ 0 → keyAt w s ≡ k → u ≡ 0 → find v k ≡ slotsOf v
-  find-freed d a e z = seek-none (has v k) (slotsOf v) (λ i h. go i (omega (arith, c .slots)) (ℕ-discrete i s))
-    where
-      go : (i : ℕ) → i < slotsOf w → Dec (i ≡ s) → has v k i ≡ false
-      go i h (yes p) = has-free v k i (ap (useOf v) p ∙ c .used ∙ z)
-      go i h (no p) =
-          not-so (has v k i) (λ x. p (d .once i s h (c .inside) (λ y. has-use v k i x (other-use c i h p ∙ y)) a (sym (other-key c i h p) ∙ has-key v k i x ∙ sym e)))

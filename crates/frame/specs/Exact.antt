@@ -7,22 +7,24 @@ use native.Mathlib.Nat.{mod-lt, div-add-mod', div-lt-iff-lt-mul}
 use native.Mathlib.Decide.{ℕ-discrete, decLt}
 use native.Mathlib.Omega.{arith}
 use lib.ListN.{length, getD, drop}
-use lib.Seq.{ext-getD, getD-take, getD-drop}
+use lib.Seq.{getD-take, getD-drop}
 use Rattle.room.specs.declared.Key.{Key}
-use Rattle.room.specs.Room.{headerWords, entryWords, slotsOf, ringOf, size, lengthOf, entryOf, startOf, useOf, keyAt, bodyFrom, bodyOf}
+use Rattle.layout.specs.Layout.{headerWords, entryWords, sizeOf}
+use Rattle.room.specs.Room.{slotsOf, ringOf, lengthOf, entryOf, startOf, useOf, keyAt, bodyFrom, bodyOf}
 use Rattle.frame.specs.Frame.{Changed}
 
 -- ---- a word by its place
 
 -- a body's word
-body-word : (v : List ℕ) (i m : ℕ) → m < size (ringOf v) → getD (bodyOf v i) m 0 ≡ getD v (startOf v i + m) 0
+body-word : (v : List ℕ) (i m : ℕ) → m < sizeOf (ringOf v) → getD (bodyOf v i) m 0 ≡ getD v (startOf v i + m) 0
 unfolding bodyFrom
-body-word v i m h = getD-take (size (ringOf v)) (drop (startOf v i) v) m 0 h ∙ getD-drop (startOf v i) v m 0
+body-word v i m h = getD-take (sizeOf (ringOf v)) (drop (startOf v i) v) m 0 h ∙ getD-drop (startOf v i) v m 0
 
 -- equal bodies at equal places
-body-words : (v x : List ℕ) (i m : ℕ) → slotsOf x ≡ slotsOf v → ringOf x ≡ ringOf v → bodyOf x i ≡ bodyOf v i → m < size (ringOf v) → getD x (startOf v i + m) 0 ≡ getD v (startOf v i + m) 0
+body-words : (v x : List ℕ) (i m : ℕ) → slotsOf x ≡ slotsOf v → ringOf x ≡ ringOf v → bodyOf x i ≡ bodyOf v i → m < sizeOf (ringOf v) →
+    getD x (startOf v i + m) 0 ≡ getD v (startOf v i + m) 0
 body-words v x i m n r e h =
-    let p : startOf x i ≡ startOf v i = ap₂ (λ (n r : ℕ). headerWords + entryWords * n + i * size r) n r in
+    let p : startOf x i ≡ startOf v i = ap₂ (λ (n r : ℕ). headerWords + entryWords * n + i * sizeOf r) n r in
     ap (λ (a : ℕ). getD x (a + m) 0) (sym p) ∙ sym (body-word x i m (omega (arith, r))) ∙ ap (λ (b : List ℕ). getD b m 0) e ∙ body-word v i m h
 
 -- equal uses and keys
@@ -56,10 +58,11 @@ module _ (w v x : List ℕ) (s u : ℕ) (k : Key) (b : List ℕ) (t : ℕ) (c : 
     where
       go : Dec (i ≡ s) → getD x (entryOf i + m) 0 ≡ getD v (entryOf i + m) 0
       go (yes p) =
-          entry-words v x i m (ap (useOf x) p ∙ d .used ∙ sym (c .used) ∙ ap (useOf v) (sym p)) (ap (keyAt x) p ∙ d .key ∙ sym (c .key) ∙ ap (keyAt v) (sym p)) l
+          entry-words v x i m (ap (useOf x) p ∙ d .used ∙ sym (c .used) ∙ ap (useOf v) (sym p))
+          (ap (keyAt x) p ∙ d .key ∙ sym (c .key) ∙ ap (keyAt v) (sym p)) l
       go (no p) = d .entries i (entryOf i + m) h p (omega arith) (omega arith) ∙ sym (c .entries i (entryOf i + m) h p (omega arith) (omega arith))
 
-  body : (i m : ℕ) → i < slotsOf w → m < size (ringOf v) → getD x (startOf v i + m) 0 ≡ getD v (startOf v i + m) 0
+  body : (i m : ℕ) → i < slotsOf w → m < sizeOf (ringOf v) → getD x (startOf v i + m) 0 ≡ getD v (startOf v i + m) 0
   unfolding slots ring
   body i m h l = body-words v x i m slots ring (go (ℕ-discrete i s)) l
     where
@@ -81,7 +84,7 @@ module _ (w v x : List ℕ) (s u : ℕ) (k : Key) (b : List ℕ) (t : ℕ) (c : 
       e = headerWords + entryWords * slotsOf v
 
       z : ℕ
-      z = size (ringOf v)
+      z = sizeOf (ringOf v)
 
       three : e ≤ j → getD x j 0 ≡ getD v j 0
       three g =
@@ -106,7 +109,3 @@ module _ (w v x : List ℕ) (s u : ℕ) (k : Key) (b : List ℕ) (t : ℕ) (c : 
       one : Dec (j < headerWords) → getD x j 0 ≡ getD v j 0
       one (yes l) = header j l
       one (no l) = two (decLt j e) (omega arith)
-
-  pub changed-once : x ≡ v
-  unfolding long
-  changed-once = ext-getD 0 x v long (λ j h. word j (omega (arith, long)))

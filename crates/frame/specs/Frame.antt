@@ -1,7 +1,7 @@
 -- What stands in a room after a change of one slot: everything the room has, in one record, with a law for each change and for each run of
 -- them that a call makes.
 -- Assumes nothing.
-use mathlib.Core.Path.{_≡_, refl, sym, ap, ap₂, subst, _∙_}
+use mathlib.Core.Path.{_≡_, refl, sym, ap, ap₂, _∙_}
 use mathlib.Core.List.{List, [], _∷_}
 use mathlib.Core.Logic.{_≢_, _⊎_, inl, inr}
 use Prim.Native.Nat.{ℕ, _+_, _-_, _*_, _≤_, _<_}
@@ -9,12 +9,12 @@ use native.Mathlib.Decide.{decLt}
 use native.Mathlib.Omega.{arith}
 use lib.ListN.{length, getD, take, drop, set, length-set}
 use lib.Seq.{getD-set-same, getD-set-other}
-use borrow.Rule.Slice.PartMut.{putMid}
 use Rattle.base.specs.Writes.{writes, Misses, length-writes, read-past, read-nth}
 use Rattle.base.specs.Splice.{splice-part, splice-before, splice-after, part-ext}
 use Rattle.room.specs.declared.Key.{Key}
-use Rattle.room.specs.Room.{slotsWord, ringWord, lastWord, lenWord, aWord, bWord, cWord, dWord, headerWords, entryWords, slotsOf, ringOf, lastOf, size, entryOf, startOf, endOf, Room, useOf, keyAt, bodyFrom, bodyOf, withBody, entered, withUse, withReading}
-use Rattle.room.specs.Laws.{room-same, slot-in, body-end, body-header, body-room, part-home}
+use Rattle.layout.specs.Layout.{slotsWord, ringWord, lastWord, lenWord, aWord, bWord, cWord, dWord, headerWords, entryWords, sizeOf}
+use Rattle.room.specs.Room.{slotsOf, ringOf, lastOf, entryOf, startOf, endOf, Room, useOf, keyAt, bodyFrom, bodyOf, withBody, entered, withUse, withReading}
+use Rattle.room.specs.Laws.{room-same, slot-in, body-end, body-header, body-room}
 
 -- v is w but for slot s, which has use u, key k and body b, and for the last reading, which is t
 pub record Changed (w v : List ℕ) (s u : ℕ) (k : Key) (b : List ℕ) (t : ℕ) : Type 0 where
@@ -50,17 +50,19 @@ key-ext w v s h =
     λ i. record { len = len i; a = a i; b = b i; c = c i; d = d i }
 
 -- words below the bodies do not change a body
-pub body-ext : (w v : List ℕ) → length v ≡ length w → slotsOf v ≡ slotsOf w → ringOf v ≡ ringOf w → ((j : ℕ) → headerWords + entryWords * slotsOf w ≤ j → getD v j 0 ≡ getD w j 0) → (i : ℕ) → bodyOf v i ≡ bodyOf w i
+pub body-ext : (w v : List ℕ) → length v ≡ length w → slotsOf v ≡ slotsOf w → ringOf v ≡ ringOf w →
+    ((j : ℕ) → headerWords + entryWords * slotsOf w ≤ j → getD v j 0 ≡ getD w j 0) → (i : ℕ) → bodyOf v i ≡ bodyOf w i
 unfolding bodyFrom
 body-ext w v l n r f i =
-    ap₂ (λ (n r : ℕ). take (size r) (drop (headerWords + entryWords * n + i * size r) v)) n r ∙
-    part-ext (startOf w i) (size (ringOf w)) v w l (λ j h. f (startOf w i + j) (omega arith))
+    ap₂ (λ (n r : ℕ). take (sizeOf r) (drop (headerWords + entryWords * n + i * sizeOf r) v)) n r ∙
+    part-ext (startOf w i) (sizeOf (ringOf w)) v w l (λ j h. f (startOf w i + j) (omega arith))
 
 -- ---- one change
 
 -- in the last reading and in slot s's entry
 module _ (w v : List ℕ) (s u : ℕ) (k : Key) (t : ℕ) (o : Room w) (h : s < slotsOf w) where
-  pub low-change : length v ≡ length w → ((j : ℕ) → j ≢ lastWord → (j < entryOf s) ⊎ (entryOf s + entryWords ≤ j) → getD v j 0 ≡ getD w j 0) → useOf v s ≡ u → keyAt v s ≡ k → lastOf v ≡ t → Changed w v s u k (bodyOf w s) t
+  pub low-change : length v ≡ length w → ((j : ℕ) → j ≢ lastWord → (j < entryOf s) ⊎ (entryOf s + entryWords ≤ j) → getD v j 0 ≡ getD w j 0) → useOf v s ≡ u →
+      keyAt v s ≡ k → lastOf v ≡ t → Changed w v s u k (bodyOf w s) t
   low-change l f p q r =
       let n : slotsOf v ≡ slotsOf w = f slotsWord (omega arith) (inl (omega arith)) in
       let m : ringOf v ≡ ringOf w = f ringWord (omega arith) (inl (omega arith)) in
@@ -95,7 +97,8 @@ module _ (w : List ℕ) (s : ℕ) (o : Room w) (h : s < slotsOf w) where
   unfolding withReading
   reading-change t =
       let f : (j : ℕ) → j ≢ lastWord → getD (set w lastWord t) j 0 ≡ getD w j 0 = λ j n. getD-set-other w lastWord j t 0 n in
-      low-change w (set w lastWord t) s (useOf w s) (keyAt w s) t o h (length-set w lastWord t) (λ j n g. f j n) (f (entryOf s) (omega arith)) (key-ext w (set w lastWord t) s (λ j a b. f j (omega arith))) (getD-set-same w lastWord t 0 (omega (arith, o .long)))
+      low-change w (set w lastWord t) s (useOf w s) (keyAt w s) t o h (length-set w lastWord t) (λ j n g. f j n) (f (entryOf s) (omega arith))
+      (key-ext w (set w lastWord t) s (λ j a b. f j (omega arith))) (getD-set-same w lastWord t 0 (omega (arith, o .long)))
 
   -- a use
   pub use-change : (u : ℕ) → Changed w (withUse w s u) s u (keyAt w s) (bodyOf w s) (lastOf w)
@@ -103,7 +106,8 @@ module _ (w : List ℕ) (s : ℕ) (o : Room w) (h : s < slotsOf w) where
   use-change u =
       let v = set w (entryOf s) u in
       let f : (j : ℕ) → j ≢ entryOf s → getD v j 0 ≡ getD w j 0 = λ j n. getD-set-other w (entryOf s) j u 0 n in
-      low-change w v s u (keyAt w s) (lastOf w) o h (length-set w (entryOf s) u) (λ j n g. f j (out j g)) (getD-set-same w (entryOf s) u 0 (omega (arith, o .long))) (key-ext w v s (λ j a b. f j (omega arith))) (f lastWord (omega arith))
+      low-change w v s u (keyAt w s) (lastOf w) o h (length-set w (entryOf s) u) (λ j n g. f j (out j g))
+      (getD-set-same w (entryOf s) u 0 (omega (arith, o .long))) (key-ext w v s (λ j a b. f j (omega arith))) (f lastWord (omega arith))
     where
       out : (j : ℕ) → (j < entryOf s) ⊎ (entryOf s + entryWords ≤ j) → j ≢ entryOf s
       out j (inl p) = omega arith
@@ -121,21 +125,26 @@ module _ (w : List ℕ) (s : ℕ) (o : Room w) (h : s < slotsOf w) where
       let b : getD v (e + bWord) 0 ≡ k .b = read-nth ws 3 w (omega arith) (omega (arith, o .long)) (omega arith) in
       let c : getD v (e + cWord) 0 ≡ k .c = read-nth ws 4 w (omega arith) (omega (arith, o .long)) (omega arith) in
       let d : getD v (e + dWord) 0 ≡ k .d = read-nth ws 5 w (omega arith) (omega (arith, o .long)) tt in
-      low-change w v s u k (lastOf w) o h (length-writes ws w) (λ j n g. read-past ws w j (out j g)) (read-nth ws 0 w (omega arith) (omega (arith, o .long)) (omega arith)) (λ i. record { len = len i; a = a i; b = b i; c = c i; d = d i }) (read-past ws w lastWord (omega arith))
+      low-change w v s u k (lastOf w) o h (length-writes ws w) (λ j n g. read-past ws w j (out j g))
+      (read-nth ws 0 w (omega arith) (omega (arith, o .long)) (omega arith)) (λ i. record { len = len i; a = a i; b = b i; c = c i; d = d i })
+      (read-past ws w lastWord (omega arith))
     where
-      out : (j : ℕ) → (j < entryOf s) ⊎ (entryOf s + entryWords ≤ j) → Misses j ((entryOf s, u) ∷ (entryOf s + lenWord, k .len) ∷ (entryOf s + aWord, k .a) ∷ (entryOf s + bWord, k .b) ∷ (entryOf s + cWord, k .c) ∷ (entryOf s + dWord, k .d) ∷ [])
+      out : (j : ℕ) → (j < entryOf s) ⊎ (entryOf s + entryWords ≤ j) →
+          Misses j ((entryOf s, u) ∷ (entryOf s + lenWord, k .len) ∷ (entryOf s + aWord, k .a) ∷ (entryOf s + bWord, k .b) ∷ (entryOf s + cWord, k .c) ∷
+          (entryOf s + dWord, k .d) ∷ [])
       out j (inl p) = omega arith
       out j (inr p) = omega arith
 
   -- a body
-  pub body-change : (b : List ℕ) → length b ≡ size (ringOf w) → Changed w (withBody w s b) s (useOf w s) (keyAt w s) b (lastOf w)
+  pub body-change : (b : List ℕ) → length b ≡ sizeOf (ringOf w) → Changed w (withBody w s b) s (useOf w s) (keyAt w s) b (lastOf w)
   unfolding bodyFrom
   body-change b l =
       let v = withBody w s b in
       let f = body-header w b s o h l in
       let n : slotsOf v ≡ slotsOf w = f slotsWord (omega arith) in
       let r : ringOf v ≡ ringOf w = f ringWord (omega arith) in
-      let at : (i : ℕ) → bodyOf v i ≡ take (size (ringOf w)) (drop (startOf w i) v) = λ i. ap₂ (λ (n r : ℕ). take (size r) (drop (headerWords + entryWords * n + i * size r) v)) n r in
+      let at : (i : ℕ) → bodyOf v i ≡ take (sizeOf (ringOf w)) (drop (startOf w i) v) =
+      λ i. ap₂ (λ (n r : ℕ). take (sizeOf r) (drop (headerWords + entryWords * n + i * sizeOf r) v)) n r in
       record {
         inside = h;
         room = body-room w b s o h l;
@@ -152,14 +161,17 @@ module _ (w : List ℕ) (s : ℕ) (o : Room w) (h : s < slotsOf w) where
       fit : startOf w s + length b ≡ endOf w s
       fit = ap (λ (n : ℕ). startOf w s + n) l
 
-      other : (i : ℕ) → (i < s) ⊎ (s < i) → take (size (ringOf w)) (drop (startOf w i) (withBody w s b)) ≡ take (size (ringOf w)) (drop (startOf w i) w)
-      other i (inl p) = splice-before (startOf w s) (endOf w s) w b fit (body-end w s o h) (startOf w i) (size (ringOf w)) (omega (arith, slot-in i s (size (ringOf w)) p))
-      other i (inr p) = splice-after (startOf w s) (endOf w s) w b fit (body-end w s o h) (startOf w i) (size (ringOf w)) (omega (arith, slot-in s i (size (ringOf w)) p))
+      other : (i : ℕ) → (i < s) ⊎ (s < i) → take (sizeOf (ringOf w)) (drop (startOf w i) (withBody w s b)) ≡ take (sizeOf (ringOf w)) (drop (startOf w i) w)
+      other i (inl p) = splice-before (startOf w s) (endOf w s) w b fit (body-end w s o h) (startOf w i) (sizeOf (ringOf w))
+          (omega (arith, slot-in i s (sizeOf (ringOf w)) p))
+      other i (inr p) = splice-after (startOf w s) (endOf w s) w b fit (body-end w s o h) (startOf w i) (sizeOf (ringOf w))
+          (omega (arith, slot-in s i (sizeOf (ringOf w)) p))
 
 -- ---- a change after changes
 
 -- of the same slot: what is said of it last holds
-then-changed : (w v x : List ℕ) (s u u′ : ℕ) (k k′ : Key) (b b′ : List ℕ) (t t′ : ℕ) → Changed w v s u k b t → Changed v x s u′ k′ b′ t′ → Changed w x s u′ k′ b′ t′
+then-changed : (w v x : List ℕ) (s u u′ : ℕ) (k k′ : Key) (b b′ : List ℕ) (t t′ : ℕ) → Changed w v s u k b t → Changed v x s u′ k′ b′ t′ →
+    Changed w x s u′ k′ b′ t′
 then-changed w v x s u u′ k k′ b b′ t t′ c d = record {
   inside = c .inside;
   room = d .room;
@@ -174,7 +186,8 @@ then-changed w v x s u u′ k k′ b b′ t t′ c d = record {
 }
 
 -- equal slots are the same change
-like : (w v : List ℕ) (s u u′ : ℕ) (k k′ : Key) (b b′ : List ℕ) (t t′ : ℕ) → u ≡ u′ → k ≡ k′ → b ≡ b′ → t ≡ t′ → Changed w v s u k b t → Changed w v s u′ k′ b′ t′
+like : (w v : List ℕ) (s u u′ : ℕ) (k k′ : Key) (b b′ : List ℕ) (t t′ : ℕ) → u ≡ u′ → k ≡ k′ → b ≡ b′ → t ≡ t′ → Changed w v s u k b t →
+    Changed w v s u′ k′ b′ t′
 like w v s u u′ k k′ b b′ t t′ p q r e c = record {
   inside = c .inside;
   room = c .room;
@@ -196,7 +209,8 @@ module _ {w v : List ℕ} {s u : ℕ} {k : Key} {b : List ℕ} {t : ℕ} (c : Ch
   pub put-reading : (t′ : ℕ) → Changed w (withReading v t′) s u k b t′
   put-reading t′ =
       then-changed w v (withReading v t′) s u u k k b b t t′ c
-      (like v (withReading v t′) s (useOf v s) u (keyAt v s) k (bodyOf v s) b t′ t′ (c .used) (c .key) (c .body) refl (reading-change v s (c .room) inside-after t′))
+      (like v (withReading v t′) s (useOf v s) u (keyAt v s) k (bodyOf v s) b t′ t′ (c .used) (c .key) (c .body) refl
+      (reading-change v s (c .room) inside-after t′))
 
   pub put-use : (u′ : ℕ) → Changed w (withUse v s u′) s u′ k b t
   put-use u′ =
@@ -208,23 +222,12 @@ module _ {w v : List ℕ} {s u : ℕ} {k : Key} {b : List ℕ} {t : ℕ} (c : Ch
       then-changed w v (entered v s u′ k′) s u u′ k k′ b b t t c
       (like v (entered v s u′ k′) s u′ u′ k′ k′ (bodyOf v s) b (lastOf v) t refl refl (c .body) (c .last) (entry-change v s (c .room) inside-after u′ k′))
 
-  pub put-body : (b′ : List ℕ) → length b′ ≡ size (ringOf w) → Changed w (withBody v s b′) s u k b′ t
-  put-body b′ l =
-      then-changed w v (withBody v s b′) s u u k k b b′ t t c
-      (like v (withBody v s b′) s (useOf v s) u (keyAt v s) k b′ b′ (lastOf v) t (c .used) (c .key) refl (c .last) (body-change v s (c .room) inside-after b′ (l ∙ ap (λ (r : ℕ). size r) (sym (c .ring)))))
-
   -- of another slot
   pub other-use : (i : ℕ) → i < slotsOf w → i ≢ s → useOf v i ≡ useOf w i
   other-use i a ne = c .entries i (entryOf i) a ne (omega arith) (omega arith)
 
   pub other-key : (i : ℕ) → i < slotsOf w → i ≢ s → keyAt v i ≡ keyAt w i
   other-key i a ne = key-ext w v i (λ j p q. c .entries i j a ne (omega arith) q)
-
--- ---- a body that was lent: &mut w[a..e] came back as b
-
-module _ (w b : List ℕ) (a s : ℕ) (e : a ≡ startOf w s) (o : Room w) (h : s < slotsOf w) (l : length b ≡ size (ringOf w)) where
-  pub lent : Changed w (putMid a (a + size (ringOf w) - a) w b) s (useOf w s) (keyAt w s) b (lastOf w)
-  lent = subst (λ (y : List ℕ). Changed w y s (useOf w s) (keyAt w s) b (lastOf w)) (sym (part-home w b a s e)) (body-change w s o h b l)
 
 -- ---- the runs of changes that calls make
 
@@ -236,16 +239,3 @@ module _ (w : List ℕ) (s t : ℕ) (o : Room w) (h : s < slotsOf w) where
   -- a use, and the reading
   pub use-run : (u : ℕ) → Changed w (withReading (withUse w s u) t) s u (keyAt w s) (bodyOf w s) t
   use-run u = put-reading (put-use (unchanged w s o h) u) t
-
-  module _ (b : List ℕ) (l : length b ≡ size (ringOf w)) where
-    -- a body, and the reading
-    pub body-run : Changed w (withReading (withBody w s b) t) s (useOf w s) (keyAt w s) b t
-    body-run = put-reading (put-body (unchanged w s o h) b l) t
-
-    -- a body, a use, and the reading
-    pub reuse-run : (u : ℕ) → Changed w (withReading (withUse (withBody w s b) s u) t) s u (keyAt w s) b t
-    reuse-run u = put-reading (put-use (put-body (unchanged w s o h) b l) u) t
-
-    -- a body, an entry, and the reading
-    pub entry-run : (u : ℕ) (k : Key) → Changed w (withReading (entered (withBody w s b) s u k) t) s u k b t
-    entry-run u k = put-reading (put-entry (put-body (unchanged w s o h) b l) u k) t

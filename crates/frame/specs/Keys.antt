@@ -11,7 +11,7 @@ use lib.ListN.{length, getD, List·getD-eq-default}
 use lib.Seq.{ext-getD}
 use borrow.Author.Tests.{lt-ltb, le-leb}
 use Rattle.room.specs.declared.Key.{Key}
-use Rattle.room.specs.Room.{pack, keyOf, within, keyFits}
+use Rattle.room.specs.Room.{pack, keyOf, unusedZero, keyFits}
 
 -- ---- numbers by their bytes
 
@@ -51,11 +51,12 @@ digits-same (suc n) f g hf hg e (suc j) l =
 abbrev pub Bytes : List ℕ → Type 0
 Bytes key = (i : ℕ) → getD key i 0 < 256
 
-packed-within : (key : List ℕ) (i : ℕ) → Bytes key → within (length key) i (pack key i) ≡ true
-unfolding within
+packed-within : (key : List ℕ) (i : ℕ) → Bytes key → unusedZero (length key) i (pack key i) ≡ true
+unfolding unusedZero
 packed-within key i h =
     lt-ltb (pack key i) (256 ^ min 8 (length key - i))
-    (rw (pack-digits key i) (digits-below 8 (min 8 (length key - i)) (λ j. getD key (i + j) 0) (λ j. h (i + j)) (λ j p q. List·getD-eq-default key 0 (omega arith))))
+    (rw (pack-digits key i) (digits-below 8 (min 8 (length key - i)) (λ j. getD key (i + j) 0) (λ j. h (i + j))
+    (λ j p q. List·getD-eq-default key 0 (omega arith))))
 
 -- a key of at most 32 bytes packs into a right key
 pub key-fits : (key : List ℕ) → Bytes key → length key ≤ 32 → keyFits (keyOf key) ≡ true

@@ -1,7 +1,7 @@
 -- Changes of every slot at once: a room that was made, and one that was cleared.
 -- Assumes nothing.
-use mathlib.Core.Path.{_≡_, refl, sym, ap, subst, _∙_}
-use mathlib.Core.Bool.{Bool, true, cond}
+use mathlib.Core.Path.{_≡_, refl, ap, _∙_}
+use mathlib.Core.Bool.{true}
 use mathlib.Core.List.{List}
 use mathlib.Core.Logic.{_≢_}
 use Prim.Native.Nat.{ℕ, zero, suc, _+_, _*_, _≤_, _<_}
@@ -9,11 +9,10 @@ use native.Mathlib.Decide.{ℕ-discrete, decLt}
 use native.Mathlib.Omega.{arith}
 use lib.ListN.{length, getD, set, replicate, length-set, length-replicate, getD-replicate, List·getD-eq-default}
 use lib.Seq.{getD-set-same, getD-set-other}
-use Rattle.base.specs.Seek.{seek-none}
-use Rattle.room.specs.declared.Key.{Key}
-use Rattle.room.specs.Room.{slotsWord, ringWord, lastWord, entryWords, slotsOf, ringOf, lastOf, size, lengthOf, entryOf, Room, Made, empty, fits, useOf, keyAt, has, find, bodyOf, withUse, withReading, freed, cleared}
+use Rattle.layout.specs.Layout.{slotsWord, ringWord, lastWord, entryWords, sizeOf}
+use Rattle.room.specs.Room.{slotsOf, ringOf, lastOf, lengthOf, entryOf, Room, empty, fits, useOf, keyAt, bodyOf, withUse, withReading, freed, cleared}
 use Rattle.room.specs.Laws.{room-same, fit-lengths}
-use Rattle.room.specs.Entries.{has-free, freed-length, freed-other}
+use Rattle.room.specs.Entries.{freed-length, freed-other}
 use Rattle.frame.specs.Frame.{key-ext, body-ext}
 use Rattle.frame.specs.Distinct.{Distinct}
 
@@ -23,9 +22,6 @@ module _ (w : List ℕ) (f : (i : ℕ) → i < slotsOf w → useOf w i ≡ 0) wh
   pub free-distinct : Distinct w
   free-distinct = record { once = λ i j p q a b e. absurd (a (f i p)) }
 
-  pub free-find : (k : Key) → find w k ≡ slotsOf w
-  free-find k = seek-none (has w k) (slotsOf w) (λ i h. has-free w k i (f i h))
-
 -- ---- a room that was made
 
 module _ (n r : ℕ) where
@@ -34,27 +30,16 @@ module _ (n r : ℕ) where
   empty-word zero h = absurd (omega arith)
   empty-word (suc zero) h = absurd (omega arith)
   empty-word (suc (suc zero)) h = refl
-  empty-word (suc (suc (suc j))) h = go (decLt j (entryWords * n + n * size r))
+  empty-word (suc (suc (suc j))) h = go (decLt j (entryWords * n + n * sizeOf r))
     where
-      go : Dec (j < entryWords * n + n * size r) → _≡_ {A = ℕ} (getD (replicate (entryWords * n + n * size r) 0) j 0) 0
-      go (yes p) = getD-replicate (entryWords * n + n * size r) j 0 0 p
-      go (no p) = List·getD-eq-default (replicate (entryWords * n + n * size r) 0) 0 (omega (arith, length-replicate {A = ℕ} (entryWords * n + n * size r) 0))
-
-  pub empty-slots : slotsOf (empty n r) ≡ n
-  unfolding empty
-  empty-slots = refl
-
-  pub empty-ring : ringOf (empty n r) ≡ r
-  unfolding empty
-  empty-ring = refl
-
-  pub empty-last : lastOf (empty n r) ≡ 0
-  unfolding empty
-  empty-last = refl
+      go : Dec (j < entryWords * n + n * sizeOf r) → _≡_ {A = ℕ} (getD (replicate (entryWords * n + n * sizeOf r) 0) j 0) 0
+      go (yes p) = getD-replicate (entryWords * n + n * sizeOf r) j 0 0 p
+      go (no p) = List·getD-eq-default (replicate (entryWords * n + n * sizeOf r) 0) 0
+          (omega (arith, length-replicate {A = ℕ} (entryWords * n + n * sizeOf r) 0))
 
   pub empty-length : length (empty n r) ≡ lengthOf n r
   unfolding empty
-  empty-length = omega (arith, length-replicate {A = ℕ} (entryWords * n + n * size r) 0)
+  empty-length = omega (arith, length-replicate {A = ℕ} (entryWords * n + n * sizeOf r) 0)
 
   pub empty-free : (i : ℕ) → useOf (empty n r) i ≡ 0
   empty-free i = empty-word (entryOf i) (omega arith)
@@ -67,19 +52,6 @@ module _ (n r : ℕ) where
 
   pub empty-distinct : Distinct (empty n r)
   empty-distinct = free-distinct (empty n r) (λ i h. empty-free i)
-
-module _ (n r : ℕ) (w v : List ℕ) (m : Made n r w true v) where
-  pub made-empty : v ≡ empty n r
-  made-empty = m .words ∙ ap (λ (x : Bool). cond x (empty n r) w) (sym (m .answer))
-
-  pub made-room : Room v
-  made-room = subst (λ (y : List ℕ). Room y) (sym made-empty) (empty-room n r (length w) (sym (m .answer)))
-
-  pub made-free : (i : ℕ) → useOf v i ≡ 0
-  made-free i = ap (λ (y : List ℕ). useOf y i) made-empty ∙ empty-free n r i
-
-  pub made-distinct : Distinct v
-  made-distinct = free-distinct v (λ i h. made-free i)
 
 -- ---- a room that was cleared
 
@@ -98,9 +70,6 @@ module _ (w v : List ℕ) (t : ℕ) (c : Cleared w v t) where
   pub cleared-distinct : Distinct v
   cleared-distinct = free-distinct v (λ i h. c .free i (omega (arith, c .slots)))
 
-  pub cleared-find : (k : Key) → find v k ≡ slotsOf v
-  cleared-find k = free-find v (λ i h. c .free i (omega (arith, c .slots))) k
-
 -- the use of one of the first n slots
 freed-use : (w : List ℕ) (n i : ℕ) → i < n → entryOf n ≤ length w → useOf (freed w n) i ≡ 0
 unfolding freed withUse
@@ -108,11 +77,13 @@ freed-use w zero i h l = absurd (omega arith)
 freed-use w (suc n) i h l = go (ℕ-discrete i n) (freed-use w n i)
   where
     go : Dec (i ≡ n) → (i < n → entryOf n ≤ length w → useOf (freed w n) i ≡ 0) → useOf (set (freed w n) (entryOf n) 0) i ≡ 0
-    go (yes p) f = ap (λ (j : ℕ). getD (set (freed w n) (entryOf n) 0) (entryOf j) 0) p ∙ getD-set-same (freed w n) (entryOf n) 0 0 (omega (arith, freed-length w n))
+    go (yes p) f = ap (λ (j : ℕ). getD (set (freed w n) (entryOf n) 0) (entryOf j) 0) p ∙
+        getD-set-same (freed w n) (entryOf n) 0 0 (omega (arith, freed-length w n))
     go (no p) f = getD-set-other (freed w n) (entryOf n) (entryOf i) 0 0 (omega arith) ∙ f (omega arith) (omega arith)
 
 -- from every word's place: the reading alone is another
-cleared-by : (w v : List ℕ) (t : ℕ) → Room w → length v ≡ length w → ((i : ℕ) → i < slotsOf w → useOf v i ≡ 0) → lastOf v ≡ t → ((j : ℕ) → j ≢ lastWord → ((i : ℕ) → i < slotsOf w → j ≢ entryOf i) → getD v j 0 ≡ getD w j 0) → Cleared w v t
+cleared-by : (w v : List ℕ) (t : ℕ) → Room w → length v ≡ length w → ((i : ℕ) → i < slotsOf w → useOf v i ≡ 0) → lastOf v ≡ t →
+    ((j : ℕ) → j ≢ lastWord → ((i : ℕ) → i < slotsOf w → j ≢ entryOf i) → getD v j 0 ≡ getD w j 0) → Cleared w v t
 cleared-by w v t o l f e g =
     let n : slotsOf v ≡ slotsOf w = g slotsWord (omega arith) (λ i h. omega arith) in
     let r : ringOf v ≡ ringOf w = g ringWord (omega arith) (λ i h. omega arith) in
@@ -128,13 +99,12 @@ cleared-by w v t o l f e g =
     }
 
 module _ (w : List ℕ) (o : Room w) where
-  pub clear-run : Cleared w (cleared w) (lastOf w)
-  clear-run = cleared-by w (cleared w) (lastOf w) o (freed-length w (slotsOf w)) (λ i h. freed-use w (slotsOf w) i h (omega (arith, o .long))) (freed-other w (slotsOf w) lastWord (λ i h. omega arith)) (λ j n f. freed-other w (slotsOf w) j f)
-
   -- and the reading
   pub clear-read-run : (t : ℕ) → Cleared w (withReading (cleared w) t) t
   unfolding withReading
   clear-read-run t =
       let v = cleared w in
       let l = freed-length w (slotsOf w) in
-      cleared-by w (set v lastWord t) t o (length-set v lastWord t ∙ l) (λ i h. getD-set-other v lastWord (entryOf i) t 0 (omega arith) ∙ freed-use w (slotsOf w) i h (omega (arith, o .long))) (getD-set-same v lastWord t 0 (omega (arith, o .long, l))) (λ j n f. getD-set-other v lastWord j t 0 n ∙ freed-other w (slotsOf w) j f)
+      cleared-by w (set v lastWord t) t o (length-set v lastWord t ∙ l) (λ i h. getD-set-other v lastWord (entryOf i) t 0 (omega arith) ∙
+      freed-use w (slotsOf w) i h (omega (arith, o .long))) (getD-set-same v lastWord t 0 (omega (arith, o .long, l)))
+      (λ j n f. getD-set-other v lastWord j t 0 n ∙ freed-other w (slotsOf w) j f)

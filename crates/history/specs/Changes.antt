@@ -9,16 +9,19 @@ use native.Mathlib.Omega.{arith}
 use lib.ListN.{length, getD, set, drop, drop-of-length-le}
 use lib.Dec.{leb, ltb, eqb}
 use borrow.Author.Tests.{lt-ltb, le-ltb, ltb-true, ltb-false, eqb-true, eqb-false}
-use Rattle.common.specs.declared.history_mode.HistoryPreservation.{HistoryPreservation}
-use Rattle.common.specs.declared.history_mode.HistoryPreservation.the-variants.{PreserveNewest, PreserveOldest}
+use Rattle.answers.specs.declared.HistoryPreservation.{HistoryPreservation}
+use Rattle.answers.specs.declared.HistoryPreservation.the-variants.{PreserveNewest, PreserveOldest}
 use Rattle.ring.specs.declared.Bucket.{Bucket}
-use Rattle.ring.specs.Ring.{bucket, noBucket, sumOf, countOf, deniedOf, counts, declineds, mostTotal, totalOf, declinedOf, lenOf, buckets, Free, Within, pushed, without}
+use Rattle.layout.specs.Layout.{mostTotal}
+use Rattle.ring.specs.Ring.{bucket, noBucket, sumOf, countOf, deniedOf, counts, declineds, totalOf, declinedOf, lenOf, buckets, Free, Within, pushed, without}
 use Rattle.ring.specs.Sums.{sum-append, sum-one, sum-none, sum-set, sum-at, sum-split}
-use Rattle.ring.specs.Order.{Fine, and-true, fine-more, fine-drop, fine-set, fine-at, fine-sums}
+use Rattle.base.specs.Decides.{and-true}
+use Rattle.ring.specs.Order.{Fine, fine-more, fine-drop, fine-set, fine-at, fine-sums}
 use Rattle.ring.specs.View.{view-length, view-at}
-use Rattle.ring.specs.Holds.{Holds, Beside, beside-on, holds-length, holds-at, push-holds, rewrite-holds, evict-holds, push-beside, rewrite-beside, evict-beside}
+use Rattle.ring.specs.Holds.{Holds, Beside, beside-on, holds-length, holds-at, push-holds, rewrite-holds, evict-holds, push-beside, rewrite-beside}
+use Rattle.ring.specs.Holds.{evict-beside}
 use Rattle.ring.specs.Sound.{Sound, sound-holds, holds-sound}
-use Rattle.history.specs.Rules.{newest, raised, joins, joined, replaced, keptEnd, grown}
+use Rattle.rules.specs.Buckets.{newest, raised, joins, joined, replaced, keptEnd, grown}
 use Rattle.history.specs.Words.{bucketOf, raisedWords, Raises, incremented, Takes, replacedWords, Sets, grownWords, Grows}
 
 -- b′ holds xs, is sound at t, and has b's other words
@@ -35,12 +38,20 @@ became t h f m o = record { holds = h; sound = holds-sound t h f m; beside = o }
 pub evict-became : (r : ℕ) (b : List ℕ) (t k : ℕ) → Sound r b t → k ≤ lenOf b → Became r b t (without r b k) (drop k (buckets r b))
 evict-became r b t k s h =
     let xs = buckets r b in
-    became t (evict-holds r b xs k (sound-holds s) (omega (arith, view-length r b))) (fine-drop k 0 xs t (s .each)) (omega (arith, sum-split countOf k xs, s .total, s .most)) (evict-beside r b k)
+    became t (evict-holds r b xs k (sound-holds s) (omega (arith, view-length r b))) (fine-drop k 0 xs t (s .each))
+    (omega (arith, sum-split countOf k xs, s .total, s .most)) (evict-beside r b k)
 
 -- ---- a bucket that counts more
 
 pub raise-within : {r : ℕ} {b : List ℕ} {i c d : ℕ} → Raises r b i c d → Within r b i (bucketOf r b i .count + c) (bucketOf r b i .declined + d)
-raise-within h = record { shape = h .shape; some = h .some; count = h .count; denied = h .denied; total = omega (arith, h .count, h .total); declined = omega (arith, h .denied, h .declined) }
+raise-within h = record {
+  shape = h .shape;
+  some = h .some;
+  count = h .count;
+  denied = h .denied;
+  total = omega (arith, h .count, h .total);
+  declined = omega (arith, h .denied, h .declined);
+}
 
 pub sound-at : {r : ℕ} {b : List ℕ} {t : ℕ} → Sound r b t → (f : Bucket → ℕ) (i : ℕ) → i < lenOf b → f (bucketOf r b i) ≤ sumOf f (buckets r b)
 sound-at {r} {b} s f i h = let xs = buckets r b in omega (arith, sum-at f xs i (omega (arith, view-length r b)), ap f (view-at r b i h))
@@ -49,7 +60,15 @@ pub sound-declined : {r : ℕ} {b : List ℕ} {t : ℕ} → Sound r b t → decl
 sound-declined {r} {b} {t} s = omega (arith, fine-sums 0 (buckets r b) t (s .each), s .total, s .declined)
 
 pub sound-raises : {r : ℕ} {b : List ℕ} {t : ℕ} (i c d : ℕ) → Sound r b t → i < lenOf b → d ≤ c → totalOf b + c ≤ mostTotal → Raises r b i c d
-sound-raises i c d s h l m = record { shape = s .shape; some = h; count = omega (arith, sound-at s countOf i h, s .total); denied = omega (arith, sound-at s deniedOf i h, s .declined); total = m; declined = omega (arith, sound-declined s) }
+sound-raises i c d s h l m =
+    record {
+      shape = s .shape;
+      some = h;
+      count = omega (arith, sound-at s countOf i h, s .total);
+      denied = omega (arith, sound-at s deniedOf i h, s .declined);
+      total = m;
+      declined = omega (arith, sound-declined s);
+    }
 
 raise-holds : (r : ℕ) (b : List ℕ) (xs : List Bucket) (i c d : ℕ) → Holds r b xs → i < length xs → Holds r (raisedWords r b i c d) (raised i c d xs)
 unfolding raised
@@ -63,22 +82,28 @@ raised-fine i c d lo xs hi h f = fine-set i lo xs (getD xs i noBucket .count + c
 
 pub raised-counts : (i c d : ℕ) (xs : List Bucket) → i < length xs → counts (raised i c d xs) ≡ counts xs + c
 unfolding raised
-raised-counts i c d xs l = omega (arith, sum-set countOf xs i (bucket (getD xs i noBucket .count + c) (getD xs i noBucket .declined + d) (getD xs i noBucket .time)) l)
+raised-counts i c d xs l =
+    omega (arith, sum-set countOf xs i (bucket (getD xs i noBucket .count + c) (getD xs i noBucket .declined + d) (getD xs i noBucket .time)) l)
 
 pub raised-declineds : (i c d : ℕ) (xs : List Bucket) → i < length xs → declineds (raised i c d xs) ≡ declineds xs + d
 unfolding raised
-raised-declineds i c d xs l = omega (arith, sum-set deniedOf xs i (bucket (getD xs i noBucket .count + c) (getD xs i noBucket .declined + d) (getD xs i noBucket .time)) l)
+raised-declineds i c d xs l =
+    omega (arith, sum-set deniedOf xs i (bucket (getD xs i noBucket .count + c) (getD xs i noBucket .declined + d) (getD xs i noBucket .time)) l)
 
-pub raise-became : (r : ℕ) (b : List ℕ) (t i c d : ℕ) → Sound r b t → i < lenOf b → d ≤ c → totalOf b + c ≤ mostTotal → Became r b t (raisedWords r b i c d) (raised i c d (buckets r b))
+pub raise-became : (r : ℕ) (b : List ℕ) (t i c d : ℕ) → Sound r b t → i < lenOf b → d ≤ c → totalOf b + c ≤ mostTotal →
+    Became r b t (raisedWords r b i c d) (raised i c d (buckets r b))
 raise-became r b t i c d s h l m =
     let xs = buckets r b in
     let h′ : i < length xs = omega (arith, view-length r b) in
-    became t (raise-holds r b xs i c d (sound-holds s) h′) (raised-fine i c d 0 xs t l (s .each)) (omega (arith, raised-counts i c d xs h′, s .total)) (rewrite-beside r b i _ _)
+    became t (raise-holds r b xs i c d (sound-holds s) h′) (raised-fine i c d 0 xs t l (s .each)) (omega (arith, raised-counts i c d xs h′, s .total))
+    (rewrite-beside r b i _ _)
 
-pub push-became : (r : ℕ) (b : List ℕ) (t c d : ℕ) → Sound r b t → lenOf b < r → d ≤ c → totalOf b + c ≤ mostTotal → Became r b t (pushed r b c d t) (buckets r b ++ (bucket c d t ∷ []))
+pub push-became : (r : ℕ) (b : List ℕ) (t c d : ℕ) → Sound r b t → lenOf b < r → d ≤ c → totalOf b + c ≤ mostTotal →
+    Became r b t (pushed r b c d t) (buckets r b ++ (bucket c d t ∷ []))
 push-became r b t c d s h l m =
     let xs = buckets r b in
-    became t (push-holds r b xs c d t (sound-holds s) h) (fine-more 0 xs c d t (omega arith) l (s .each)) (omega (arith, sum-append countOf xs (bucket c d t ∷ []), sum-one countOf (bucket c d t), s .total)) (push-beside r b c d t)
+    became t (push-holds r b xs c d t (sound-holds s) h) (fine-more 0 xs c d t (omega arith) l (s .each))
+    (omega (arith, sum-append countOf xs (bucket c d t ∷ []), sum-one countOf (bucket c d t), s .total)) (push-beside r b c d t)
 
 -- ---- an increment
 
@@ -98,20 +123,14 @@ pub increment-became : (r : ℕ) (b : List ℕ) (s t c d : ℕ) → Takes r b s 
 unfolding incremented joined
 increment-became r b s t c d h = go (joins s t (buckets r b)) refl
   where
-    go : (j : Bool) → joins s t (buckets r b) ≡ j → Became r b t (cond j (raisedWords r b (lenOf b - 1) c d) (pushed r b c d t)) (cond j (raised (length (buckets r b) - 1) c d (buckets r b)) (buckets r b ++ (bucket c d t ∷ [])))
+    go : (j : Bool) → joins s t (buckets r b) ≡ j → Became r b t (cond j (raisedWords r b (lenOf b - 1) c d) (pushed r b c d t))
+        (cond j (raised (length (buckets r b) - 1) c d (buckets r b)) (buckets r b ++ (bucket c d t ∷ [])))
     go true e =
         let n = view-length r b in
         let l : lenOf b - 1 < lenOf b = omega (arith, joins-some s t (buckets r b) e) in
-        subst (λ (k : ℕ). Became r b t (raisedWords r b (lenOf b - 1) c d) (raised (k - 1) c d (buckets r b))) (sym n) (raise-became r b t (lenOf b - 1) c d (h .sound) l (h .least) (h .total))
+        subst (λ (k : ℕ). Became r b t (raisedWords r b (lenOf b - 1) c d) (raised (k - 1) c d (buckets r b))) (sym n)
+        (raise-became r b t (lenOf b - 1) c d (h .sound) l (h .least) (h .total))
     go false e = push-became r b t c d (h .sound) (h .free e) (h .least) (h .total)
-
-pub joined-counts : (s t c d : ℕ) (xs : List Bucket) → counts (joined s t c d xs) ≡ counts xs + c
-unfolding joined
-joined-counts s t c d xs = go (joins s t xs) refl
-  where
-    go : (j : Bool) → joins s t xs ≡ j → counts (cond j (raised (length xs - 1) c d xs) (xs ++ (bucket c d t ∷ []))) ≡ counts xs + c
-    go true e = raised-counts (length xs - 1) c d xs (omega (arith, joins-some s t xs e))
-    go false e = omega (arith, sum-append countOf xs (bucket c d t ∷ []), sum-one countOf (bucket c d t))
 
 pub joined-declineds : (s t c d : ℕ) (xs : List Bucket) → declineds (joined s t c d xs) ≡ declineds xs + d
 unfolding joined
@@ -124,13 +143,20 @@ joined-declineds s t c d xs = go (joins s t xs) refl
 -- ---- replacing
 
 pub emptied : (r : ℕ) (b : List ℕ) (t : ℕ) → Sound r b t → Became r b t (without r b (lenOf b)) []
-emptied r b t s = let l : length (buckets r b) ≤ lenOf b = omega (arith, view-length r b) in subst (λ (xs : List Bucket). Became r b t (without r b (lenOf b)) xs) (drop-of-length-le (buckets r b) l) (evict-became r b t (lenOf b) s (omega arith))
+emptied r b t s = let l : length (buckets r b) ≤ lenOf b =
+    omega (arith, view-length r b) in subst (λ (xs : List Bucket). Became r b t (without r b (lenOf b)) xs) (drop-of-length-le (buckets r b) l)
+    (evict-became r b t (lenOf b) s (omega arith))
 
 -- an empty sound body can take a bucket
 pub empty-free : {r : ℕ} {b : List ℕ} {b′ : List ℕ} {t : ℕ} (n : ℕ) → n ≤ mostTotal → Became r b t b′ [] → Free r b′ n 0
 empty-free n m e =
     let l = holds-length (e .holds) in
-    record { shape = e .holds .shape; free = omega (arith, l, e .holds .shape .head); count = omega (arith, e .holds .total, sum-none countOf); declined = omega (arith, e .holds .declined, sum-none deniedOf) }
+    record {
+      shape = e .holds .shape;
+      free = omega (arith, l, e .holds .shape .head);
+      count = omega (arith, e .holds .total, sum-none countOf);
+      declined = omega (arith, e .holds .declined, sum-none deniedOf);
+    }
 
 pub replace-became : (r : ℕ) (b : List ℕ) (t n : ℕ) → Sets r b t n → Became r b t (replacedWords r b t n) (replaced t n)
 unfolding replacedWords
@@ -138,7 +164,8 @@ replace-became r b t n h =
     let e = emptied r b t (h .sound) in
     let f = empty-free n (h .most) e in
     let p = push-became r (without r b (lenOf b)) t n 0 (e .sound) (f .free) (omega arith) (f .count) in
-    subst (λ (xs : List Bucket). Became r b t (pushed r (without r b (lenOf b)) n 0 t) (xs ++ (bucket n 0 t ∷ []))) (e .holds .view) (record { holds = p .holds; sound = p .sound; beside = beside-on (e .beside) (p .beside) })
+    subst (λ (xs : List Bucket). Became r b t (pushed r (without r b (lenOf b)) n 0 t) (xs ++ (bucket n 0 t ∷ []))) (e .holds .view)
+    (record { holds = p .holds; sound = p .sound; beside = beside-on (e .beside) (p .beside) })
 
 -- ---- preserving: a surplus
 
@@ -153,16 +180,19 @@ grow-became p r b t s h = go (eqb (lenOf b) 0) refl
     n : length (buckets r b) ≡ lenOf b
     n = view-length r b
 
-    go : (e : Bool) → eqb (lenOf b) 0 ≡ e → Became r b t (cond e (pushed r b s 0 t) (raisedWords r b (keptEnd p (lenOf b)) s 0)) (cond (ltb 0 (length (buckets r b))) (raised (keptEnd p (length (buckets r b))) s 0 (buckets r b)) (bucket s 0 t ∷ []))
+    go : (e : Bool) → eqb (lenOf b) 0 ≡ e → Became r b t (cond e (pushed r b s 0 t) (raisedWords r b (keptEnd p (lenOf b)) s 0))
+        (cond (ltb 0 (length (buckets r b))) (raised (keptEnd p (length (buckets r b))) s 0 (buckets r b)) (bucket s 0 t ∷ []))
     go true e =
         let z : lenOf b ≡ 0 = eqb-true _ _ e in
         let v : buckets r b ≡ [] = drop-of-length-le (buckets r b) {i = 0} (omega (arith, n)) in
         let p = push-became r b t s 0 (h .sound) (omega (arith, h .sound .shape .head)) (omega arith) (h .total) in
-        simp (le-ltb 0 (length (buckets r b)) (omega (arith, n))) (subst (λ (xs : List Bucket). Became r b t (pushed r b s 0 t) (xs ++ (bucket s 0 t ∷ []))) v p)
+        simp (le-ltb 0 (length (buckets r b)) (omega (arith, n)))
+        (subst (λ (xs : List Bucket). Became r b t (pushed r b s 0 t) (xs ++ (bucket s 0 t ∷ []))) v p)
     go false e =
         let l : 0 < lenOf b = omega (arith, eqb-false (lenOf b) 0 e) in
         simp (lt-ltb 0 (length (buckets r b)) (omega (arith, n)))
-        (subst (λ (k : ℕ). Became r b t (raisedWords r b (keptEnd p (lenOf b)) s 0) (raised (keptEnd p k) s 0 (buckets r b))) (sym n) (raise-became r b t (keptEnd p (lenOf b)) s 0 (h .sound) (kept-lt p (lenOf b) l) (omega arith) (h .total)))
+        (subst (λ (k : ℕ). Became r b t (raisedWords r b (keptEnd p (lenOf b)) s 0) (raised (keptEnd p k) s 0 (buckets r b))) (sym n)
+        (raise-became r b t (keptEnd p (lenOf b)) s 0 (h .sound) (kept-lt p (lenOf b) l) (omega arith) (h .total)))
 
 pub grown-counts : (p : HistoryPreservation) (t s : ℕ) (xs : List Bucket) → counts (grown p t s xs) ≡ counts xs + s
 unfolding grown

@@ -9,8 +9,8 @@ use native.Mathlib.Nat.{not-suc-le-zero}
 use native.Mathlib.Numerals.{add-one}
 use lib.ListN.{length, getD, set, take, drop, length-drop, length-reverse, take-append-drop, List·getD-append}
 use lib.Seq.{getD-at, drop-at, drop-cons, take-suc, length-take-le, set-at}
-use Rattle.common.specs.declared.history_mode.HistoryPreservation.{HistoryPreservation}
-use Rattle.common.specs.declared.history_mode.HistoryPreservation.the-variants.{PreserveNewest, PreserveOldest}
+use Rattle.answers.specs.declared.HistoryPreservation.{HistoryPreservation}
+use Rattle.answers.specs.declared.HistoryPreservation.the-variants.{PreserveNewest, PreserveOldest}
 use Rattle.ring.specs.declared.Bucket.{Bucket}
 use Rattle.ring.specs.Ring.{noBucket, sumOf}
 use Rattle.ring.specs.Sums.{sum-append, sum-one, sum-split}
@@ -18,9 +18,11 @@ use Rattle.history.specs.Words.{facing, lostAt}
 
 getD-reverse : (xs : List Bucket) (i : ℕ) → i < length xs → getD (reverse xs) i noBucket ≡ getD xs (length xs - 1 - i) noBucket
 getD-reverse [] i h = absurd (not-suc-le-zero h)
-getD-reverse (x ∷ xs) i h = ap (λ (ys : List Bucket). getD ys i noBucket) (reverse-cons x xs) ∙ elim (decLt i (length xs)) [ yes p ↦ old p (getD-reverse xs i p) | no p ↦ new p ]
+getD-reverse (x ∷ xs) i h = ap (λ (ys : List Bucket). getD ys i noBucket) (reverse-cons x xs) ∙
+    elim (decLt i (length xs)) [ yes p ↦ old p (getD-reverse xs i p) | no p ↦ new p ]
   where
-    old : i < length xs → getD (reverse xs) i noBucket ≡ getD xs (length xs - 1 - i) noBucket → getD (reverse xs ++ (x ∷ [])) i noBucket ≡ getD (x ∷ xs) (suc (length xs) - 1 - i) noBucket
+    old : i < length xs → getD (reverse xs) i noBucket ≡ getD xs (length xs - 1 - i) noBucket →
+        getD (reverse xs ++ (x ∷ [])) i noBucket ≡ getD (x ∷ xs) (suc (length xs) - 1 - i) noBucket
     old p h =
         let e : suc (length xs - 1 - i) ≡ suc (length xs) - 1 - i = omega arith in
         List·getD-append (reverse xs) (x ∷ []) noBucket i (omega (arith, length-reverse xs)) ∙ h ∙ ap (λ (k : ℕ). getD (x ∷ xs) k noBucket) e
@@ -66,22 +68,26 @@ out-facing PreserveNewest k xs h = refl
 out-facing PreserveOldest k xs h =
     let n = length xs - k in
     let l : length (reverse (drop n xs)) ≡ k = omega (arith, length-reverse (drop n xs), length-drop n xs) in
-    sym (ap (λ (ys : List Bucket). drop k (reverse ys)) (sym (take-append-drop n xs)) ∙ ap (drop k) (reverse-append (take n xs) (drop n xs)) ∙ drop-at (reverse (drop n xs)) (reverse (take n xs)) k l)
+    sym (ap (λ (ys : List Bucket). drop k (reverse ys)) (sym (take-append-drop n xs)) ∙ ap (drop k) (reverse-append (take n xs) (drop n xs)) ∙
+    drop-at (reverse (drop n xs)) (reverse (take n xs)) k l)
 
 pub out-length : (p : HistoryPreservation) (k : ℕ) (xs : List Bucket) → k ≤ length xs → length (out p k xs) ≡ length xs - k
 out-length PreserveNewest k xs h = length-drop k xs
 out-length PreserveOldest k xs h = length-take-le (length xs - k) xs (omega arith)
 
 -- what is in and what is out
-pub out-sum : (p : HistoryPreservation) (f : Bucket → ℕ) (k : ℕ) (xs : List Bucket) → k ≤ length xs → sumOf f xs ≡ sumOf f (take k (facing p xs)) + sumOf f (out p k xs)
+pub out-sum : (p : HistoryPreservation) (f : Bucket → ℕ) (k : ℕ) (xs : List Bucket) → k ≤ length xs →
+    sumOf f xs ≡ sumOf f (take k (facing p xs)) + sumOf f (out p k xs)
 out-sum p f k xs h = omega (arith, facing-sum p f xs, sum-split f k (facing p xs), ap (sumOf f) (out-facing p k xs h), facing-sum p f (out p k xs))
 
 -- the first that stays
-pub out-at : (p : HistoryPreservation) (k : ℕ) (xs : List Bucket) → k < length xs → getD (out p k xs) (lostAt p (length (out p k xs)) 0) noBucket ≡ getD (facing p xs) k noBucket
+pub out-at : (p : HistoryPreservation) (k : ℕ) (xs : List Bucket) → k < length xs →
+    getD (out p k xs) (lostAt p (length (out p k xs)) 0) noBucket ≡ getD (facing p xs) k noBucket
 out-at p k xs h =
     let h′ : k ≤ length xs = omega arith in
     let l : 0 < length (out p k xs) = omega (arith, out-length p k xs h′) in
-    sym (facing-at p (out p k xs) 0 l) ∙ ap (λ (ys : List Bucket). getD ys 0 noBucket) (out-facing p k xs h′ ∙ drop-cons (facing p xs) k noBucket (omega (arith, facing-length p xs)))
+    sym (facing-at p (out p k xs) 0 l) ∙ ap (λ (ys : List Bucket). getD ys 0 noBucket)
+    (out-facing p k xs h′ ∙ drop-cons (facing p xs) k noBucket (omega (arith, facing-length p xs)))
 
 -- the first is another
 pub facing-set : (p : HistoryPreservation) (ys : List Bucket) (x : Bucket) → facing p (set (facing p ys) 0 x) ≡ set ys (lostAt p (length ys) 0) x
@@ -98,5 +104,6 @@ facing-set PreserveOldest ys x = go (reverse ys) ∙ cc (reverse-reverse ys, len
 pub turn-drop : (ys : List Bucket) (k : ℕ) (x : Bucket) → k < length ys → x ≡ getD ys k noBucket → drop k ys ≡ x ∷ drop (k + 1) ys
 turn-drop ys k x h e = drop-cons ys k noBucket h ∙ rw (e, add-one)
 
-pub turn-sum : (f : Bucket → ℕ) (ys : List Bucket) (k : ℕ) (x : Bucket) → k < length ys → x ≡ getD ys k noBucket → sumOf f (take (k + 1) ys) ≡ sumOf f (take k ys) + f x
+pub turn-sum : (f : Bucket → ℕ) (ys : List Bucket) (k : ℕ) (x : Bucket) → k < length ys → x ≡ getD ys k noBucket →
+    sumOf f (take (k + 1) ys) ≡ sumOf f (take k ys) + f x
 turn-sum f ys k x h e = rw (add-one, take-suc ys k noBucket h, sum-append, sum-one, e)

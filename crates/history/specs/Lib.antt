@@ -1,10 +1,4 @@
-pub mod Rules
-pub mod Sweep
-pub mod Turns
-pub mod Found
-pub mod Measured
 pub mod Words
-pub mod Shares
 pub mod Ends
 pub mod Shortage
 pub mod Changes

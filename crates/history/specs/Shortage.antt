@@ -9,15 +9,15 @@ use native.Mathlib.Omega.{arith}
 use lib.ListN.{length, getD, set, take, drop}
 use lib.Dec.{leb, eqb}
 use borrow.Author.Tests.{le-leb, lt-leb, leb-true, leb-false, eq-eqb, ne-eqb, eqb-true, eqb-false}
-use Rattle.common.specs.declared.history_mode.HistoryPreservation.{HistoryPreservation}
-use Rattle.common.specs.declared.history_mode.HistoryPreservation.the-variants.{PreserveNewest, PreserveOldest}
+use Rattle.common_laws.specs.ShareLaws.{mulDiv-le, mulDiv-le-right}
+use Rattle.answers.specs.declared.HistoryPreservation.{HistoryPreservation}
+use Rattle.answers.specs.declared.HistoryPreservation.the-variants.{PreserveNewest, PreserveOldest}
 use Rattle.ring.specs.declared.Bucket.{Bucket}
 use Rattle.ring.specs.Ring.{bucket, noBucket, sumOf, countOf, deniedOf, counts, declineds}
-use Rattle.ring.specs.Order.{Fine, fine-drop, fine-take, fine-set, fine-at}
+use Rattle.ring.specs.Order.{Fine, fine-set, fine-at}
 use Rattle.ring.specs.Sums.{sum-set}
-use Rattle.history.specs.Rules.{partial, cutOldest, cutNewest, shrunk}
+use Rattle.rules.specs.Buckets.{partial, cutOldest, cutNewest, shrunk}
 use Rattle.history.specs.Words.{facing, lostAt, wholes, restOf}
-use Rattle.history.specs.Shares.{share-first, share-second}
 use Rattle.history.specs.Ends.{facing-length, facing-at, facing-sum, facing-back, facing-set, out, out-facing, out-length, out-sum, out-at, lost-lt}
 
 -- ---- the walk
@@ -121,7 +121,8 @@ cut-part m x xs n h =
     let z : m - 0 ≡ m = omega arith in
     l ∙ sym (ap (cutAt m (x ∷ xs)) (wholes-part m x xs h) ∙ ap (λ (q : ℕ). parted q (x ∷ xs)) z ∙ parted-some m (x ∷ xs) n)
 
-cut-on : (m : ℕ) (x : Bucket) (xs : List Bucket) → m ≢ 0 → x .count ≤ m → cutOldest (m - x .count) xs ≡ cutAt (m - x .count) xs (wholes (m - x .count) xs) → cutOldest m (x ∷ xs) ≡ cutAt m (x ∷ xs) (wholes m (x ∷ xs))
+cut-on : (m : ℕ) (x : Bucket) (xs : List Bucket) → m ≢ 0 → x .count ≤ m → cutOldest (m - x .count) xs ≡ cutAt (m - x .count) xs (wholes (m - x .count) xs) →
+    cutOldest m (x ∷ xs) ≡ cutAt m (x ∷ xs) (wholes m (x ∷ xs))
 unfolding cutOldest cutAt sumOf
 cut-on m x xs n h i =
     let k = wholes (m - x .count) xs in
@@ -148,7 +149,8 @@ pub parted-at-zero : (p : HistoryPreservation) (q : ℕ) (zs : List Bucket) → 
 unfolding partedAt
 parted-at-zero p q zs e = simp (eq-eqb _ _ e)
 
-pub parted-at-some : (p : HistoryPreservation) (q : ℕ) (zs : List Bucket) → q ≢ 0 → partedAt p q zs ≡ set zs (lostAt p (length zs) 0) (partial q (getD zs (lostAt p (length zs) 0) noBucket))
+pub parted-at-some : (p : HistoryPreservation) (q : ℕ) (zs : List Bucket) → q ≢ 0 →
+    partedAt p q zs ≡ set zs (lostAt p (length zs) 0) (partial q (getD zs (lostAt p (length zs) 0) noBucket))
 unfolding partedAt
 parted-at-some p q zs n = simp (ne-eqb _ _ n)
 
@@ -161,7 +163,8 @@ facing-parted : (p : HistoryPreservation) (q : ℕ) (zs : List Bucket) → facin
 unfolding parted partedAt
 facing-parted p q zs = go (eqb q 0)
   where
-    go : (e : Bool) → facing p (cond e (facing p zs) (set (facing p zs) 0 (partial q (getD (facing p zs) 0 noBucket)))) ≡ cond e zs (set zs (lostAt p (length zs) 0) (partial q (getD zs (lostAt p (length zs) 0) noBucket)))
+    go : (e : Bool) → facing p (cond e (facing p zs) (set (facing p zs) 0 (partial q (getD (facing p zs) 0 noBucket)))) ≡
+        cond e zs (set zs (lostAt p (length zs) 0) (partial q (getD zs (lostAt p (length zs) 0) noBucket)))
     go true = facing-back p zs
     go false = facing-set p zs _ ∙ ap (λ (x : Bucket). set zs (lostAt p (length zs) 0) (partial q x)) (facing-first p zs)
 
@@ -207,15 +210,11 @@ partial-time q x = refl
 
 pub partial-least : (q : ℕ) (x : Bucket) → x .declined ≤ x .count → partial q x .declined ≤ partial q x .count
 unfolding partial
-partial-least q x h = share-second (x .declined) (x .count - q) (x .count) h
+partial-least q x h = mulDiv-le-right (x .declined) (x .count - q) (x .count) h
 
 pub partial-fewer : (q : ℕ) (x : Bucket) → partial q x .declined ≤ x .declined
 unfolding partial
-partial-fewer q x = share-first (x .declined) (x .count - q) (x .count) (omega arith)
-
-out-fine : (p : HistoryPreservation) (k lo : ℕ) (xs : List Bucket) (hi : ℕ) → Fine lo xs hi → Fine lo (out p k xs) hi
-out-fine PreserveNewest k lo xs hi f = fine-drop k lo xs hi f
-out-fine PreserveOldest k lo xs hi f = fine-take (length xs - k) lo xs hi f
+partial-fewer q x = mulDiv-le (x .declined) (x .count - q) (x .count) (omega arith)
 
 pub parted-fine : (p : HistoryPreservation) (q lo : ℕ) (zs : List Bucket) (hi : ℕ) → Fine lo zs hi → Fine lo (partedAt p q zs) hi
 unfolding partedAt
@@ -229,19 +228,16 @@ parted-fine p q lo zs hi f = go (eqb q 0)
         subst (λ (y : Bucket). Fine lo (set zs i y) hi) (sym (partial-time q x))
         (fine-set i lo zs (partial q x .count) (partial q x .declined) hi (partial-least q x (fine-at i lo zs hi f)) f)
 
-pub shrunk-fine : (p : HistoryPreservation) (m lo : ℕ) (xs : List Bucket) (hi : ℕ) → Fine lo xs hi → Fine lo (shrunk p m xs) hi
-shrunk-fine p m lo xs hi f =
-    let c = cuts p m xs in
-    subst (λ (ys : List Bucket). Fine lo ys hi) (sym (c .is)) (parted-fine p _ lo _ hi (out-fine p _ lo xs hi f))
-
 pub record Reduced (m : ℕ) (xs ys : List Bucket) : Type 0 where
   pub count : counts ys + m ≡ counts xs
   pub fewer : declineds ys ≤ declineds xs
 
-parts : (p : HistoryPreservation) (m : ℕ) (xs : List Bucket) (k q : ℕ) → Cuts p m xs k q → m ≤ counts xs → (e : Bool) → eqb q 0 ≡ e → Reduced m xs (partedAt p q (out p k xs))
+parts : (p : HistoryPreservation) (m : ℕ) (xs : List Bucket) (k q : ℕ) → Cuts p m xs k q → m ≤ counts xs → (e : Bool) → eqb q 0 ≡ e →
+    Reduced m xs (partedAt p q (out p k xs))
 parts p m xs k q c h true e =
     let z : q ≡ 0 = eqb-true _ _ e in
-    rw (parted-at-zero p q (out p k xs) z) (record { count = omega (arith, c .least, out-sum p countOf k xs (c .within)); fewer = omega (arith, out-sum p deniedOf k xs (c .within)) })
+    rw (parted-at-zero p q (out p k xs) z)
+    (record { count = omega (arith, c .least, out-sum p countOf k xs (c .within)); fewer = omega (arith, out-sum p deniedOf k xs (c .within)) })
 parts p m xs k q c h false e =
     let n : q ≢ 0 = eqb-false _ _ e in
     let zs = out p k xs in

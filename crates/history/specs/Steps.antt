@@ -9,21 +9,22 @@ use native.Mathlib.Omega.{arith}
 use lib.ListN.{length, getD, drop, drop-of-length-le}
 use lib.Dec.{leb}
 use borrow.Author.Tests.{eq-eqb, ne-eqb}
-use Rattle.common.specs.Share.{mulDiv}
-use Rattle.common.specs.declared.history_mode.HistoryPreservation.{HistoryPreservation}
+use Rattle.share.specs.Share.{mulDiv}
+use Rattle.answers.specs.declared.HistoryPreservation.{HistoryPreservation}
 use Rattle.ring.specs.declared.Bucket.{Bucket}
 use Rattle.ring.specs.Ring.{noBucket, countOf, deniedOf, counts, declineds, lenOf, buckets, Free, Within, Leaves, rewritten, without}
 use Rattle.ring.specs.Sums.{sum-none}
 use Rattle.ring.specs.View.{view-length, view-at}
-use Rattle.history.specs.declared.tally.Cut.{Cut}
-use Rattle.history.specs.Rules.{newest, joins, keptEnd, partial}
+use Rattle.history.specs.declared.Cut.{Cut}
+use Rattle.rules.specs.Buckets.{newest, joins, keptEnd, partial}
 use Rattle.history.specs.Words.{bucketOf, Raises, Takes, Sets, Grows, facing, lostAt, restOf, Walked, outWords, partWords, Parts, shrunkWords, Shrinks}
 use Rattle.history.specs.Changes.{joins-some, joins-newest, sound-declined, sound-raises, emptied, empty-free, kept-lt}
 use Rattle.history.specs.Preserves.{part-within, shrink-parts, walked-rest}
 
 -- ---- an increment
 
-pub joined-is : (r : ℕ) (b : List ℕ) (s t n m : ℕ) (x : Bucket) → n ≡ lenOf b → n ≢ 0 → x ≡ bucketOf r b (n - 1) → m ≡ t - x .time → leb m s ≡ joins s t (buckets r b)
+pub joined-is : (r : ℕ) (b : List ℕ) (s t n m : ℕ) (x : Bucket) → n ≡ lenOf b → n ≢ 0 → x ≡ bucketOf r b (n - 1) → m ≡ t - x .time →
+    leb m s ≡ joins s t (buckets r b)
 joined-is r b s t n m x e z a w =
     let xs = buckets r b in
     let v = view-length r b in
@@ -46,7 +47,12 @@ pub sets-leaves : {r : ℕ} {b : List ℕ} {t n : ℕ} (k : ℕ) → Sets r b t 
 sets-leaves {r} {b} k h e =
     let l : length (buckets r b) ≤ k = omega (arith, view-length r b) in
     let z : drop k (buckets r b) ≡ [] = drop-of-length-le (buckets r b) l in
-    record { shape = h .sound .shape; some = omega arith; count = omega (arith, ap counts z, sum-none countOf); denied = omega (arith, ap declineds z, sum-none deniedOf) }
+    record {
+      shape = h .sound .shape;
+      some = omega arith;
+      count = omega (arith, ap counts z, sum-none countOf);
+      denied = omega (arith, ap declineds z, sum-none deniedOf);
+    }
 
 pub sets-free : {r : ℕ} {b : List ℕ} {t n : ℕ} (b′ : List ℕ) → Sets r b t n → b′ ≡ without r b (lenOf b) → Free r b′ n 0
 sets-free {r} {b} {t} {n} b′ h e = subst (λ (w : List ℕ). Free r w n 0) (sym e) (empty-free {b = b} n (h .most) (emptied r b t (h .sound)))
@@ -54,18 +60,25 @@ sets-free {r} {b} {t} {n} b′ h e = subst (λ (w : List ℕ). Free r w n 0) (sy
 -- ---- a surplus
 
 pub grows-free : {r : ℕ} {b : List ℕ} {t s : ℕ} → Grows r b t s → lenOf b ≡ 0 → Free r b s 0
-grows-free h z = record { shape = h .sound .shape; free = omega (arith, z, h .sound .shape .head); count = h .total; declined = omega (arith, sound-declined (h .sound), h .total) }
+grows-free h z = record {
+  shape = h .sound .shape;
+  free = omega (arith, z, h .sound .shape .head);
+  count = h .total;
+  declined = omega (arith, sound-declined (h .sound), h .total);
+}
 
 pub grows-raises : {r : ℕ} {b : List ℕ} {t s : ℕ} (p : HistoryPreservation) (n i : ℕ) → Grows r b t s → n ≡ lenOf b → n ≢ 0 → i ≡ keptEnd p n → Raises r b i s 0
 grows-raises {r} {b} {t} {s} p n i h e z k = sound-raises i s 0 (h .sound) (omega (arith, k, e, kept-lt p n (omega arith))) (omega arith) (h .total)
 
 -- ---- the partial bucket
 
-module _ (p : HistoryPreservation) (r : ℕ) (b : List ℕ) (t q i : ℕ) (x : Bucket) (kept : ℕ) (h : Parts p r b t q) (e : i ≡ lostAt p (lenOf b) 0) (a : x ≡ bucketOf r b i) (w : kept ≡ mulDiv (x .declined) (x .count - q) (x .count)) where
+module _ (p : HistoryPreservation) (r : ℕ) (b : List ℕ) (t q i : ℕ) (x : Bucket) (kept : ℕ) (h : Parts p r b t q) (e : i ≡ lostAt p (lenOf b) 0)
+    (a : x ≡ bucketOf r b i) (w : kept ≡ mulDiv (x .declined) (x .count - q) (x .count)) where
   there : x ≡ bucketOf r b (lostAt p (lenOf b) 0)
   there = a ∙ ap (bucketOf r b) e
 
-  parted-as : (_≡_ {A = ℕ} (x .count - q) (partial q (bucketOf r b (lostAt p (lenOf b) 0)) .count)) × (kept ≡ partial q (bucketOf r b (lostAt p (lenOf b) 0)) .declined)
+  parted-as : (_≡_ {A = ℕ} (x .count - q) (partial q (bucketOf r b (lostAt p (lenOf b) 0)) .count)) ×
+      (kept ≡ partial q (bucketOf r b (lostAt p (lenOf b) 0)) .declined)
   unfolding partial
   parted-as = (ap (λ (y : Bucket). y .count - q) there, w ∙ ap (λ (y : Bucket). mulDiv (y .declined) (y .count - q) (y .count)) there)
 

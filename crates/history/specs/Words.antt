@@ -6,13 +6,14 @@ use mathlib.Core.List.{List, [], _∷_, reverse}
 use Prim.Native.Nat.{ℕ, suc, _+_, _-_, _≤_, _<_}
 use lib.ListN.{take}
 use lib.Dec.{leb, ltb, eqb}
-use Rattle.common.specs.declared.history_mode.HistoryPreservation.{HistoryPreservation}
-use Rattle.common.specs.declared.history_mode.HistoryPreservation.the-variants.{PreserveNewest, PreserveOldest}
+use Rattle.answers.specs.declared.HistoryPreservation.{HistoryPreservation}
+use Rattle.answers.specs.declared.HistoryPreservation.the-variants.{PreserveNewest, PreserveOldest}
 use Rattle.ring.specs.declared.Bucket.{Bucket}
-use Rattle.ring.specs.Ring.{counts, declineds, mostTotal, totalOf, declinedOf, lenOf, cellOf, bucketAt, buckets, Shape, pushed, rewritten, without, trimmed}
+use Rattle.layout.specs.Layout.{mostTotal}
+use Rattle.ring.specs.Ring.{counts, declineds, totalOf, declinedOf, lenOf, cellOf, bucketAt, buckets, Shape, pushed, rewritten, without, trimmed}
 use Rattle.ring.specs.Sound.{Sound}
-use Rattle.history.specs.declared.tally.Cut.{Cut}
-use Rattle.history.specs.Rules.{joins, keptEnd, partial}
+use Rattle.history.specs.declared.Cut.{Cut}
+use Rattle.rules.specs.Buckets.{joins, keptEnd, partial}
 
 -- the ith bucket of the words
 abbrev pub bucketOf : ℕ → List ℕ → ℕ → Bucket

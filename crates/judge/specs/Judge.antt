@@ -7,10 +7,11 @@ use Prim.Native.Nat.{ℕ, _≤_}
 use lib.ListN.{length}
 use lib.Dec.{ltb, eqb}
 use Rattle.common.specs.Refusals.{first}
-use Rattle.common.specs.Settings.{windowIn, faults, Proper}
-use Rattle.common.specs.declared.settings.Settings.{Settings}
+use Rattle.settings.specs.Settings.{windowIn, faults, Proper}
+use Rattle.settings.specs.declared.Settings.{Settings}
+use Rattle.layout.specs.Layout.{longestKey}
 use Rattle.room.specs.Room.{Room, sized, lastOf}
-use Rattle.judge.specs.declared.RoomKind.{RoomKind}
+use Rattle.rules.specs.declared.RoomKind.{RoomKind}
 use Rattle.judge.specs.declared.Judged.{Judged}
 use Rattle.judge.specs.declared.Slot.{Slot}
 use Rattle.judge.specs.Sound.{addressed, soundAt}
@@ -21,7 +22,7 @@ unfoldable pub misfits : RoomKind → Settings → List ℕ → ℕ → List ℕ
 misfits kind s w t key =
     (5, not (sized w && soundAt kind s w (addressed w key))) ∷
     (6, ltb t (lastOf w)) ∷
-    (7, ltb 32 (length key)) ∷ []
+    (7, ltb longestKey (length key)) ∷ []
 
 -- a call's refusals: the shared ones, and its own
 abbrev pub refusals : RoomKind → Settings → List ℕ → ℕ → List ℕ → List (ℕ × Bool) → List (ℕ × Bool)
@@ -51,4 +52,4 @@ pub record Passed (kind : RoomKind) (s : Settings) (w : List ℕ) (t : ℕ) (key
   pub room : Room w
   pub sound : soundAt kind s w (addressed w key) ≡ true
   pub later : lastOf w ≤ t
-  pub short : length key ≤ 32
+  pub short : length key ≤ longestKey

@@ -10,11 +10,11 @@ use lib.Dec.{ltb, eqb}
 use borrow.Author.Tests.{eq-eqb, ne-eqb, eqb-true, eqb-false, lt-ltb, le-ltb, ltb-false, not-false}
 use Rattle.base.specs.Decides.{and-true}
 use Rattle.common.specs.Refusals.{first, Positive, AllFalse, first-found, first-none, all-false}
-use Rattle.common.specs.Settings.{windowIn, faults, Proper, proper, unrefused}
-use Rattle.common.specs.declared.settings.Settings.{Settings}
+use Rattle.settings.specs.Settings.{windowIn, faults, Proper, proper, unrefused}
+use Rattle.settings.specs.declared.Settings.{Settings}
 use Rattle.room.specs.Room.{Room, sized, lastOf}
 use Rattle.room.specs.Laws.{room-sized, sized-room}
-use Rattle.judge.specs.declared.RoomKind.{RoomKind}
+use Rattle.rules.specs.declared.RoomKind.{RoomKind}
 use Rattle.judge.specs.declared.Judged.{Judged}
 use Rattle.judge.specs.declared.Slot.{Slot}
 use Rattle.judge.specs.Sound.{addressed, soundAt}
@@ -102,4 +102,5 @@ module _ (kind : RoomKind) (s : Settings) (w : List ℕ) (t : ℕ) (key : List �
   pub refused-own : (own : List (ℕ × Bool)) → early kind s w t key ≡ 0 → first (refusals kind s w t key own) ≡ first own
   refused-own own e =
       ap first (sym (append-assoc (faults s) (misfits kind s w t key) own)) ∙
-      first-none (faults s ++ misfits kind s w t key) own (joined-positive (faults s) (misfits kind s w t key) (faults-positive s) (misfits-positive kind s w t key)) e
+      first-none (faults s ++ misfits kind s w t key) own
+      (joined-positive (faults s) (misfits kind s w t key) (faults-positive s) (misfits-positive kind s w t key)) e

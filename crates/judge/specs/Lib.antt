@@ -1,4 +1,5 @@
 pub mod Sound
+pub mod Held
 pub mod Slot
 pub mod Right
 pub mod Judge

@@ -4,24 +4,25 @@ use mathlib.Core.Path.{_≡_, refl, sym, ap, _∙_}
 use mathlib.Core.Bool.{Bool, true, false, not, _&&_, _||_, cond}
 use mathlib.Core.List.{List}
 use Prim.Native.Nat.{ℕ, _≤_, _<_}
-use lib.ListN.{length, getD}
-use lib.Dec.{leb, ltb, eqb}
+use lib.ListN.{length}
+use lib.Dec.{leb, ltb}
 use native.Mathlib.Omega.{arith}
 use borrow.Author.Tests.{lt-ltb, le-ltb, ltb-false}
-use Rattle.common.specs.Factor.{factorWordOk}
+use Rattle.suppression.specs.Factor.{factorWordOk}
 use Rattle.common.specs.Limits.{limitOk}
-use Rattle.common.specs.Settings.{windowIn, factorIn}
-use Rattle.common.specs.declared.settings.Settings.{Settings}
-use Rattle.history.specs.Rules.{windowTicks}
-use Rattle.history.specs.Sweep.{found, unsound, pick, passOf}
+use Rattle.settings.specs.Settings.{windowIn, factorIn}
+use Rattle.settings.specs.declared.Settings.{Settings}
+use Rattle.rules.specs.Buckets.{windowTicks}
+use Rattle.sweep.specs.Sweep.{found, unsound, pick, passOf}
 use Rattle.ring.specs.Ring.{declinedOf, lenOf, buckets}
 use Rattle.ring.specs.Sound.{soundBuckets}
 use Rattle.room.specs.Room.{Room, slotsOf, ringOf, lastOf, useOf, keySound, keyOf, find, bodyOf}
 use Rattle.frame.specs.Keys.{Bytes}
 use Rattle.frame.specs.Distinct.{has-sound, find-le, find-has}
-use Rattle.judge.specs.declared.RoomKind.{RoomKind}
+use Rattle.rules.specs.declared.RoomKind.{RoomKind}
 use Rattle.judge.specs.declared.Slot.{Slot}
-use Rattle.judge.specs.Sound.{limitOf, hasSeries, hasCached, rightUse, divisor, declinedRight, soundSeries, soundCached, soundSlot, addressed, soundAt}
+use Rattle.judge.specs.Sound.{limitOf, hasSeries, hasCached, rightUse, declinedRight, soundSeries, soundCached, soundSlot, addressed, soundAt}
+use Rattle.rules.specs.Both.{divisor}
 use Rattle.judge.specs.Slot.{noSlot, pickPass, opened, pickSlot, slotOf}
 
 unfoldable pub seriesRight : RoomKind → Settings → Slot → Bool
@@ -57,7 +58,8 @@ module _ (kind : RoomKind) (s : Settings) (W r last t at u : ℕ) (b : List ℕ)
     where
       go :
           (x : Bool) →
-          not x || (pickPass x (passOf r b last t (windowTicks W)) .sound && (declinedRight kind (declinedOf b) && limitOk (windowIn s) (divisor kind (factorIn s)) (limitOf b))) ≡
+          not x || (pickPass x (passOf r b last t (windowTicks W)) .sound &&
+          (declinedRight kind (declinedOf b) && limitOk (windowIn s) (divisor kind (factorIn s)) (limitOf b))) ≡
           not x || (soundBuckets r b last && (declinedRight kind (declinedOf b) && limitOk (windowIn s) (divisor kind (factorIn s)) (limitOf b)))
       go true = rw (pass-sound r b last t (windowTicks W))
       go false = refl
@@ -108,11 +110,13 @@ pub addressed-key : (w key : List ℕ) → Bytes key → addressed w key < slots
 unfolding addressed
 addressed-key w key y h = go (ltb 32 (length key)) refl h
   where
-    go : (x : Bool) → ltb 32 (length key) ≡ x → cond x (slotsOf w) (find w (keyOf key)) < slotsOf w → keySound w (cond x (slotsOf w) (find w (keyOf key))) ≡ true
+    go : (x : Bool) → ltb 32 (length key) ≡ x → cond x (slotsOf w) (find w (keyOf key)) < slotsOf w →
+        keySound w (cond x (slotsOf w) (find w (keyOf key))) ≡ true
     go true e l = absurd (omega arith)
     go false e l = has-sound w key (find w (keyOf key)) y (ltb-false 32 (length key) e) (find-has w (keyOf key) l)
 
-pub sound-none : (kind : RoomKind) (s : Settings) (w key : List ℕ) (x : Slot) → Addresses w key s x → slotsOf w ≤ x .at → true ≡ soundAt kind s w (addressed w key)
+pub sound-none : (kind : RoomKind) (s : Settings) (w key : List ℕ) (x : Slot) → Addresses w key s x → slotsOf w ≤ x .at →
+    true ≡ soundAt kind s w (addressed w key)
 unfolding soundAt
 sound-none kind s w key x a h = rw (le-ltb (addressed w key) (slotsOf w) (omega (arith, addressed-at w key s x a)))
 

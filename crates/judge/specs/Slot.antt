@@ -1,12 +1,12 @@
 -- A key's slot opened into a value, which calls decide on: what it holds, its words, and what the pass over its buckets finds at reading t.
 -- Assumes nothing.
-use mathlib.Core.Bool.{Bool, true, false, cond}
+use mathlib.Core.Bool.{Bool, true, false}
 use mathlib.Core.List.{List}
 use Prim.Native.Nat.{ℕ}
 use lib.Dec.{ltb}
-use Rattle.history.specs.Rules.{windowTicks}
-use Rattle.history.specs.Sweep.{passOf, unsound}
-use Rattle.history.specs.declared.tally.Pass.{Pass}
+use Rattle.rules.specs.Buckets.{windowTicks}
+use Rattle.sweep.specs.Sweep.{passOf, unsound}
+use Rattle.sweep.specs.declared.tally.Pass.{Pass}
 use Rattle.ring.specs.Ring.{totalOf, declinedOf}
 use Rattle.room.specs.Room.{slotsOf, ringOf, lastOf, useOf, bodyOf}
 use Rattle.judge.specs.declared.Slot.{Slot}

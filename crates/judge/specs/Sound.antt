@@ -1,50 +1,45 @@
 -- When a slot is sound, in document 01's words. W and F are the settings' window and factor, r the ring, last the last reading.
 -- Assumes nothing.
-use mathlib.Core.Bool.{Bool, true, false, not, _&&_, _||_, cond}
+use mathlib.Core.Bool.{Bool, true, not, _&&_, _||_, cond}
 use mathlib.Core.List.{List}
 use Prim.Native.Nat.{ℕ}
 use lib.ListN.{length, getD}
 use lib.Dec.{leb, ltb, eqb}
-use lib.Ieee.{Float}
-use Rattle.common.specs.Factor.{factorWordOk}
+use Rattle.suppression.specs.Factor.{factorWordOk}
 use Rattle.common.specs.Limits.{limitOk}
-use Rattle.common.specs.Ranges.{one}
-use Rattle.common.specs.Settings.{windowIn, factorIn}
-use Rattle.common.specs.declared.settings.Settings.{Settings}
+use Rattle.settings.specs.Settings.{windowIn, factorIn}
+use Rattle.settings.specs.declared.Settings.{Settings}
+use Rattle.layout.specs.Layout.{limitAt, factorAt, factorTimeAt, seriesUse, cachedUse, bothUse, longestKey}
 use Rattle.ring.specs.Ring.{declinedOf}
 use Rattle.ring.specs.Sound.{soundBuckets}
 use Rattle.room.specs.Room.{slotsOf, ringOf, lastOf, useOf, keySound, keyOf, find, bodyOf}
-use Rattle.judge.specs.declared.RoomKind.{RoomKind}
-use Rattle.judge.specs.declared.RoomKind.the-variants.{Absolute, Suppressed}
+use Rattle.rules.specs.Both.{divisor}
+use Rattle.rules.specs.declared.RoomKind.{RoomKind}
+use Rattle.rules.specs.declared.RoomKind.the-variants.{Absolute, Suppressed}
 
 -- ---- the words of a body that buckets do not use
 
 abbrev pub limitOf : List ℕ → ℕ
-limitOf b = getD b 0 0
+limitOf b = getD b limitAt 0
 
 abbrev pub factorOf : List ℕ → ℕ
-factorOf b = getD b 5 0
+factorOf b = getD b factorAt 0
 
 abbrev pub factorTimeOf : List ℕ → ℕ
-factorTimeOf b = getD b 6 0
+factorTimeOf b = getD b factorTimeAt 0
 
--- ---- a slot's use: 1 a series, 2 a cached factor, 3 both
+-- ---- a slot's use: a series, a cached factor, or both
 
 abbrev pub hasSeries : ℕ → Bool
-hasSeries u = eqb u 1 || eqb u 3
+hasSeries u = eqb u seriesUse || eqb u bothUse
 
 abbrev pub hasCached : ℕ → Bool
-hasCached u = eqb u 2 || eqb u 3
+hasCached u = eqb u cachedUse || eqb u bothUse
 
 -- an absolute room caches no factor
 unfoldable pub rightUse : RoomKind → ℕ → Bool
-rightUse Absolute u = eqb u 1
+rightUse Absolute u = eqb u seriesUse
 rightUse Suppressed u = hasSeries u || hasCached u
-
--- "divided by W and F (1 for absolute)"
-abbrev pub divisor : RoomKind → Float → Float
-divisor Absolute F = one
-divisor Suppressed F = F
 
 -- "declined is at most count in each bucket (zero in the absolute room)": the total is the sum
 abbrev pub declinedRight : RoomKind → ℕ → Bool
@@ -68,7 +63,7 @@ soundSlot kind s w at =
 
 -- ---- the slot addressed: "the lowest slot with their key", or the number of slots; a key of over 32 bytes has none
 unfoldable pub addressed : List ℕ → List ℕ → ℕ
-addressed w key = cond (ltb 32 (length key)) (slotsOf w) (find w (keyOf key))
+addressed w key = cond (ltb longestKey (length key)) (slotsOf w) (find w (keyOf key))
 
 unfoldable pub soundAt : RoomKind → Settings → List ℕ → ℕ → Bool
 soundAt kind s w at = cond (ltb at (slotsOf w)) (soundSlot kind s w at) true

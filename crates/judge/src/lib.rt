@@ -2,36 +2,22 @@
 ghost use mathlib.Core.Path.{_≡_};
 ghost use Prim.Native.Nat.{_+_, _*_, _<_, _≤_};
 ghost use lib.ListN.{length};
-ghost use Rattle.common.specs.Settings.{Proper};
-ghost use Rattle.history.specs.Rules.{windowTicks};
-ghost use Rattle.history.specs.Sweep.{passOf, unsound};
+ghost use Rattle.settings.specs.Settings.{Proper};
+ghost use Rattle.rules.specs.Buckets.{windowTicks};
+ghost use Rattle.sweep.specs.Sweep.{passOf, unsound};
+ghost use Rattle.layout.specs.Layout.{fixedWords};
 ghost use Rattle.room.specs.Room.{Room};
-ghost use Rattle.judge.specs.Sound.{hasSeries, hasCached, rightUse, divisor, declinedRight, addressed, soundAt};
+ghost use Rattle.judge.specs.Sound.{hasSeries, hasCached, rightUse, declinedRight, addressed, soundAt};
+ghost use Rattle.rules.specs.Both.{divisor};
 ghost use Rattle.judge.specs.Slot.{noSlot, pickPass, opened, slotOf};
 ghost use Rattle.judge.specs.Right.{seriesRight, cachedRight, slotRight, Addresses};
 ghost use Rattle.judge.specs.Judge.{judged, hasSlot};
-use common::Settings;
-use history::Pass;
 use ring::Bucket;
+use rules::RoomKind;
+use settings::Settings;
+use sweep::Pass;
 
-const LONGEST_KEY: usize = 32;
-
-const TICKS_PER_SECOND: u64 = 1000;
-
-const LIMIT: usize = 0;
-
-const TOTAL: usize = 1;
-
-const DECLINED: usize = 2;
-
-const FACTOR: usize = 5;
-
-const FACTOR_TIME: usize = 6;
-
-pub enum RoomKind {
-    Absolute,
-    Suppressed,
-}
+const LONGEST_KEY: usize = layout::LONGEST_KEY as usize;
 
 // A key's slot: where it is (the number of slots where there is none), its use, what it holds, and its words.
 pub struct Slot {
@@ -106,19 +92,19 @@ pub fn has_slot(x: Slot) -> bool
 pub fn has_series(u: u64) -> bool
     ensures { λ x. ⌜ x ≡ hasSeries u ⌝ }
 {
-    if u == 1 {
+    if u == layout::SERIES {
         return true;
     }
-    u == 3
+    u == layout::BOTH
 }
 
 fn has_cached(u: u64) -> bool
     ensures { λ x. ⌜ x ≡ hasCached u ⌝ }
 {
-    if u == 2 {
+    if u == layout::CACHED {
         return true;
     }
-    u == 3
+    u == layout::BOTH
 }
 
 fn series_pass(b: &[u64], r: usize, last: u64, reading: u64, window: u64, series: bool) -> Pass
@@ -128,12 +114,12 @@ fn series_pass(b: &[u64], r: usize, last: u64, reading: u64, window: u64, series
     if !series {
         return no_pass();
     }
-    history::pass(b, r, last, reading, TICKS_PER_SECOND * window)
+    sweep::pass(b, r, last, reading, sweep::TICKS_PER_SECOND * window)
 }
 
 // The body of slot `at`, of use `u`, opened: the one pass over its buckets is made here.
 fn open_body(b: &[u64], r: usize, last: u64, reading: u64, window: u64, at: usize, u: u64) -> Slot
-    requires { ⌜ (7 ≤ length (now b)) × (window ≤ 33554432) ⌝ }
+    requires { ⌜ (fixedWords ≤ length (now b)) × (window ≤ 33554432) ⌝ }
     ensures { λ x. ⌜ x ≡ opened window r last reading at u (now (b .entry)) ⌝ }
 {
     let series = has_series(u);
@@ -143,11 +129,11 @@ fn open_body(b: &[u64], r: usize, last: u64, reading: u64, window: u64, at: usiz
         used: u,
         series,
         cached: has_cached(u),
-        limit: b[LIMIT],
-        total: b[TOTAL],
-        declined: b[DECLINED],
-        factor: b[FACTOR],
-        factor_time: b[FACTOR_TIME],
+        limit: b[layout::LIMIT],
+        total: b[layout::TOTAL],
+        declined: b[layout::DECLINED],
+        factor: b[layout::FACTOR],
+        factor_time: b[layout::FACTOR_TIME],
         pass,
     }
 }
@@ -157,15 +143,15 @@ pub fn open_at(w: &[u64], at: usize, reading: u64, window: u64) -> Slot
     requires { ⌜ Room (now w) × (window ≤ 33554432) ⌝ }
     ensures { λ x. ⌜ x ≡ slotOf window (now (w .entry)) reading at ⌝ }
 {
-    let slots = w[0] as usize;
-    let r = w[1] as usize;
-    let last = w[2];
+    let slots = w[layout::SLOTS] as usize;
+    let r = w[layout::RING] as usize;
+    let last = w[layout::LAST];
     if slots <= at {
         return no_slot(slots);
     }
     let u = room::use_of(w, at);
     let a = room::start(w, at);
-    let e = a + (room::FIXED + room::CELL * r);
+    let e = a + (layout::FIXED + layout::CELL * r);
     open_body(&w[a..e], r, last, reading, window, at, u)
 }
 
@@ -191,7 +177,7 @@ fn use_right(kind: RoomKind, u: u64) -> bool
     ensures { λ x. ⌜ x ≡ rightUse kind u ⌝ }
 {
     match kind {
-        RoomKind::Absolute => u == 1,
+        RoomKind::Absolute => u == layout::SERIES,
         RoomKind::Suppressed => {
             if has_series(u) {
                 return true;
@@ -231,7 +217,7 @@ fn cached_right(last: u64, x: Slot) -> bool
     if !cached {
         return true;
     }
-    if !common::is_factor(x.factor) {
+    if !suppression::is_factor(x.factor) {
         return false;
     }
     time <= last
@@ -256,7 +242,7 @@ fn address(w: &[u64], key: &[u8]) -> usize
     ensures { λ x. ⌜ x ≡ addressed (now (w .entry)) (now (key .entry)) ⌝ }
 {
     if LONGEST_KEY < key.len() {
-        return w[0] as usize;
+        return w[layout::SLOTS] as usize;
     }
     room::find(w, room::key_of(key))
 }
@@ -266,7 +252,7 @@ fn sound_at(kind: RoomKind, settings: Settings, w: &[u64], key: &[u8], x: Slot) 
     requires { ⌜ Addresses (now w) (now key) settings x ⌝ }
     ensures { λ y. ⌜ y ≡ soundAt kind settings (now (w .entry)) (addressed (now (w .entry)) (now (key .entry))) ⌝ }
 {
-    let slots = w[0] as usize;
+    let slots = w[layout::SLOTS] as usize;
     let at = x.at;
     if slots <= at {
         return true;

@@ -10,9 +10,11 @@ use lib.Dec.{leb, eqb}
 use borrow.Author.Tests.{le-leb, leb-true, eq-eqb, eqb-true}
 use Rattle.lines.specs.Bytes.{counts, classOf}
 use Rattle.lines.specs.Numbers.{showNumber}
-use Rattle.lines.specs.Shown.{windowText, bucketText, factorText, cacheText, tText, opText, keyText, rateText, nText, drawText, largest, exactLargest, Key, showSettings, SettingsFit, showCall, CallFits, keyStart}
+use Rattle.lines.specs.Shown.{windowText, bucketText, factorText, cacheText, tText, opText, keyText, rateText, nText, drawText, largest, exactLargest}
+use Rattle.lines.specs.Shown.{Key, showSettings, SettingsFit, showCall, CallFits, keyStart}
 use Rattle.lines.specs.Reading.{fieldAt, textAt, keyAt, opAt, closes, amountsAt, readSettings, readCall}
-use Rattle.lines.specs.ReadLaws.{Stops, Field, KeyRead, each-number, each-place, each-name, each-amounts, each-test, both, past-part, past-field, text-shown, text-read, field-shown, field-read, key-shown, key-read, op-shown, op-read}
+use Rattle.lines.specs.ReadLaws.{Stops, Field, KeyRead, each-number, each-place, each-name, each-amounts, each-test, both, past-part, past-field}
+use Rattle.lines.specs.ReadLaws.{text-shown, text-read, field-shown, field-read, key-shown, key-read, op-shown, op-read}
 use Rattle.lines.specs.declared.Op.{Op}
 use Rattle.lines.specs.declared.Op.the-variants.{AbsoluteInc, AbsoluteGet, SuppressedInc, SuppressedGet}
 use Rattle.lines.specs.declared.Amounts.{Amounts}
@@ -76,13 +78,16 @@ abbrev pub SettingsRead : List ℕ → SettingsLine → Type 0
 SettingsRead line (settings.Settings window bucket factor cache) = ReadSettings line window bucket factor cache
 SettingsRead line settings.Bad = Unit {0}
 
-settings-joined : (line : List ℕ) (window bucket factor cache a b c d : ℕ) → Field line 0 windowText window a → Field line a bucketText bucket b → Field line b factorText factor c →
+settings-joined : (line : List ℕ) (window bucket factor cache a b c d : ℕ) → Field line 0 windowText window a → Field line a bucketText bucket b →
+    Field line b factorText factor c →
     Field line c cacheText cache d → factor ≤ exactLargest → d ≡ length line → ReadSettings line window bucket factor cache
 unfolding showSettings
 settings-joined line window bucket factor cache a b c d p q r s h e =
     record {
       fits = record { windows = p .fits; buckets = q .fits; factors = h; caches = s .fits };
-      shows = p .shows ∙ ap (λ (l : List ℕ). windowText ++ (showNumber window ++ l)) (q .shows ∙ ap (λ (l : List ℕ). bucketText ++ (showNumber bucket ++ l)) (r .shows ∙ ap (λ (l : List ℕ). factorText ++ (showNumber factor ++ l)) (last-read line cacheText c cache d s e)));
+      shows = p .shows ∙ ap (λ (l : List ℕ). windowText ++ (showNumber window ++ l))
+          (q .shows ∙ ap (λ (l : List ℕ). bucketText ++ (showNumber bucket ++ l))
+          (r .shows ∙ ap (λ (l : List ℕ). factorText ++ (showNumber factor ++ l)) (last-read line cacheText c cache d s e)));
     }
 
 -- what reads as settings is these settings shown
@@ -100,7 +105,8 @@ settings-read line =
     each-test (SettingsRead line) (closes line d factor) (settings.Settings window bucket factor cache) settings.Bad tt
     (λ t.
     let u = closed-is line d factor t in
-    settings-joined line window bucket factor cache a b c d (field-read line windowText 0 window a p) (field-read line bucketText a bucket b q) (field-read line factorText b factor c r)
+    settings-joined line window bucket factor cache a b c d (field-read line windowText 0 window a p) (field-read line bucketText a bucket b q)
+    (field-read line factorText b factor c r)
     (field-read line cacheText c cache d s) (u .exact) (u .ended))))))
 
 settings-line : (line : List ℕ) (window bucket factor cache : ℕ) → SettingsFit window bucket factor cache → line ≡ showSettings window bucket factor cache →
@@ -126,11 +132,13 @@ settings-line line window bucket factor cache f e =
     )
 
 -- settings that are shown read as these settings
-pub settings-shown : (window bucket factor cache : ℕ) → SettingsFit window bucket factor cache → readSettings (showSettings window bucket factor cache) ≡ settings.Settings window bucket factor cache
+pub settings-shown : (window bucket factor cache : ℕ) → SettingsFit window bucket factor cache →
+    readSettings (showSettings window bucket factor cache) ≡ settings.Settings window bucket factor cache
 settings-shown window bucket factor cache f = settings-line (showSettings window bucket factor cache) window bucket factor cache f refl
 
 -- every settings line is read, and as the settings that it shows
-pub settings-whole : (line : List ℕ) (window bucket factor cache : ℕ) → SettingsFit window bucket factor cache → line ≡ showSettings window bucket factor cache → readSettings line ≡ settings.Bad → ⊥
+pub settings-whole : (line : List ℕ) (window bucket factor cache : ℕ) → SettingsFit window bucket factor cache →
+    line ≡ showSettings window bucket factor cache → readSettings line ≡ settings.Bad → ⊥
 settings-whole line window bucket factor cache f e b =
     let s = settings-shown window bucket factor cache f in
     let z : _≡_ {A = ℕ} 0 1 = cc in
@@ -164,13 +172,15 @@ abbrev AmountsRead : List ℕ → ℕ → Amounts → Type 0
 AmountsRead line at (Are rate n draw) = Amounted line at rate n draw
 AmountsRead line at NoAmounts = Unit {0}
 
-amounts-joined : (line : List ℕ) (at rate n draw c d e : ℕ) → Field line at rateText rate c → Field line c nText n d → Field line d drawText draw e → Closed line e rate → Amounted line at rate n draw
+amounts-joined : (line : List ℕ) (at rate n draw c d e : ℕ) → Field line at rateText rate c → Field line c nText n d → Field line d drawText draw e →
+    Closed line e rate → Amounted line at rate n draw
 amounts-joined line at rate n draw c d e x y z l =
     record {
       rate-fits = l .exact;
       n-fits = y .fits;
       draw-fits = z .fits;
-      shows = x .shows ∙ ap (λ (m : List ℕ). rateText ++ (showNumber rate ++ m)) (y .shows ∙ ap (λ (m : List ℕ). nText ++ (showNumber n ++ m)) (last-read line drawText d draw e z (l .ended)));
+      shows = x .shows ∙ ap (λ (m : List ℕ). rateText ++ (showNumber rate ++ m))
+          (y .shows ∙ ap (λ (m : List ℕ). nText ++ (showNumber n ++ m)) (last-read line drawText d draw e z (l .ended)));
     }
 
 amounts-read : (line : List ℕ) (at : ℕ) → AmountsRead line at (amountsAt line at)
@@ -183,7 +193,8 @@ amounts-read line at =
     each-number (AmountsRead line at) (fieldAt line d drawText) NoAmounts _ tt
     (λ draw e z.
     each-test (AmountsRead line at) (closes line e rate) (Are rate n draw) NoAmounts tt
-    (λ s. amounts-joined line at rate n draw c d e (field-read line rateText at rate c x) (field-read line nText c n d y) (field-read line drawText d draw e z) (closed-is line e rate s)))))
+    (λ s. amounts-joined line at rate n draw c d e (field-read line rateText at rate c x) (field-read line nText c n d y)
+    (field-read line drawText d draw e z) (closed-is line e rate s)))))
 
 amounts-shown : (line : List ℕ) (at rate n draw : ℕ) → Amounted line at rate n draw → amountsAt line at ≡ Are rate n draw
 unfolding amountsAt
@@ -202,15 +213,19 @@ amounts-shown line at rate n draw f =
       is-closed line _ rate (f .rate-fits) (last-shown line drawText d draw (omega arith) q),
     )
 
-call-joined : (line : List ℕ) (t : ℕ) (op : Op) (start end rate n draw a b : ℕ) → Field line 0 tText t a → (b ≡ a + length (opText op)) × (drop a line ≡ opText op ++ drop b line) →
-    (start ≡ b + length keyText) × (drop b line ≡ keyText ++ drop start line) → KeyRead line start end (keyIn line start end) → Amounted line end rate n draw → ReadCall line t op start end rate n draw
+call-joined : (line : List ℕ) (t : ℕ) (op : Op) (start end rate n draw a b : ℕ) → Field line 0 tText t a →
+    (b ≡ a + length (opText op)) × (drop a line ≡ opText op ++ drop b line) →
+    (start ≡ b + length keyText) × (drop b line ≡ keyText ++ drop start line) → KeyRead line start end (keyIn line start end) →
+    Amounted line end rate n draw → ReadCall line t op start end rate n draw
 unfolding showCall
 call-joined line t op start end rate n draw a b p q r k x =
     record {
       fits = record { times = p .fits; keys = k .good; rates = x .rate-fits; counts = x .n-fits; draws = x .draw-fits };
       starts = omega (arith, p .past, q .0, r .0);
       ends = k .past;
-      shows = p .shows ∙ ap (λ (m : List ℕ). tText ++ (showNumber t ++ m)) (q .1 ∙ ap (λ (m : List ℕ). opText op ++ m) (r .1 ∙ ap (λ (m : List ℕ). keyText ++ m) (k .shows ∙ ap (λ (m : List ℕ). keyIn line start end ++ m) (x .shows))));
+      shows = p .shows ∙ ap (λ (m : List ℕ). tText ++ (showNumber t ++ m))
+          (q .1 ∙ ap (λ (m : List ℕ). opText op ++ m)
+          (r .1 ∙ ap (λ (m : List ℕ). keyText ++ m) (k .shows ∙ ap (λ (m : List ℕ). keyIn line start end ++ m) (x .shows))));
     }
 
 -- what reads as a call is this call shown, and its key stands where it says
@@ -227,7 +242,8 @@ call-read line =
     (λ end k.
     each-amounts (CallRead line) (amountsAt line end) call.Bad (λ rate n draw. call.Call t op start end rate n draw) tt
     (λ rate n draw x.
-    call-joined line t op start end rate n draw a b (field-read line tText 0 t a p) (op-read line a op b q) (text-read line keyText b start r) (key-read line start end k)
+    call-joined line t op start end rate n draw a b (field-read line tText 0 t a p) (op-read line a op b q) (text-read line keyText b start r)
+    (key-read line start end k)
     (subst (AmountsRead line end) x (amounts-read line end)))))))
 
 call-line : (line : List ℕ) (t : ℕ) (op : Op) (key : List ℕ) (rate n draw : ℕ) → CallFits t key rate n draw → line ≡ showCall t op key rate n draw →
@@ -262,7 +278,8 @@ pub call-shown : (t : ℕ) (op : Op) (key : List ℕ) (rate n draw : ℕ) → Ca
 call-shown t op key rate n draw f = call-line (showCall t op key rate n draw) t op key rate n draw f refl
 
 -- every call line is read
-pub call-whole : (line : List ℕ) (t : ℕ) (op : Op) (key : List ℕ) (rate n draw : ℕ) → CallFits t key rate n draw → line ≡ showCall t op key rate n draw → readCall line ≡ call.Bad → ⊥
+pub call-whole : (line : List ℕ) (t : ℕ) (op : Op) (key : List ℕ) (rate n draw : ℕ) → CallFits t key rate n draw → line ≡ showCall t op key rate n draw →
+    readCall line ≡ call.Bad → ⊥
 call-whole line t op key rate n draw f e b =
     let s = call-shown t op key rate n draw f in
     let z : _≡_ {A = ℕ} 0 1 = cc in

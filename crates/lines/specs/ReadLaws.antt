@@ -36,11 +36,13 @@ pub each-place : {A : Type 0} (P : A → Type 0) (m : Place) (bad : A) (k : ℕ 
 each-place P (At n) bad k b f = f n refl
 each-place P Missing bad k b f = b
 
-pub each-name : {A : Type 0} (P : A → Type 0) (m : Named) (bad : A) (k : Op → ℕ → A) → P bad → ((op : Op) (n : ℕ) → m ≡ Is op n → P (k op n)) → P (onName m bad k)
+pub each-name : {A : Type 0} (P : A → Type 0) (m : Named) (bad : A) (k : Op → ℕ → A) → P bad → ((op : Op) (n : ℕ) → m ≡ Is op n → P (k op n)) →
+    P (onName m bad k)
 each-name P (Is op n) bad k b f = f op n refl
 each-name P NoName bad k b f = b
 
-pub each-amounts : {A : Type 0} (P : A → Type 0) (m : Amounts) (bad : A) (k : ℕ → ℕ → ℕ → A) → P bad → ((rate n draw : ℕ) → m ≡ Are rate n draw → P (k rate n draw)) → P (onAmounts m bad k)
+pub each-amounts : {A : Type 0} (P : A → Type 0) (m : Amounts) (bad : A) (k : ℕ → ℕ → ℕ → A) → P bad →
+    ((rate n draw : ℕ) → m ≡ Are rate n draw → P (k rate n draw)) → P (onAmounts m bad k)
 each-amounts P (Are rate n draw) bad k b f = f rate n draw refl
 each-amounts P NoAmounts bad k b f = b
 
@@ -89,7 +91,8 @@ pub text-read : (line text : List ℕ) (at next : ℕ) → textAt line at text �
 unfolding textAt
 text-read line text at next e = go (begins text (drop at line)) refl e
   where
-    go : (t : Bool) → begins text (drop at line) ≡ t → cond t (At (at + length text)) Missing ≡ At next → (next ≡ at + length text) × (drop at line ≡ text ++ drop next line)
+    go : (t : Bool) → begins text (drop at line) ≡ t → cond t (At (at + length text)) Missing ≡ At next →
+        (next ≡ at + length text) × (drop at line ≡ text ++ drop next line)
     go true q f =
         let k : next ≡ at + length text = cc in
         (k, rw k (part-here line text at (begins-read text (drop at line) q)))
@@ -118,11 +121,13 @@ run-each p (b ∷ bs) = go (p b) refl (run-each p bs)
     go false q r = tt
 
 run-part : (p : ℕ → Bool) (line : List ℕ) (at : ℕ) → drop at line ≡ take (run p (drop at line)) (drop at line) ++ drop (at + run p (drop at line)) line
-run-part p line at = sym (take-append-drop (run p (drop at line)) (drop at line)) ∙ ap (λ (l : List ℕ). take (run p (drop at line)) (drop at line) ++ l) (drop-drop _ at line)
+run-part p line at = sym (take-append-drop (run p (drop at line)) (drop at line)) ∙
+    ap (λ (l : List ℕ). take (run p (drop at line)) (drop at line) ++ l) (drop-drop _ at line)
 
 -- ---- numbers
 
-pub number-shown : (line rest : List ℕ) (at n : ℕ) → drop at line ≡ showNumber n ++ rest → n ≤ largest → Stops (counts false) rest → numberAt line at ≡ Found n (at + length (showNumber n))
+pub number-shown : (line rest : List ℕ) (at n : ℕ) → drop at line ≡ showNumber n ++ rest → n ≤ largest → Stops (counts false) rest →
+    numberAt line at ≡ Found n (at + length (showNumber n))
 unfolding numberAt numberOf
 number-shown line rest at n e h s =
     rw (
@@ -145,7 +150,8 @@ number-shown line rest at n e h s =
         rw (le-ltb _ _ l) (and-false (eqb (getD (showNumber n ++ rest) 0 0) 48))
 
 -- digits as `numberOf` takes them
-digits-read : (bs : List ℕ) (k : ℕ) → k ≤ length bs → Each (counts false) (take k bs) → (k ≡ 0 → ⊥) → eqb (getD bs 0 0) 48 && ltb 1 k ≡ false → showNumber (value (take k bs)) ≡ take k bs
+digits-read : (bs : List ℕ) (k : ℕ) → k ≤ length bs → Each (counts false) (take k bs) → (k ≡ 0 → ⊥) → eqb (getD bs 0 0) 48 && ltb 1 k ≡ false →
+    showNumber (value (take k bs)) ≡ take k bs
 digits-read bs zero h e n z = absurd (n refl)
 digits-read [] (suc k) h e n z = absurd (omega arith)
 digits-read (b ∷ bs) (suc k) h e n z = show-value b (take k bs) e (λ q. alone q)
@@ -156,15 +162,19 @@ digits-read (b ∷ bs) (suc k) h e n z = show-value b (take k bs) e (λ q. alone
         let x : k ≡ 0 = omega (arith, ltb-false 1 (suc k) y) in
         rw x
 
-pub number-read : (line : List ℕ) (at n next : ℕ) → numberAt line at ≡ Found n next → (n ≤ largest) × (drop at line ≡ showNumber n ++ drop next line) × (next ≡ at + length (showNumber n))
+pub number-read : (line : List ℕ) (at n next : ℕ) → numberAt line at ≡ Found n next →
+    (n ≤ largest) × (drop at line ≡ showNumber n ++ drop next line) × (next ≡ at + length (showNumber n))
 unfolding numberAt numberOf
 number-read line at n next e =
     go (eqb (run (counts false) (drop at line)) 0) refl (eqb (getD (drop at line) 0 0) 48 && ltb 1 (run (counts false) (drop at line))) refl
     (leb (value (take (run (counts false) (drop at line)) (drop at line))) largest) refl e
   where
-    go : (t : Bool) → eqb (run (counts false) (drop at line)) 0 ≡ t → (u : Bool) → eqb (getD (drop at line) 0 0) 48 && ltb 1 (run (counts false) (drop at line)) ≡ u →
+    go : (t : Bool) → eqb (run (counts false) (drop at line)) 0 ≡ t → (u : Bool) →
+        eqb (getD (drop at line) 0 0) 48 && ltb 1 (run (counts false) (drop at line)) ≡ u →
         (w : Bool) → leb (value (take (run (counts false) (drop at line)) (drop at line))) largest ≡ w →
-        cond t NoNumber (cond u NoNumber (cond w (Found (value (take (run (counts false) (drop at line)) (drop at line))) (at + run (counts false) (drop at line))) NoNumber)) ≡ Found n next →
+        cond t NoNumber (cond u NoNumber
+        (cond w (Found (value (take (run (counts false) (drop at line)) (drop at line))) (at + run (counts false) (drop at line))) NoNumber)) ≡
+        Found n next →
         (n ≤ largest) × (drop at line ≡ showNumber n ++ drop next line) × (next ≡ at + length (showNumber n))
     go true a u b w d f = absurd (let z : _≡_ {A = ℕ} 0 1 = cc in omega arith)
     go false a true b w d f = absurd (let z : _≡_ {A = ℕ} 0 1 = cc in omega arith)
@@ -173,7 +183,8 @@ number-read line at n next e =
         let v : n ≡ value (take (run (counts false) (drop at line)) (drop at line)) = cc in
         let x : next ≡ at + run (counts false) (drop at line) = cc in
         let s : showNumber n ≡ take (run (counts false) (drop at line)) (drop at line) =
-        ap showNumber v ∙ digits-read (drop at line) (run (counts false) (drop at line)) (run-length (counts false) (drop at line)) (run-each (counts false) (drop at line)) (eqb-false _ _ a) b in
+        ap showNumber v ∙ digits-read (drop at line) (run (counts false) (drop at line)) (run-length (counts false) (drop at line))
+        (run-each (counts false) (drop at line)) (eqb-false _ _ a) b in
         let y : value (take (run (counts false) (drop at line)) (drop at line)) ≤ largest = leb-true _ _ d in
         let j : length (showNumber n) ≡ run (counts false) (drop at line) = ap length s ∙ length-take-le _ _ (run-length (counts false) (drop at line)) in
         (omega (arith, v), rw (s, x) (run-part (counts false) line at), omega (arith, x, j))
@@ -191,7 +202,8 @@ unfolding fieldAt
 field-shown line text rest at n e h s =
     rw (text-shown line text (showNumber n ++ rest) at e) (number-shown line rest (at + length text) n (past-part line text (showNumber n ++ rest) at e) h s)
 
-pub past-field : (line text rest : List ℕ) (at n : ℕ) → drop at line ≡ text ++ (showNumber n ++ rest) → drop (at + length text + length (showNumber n)) line ≡ rest
+pub past-field : (line text rest : List ℕ) (at n : ℕ) → drop at line ≡ text ++ (showNumber n ++ rest) →
+    drop (at + length text + length (showNumber n)) line ≡ rest
 past-field line text rest at n e = past-part line (showNumber n) rest (at + length text) (past-part line text (showNumber n ++ rest) at e)
 
 pub field-read : (line text : List ℕ) (at n next : ℕ) → fieldAt line at text ≡ Found n next → Field line at text n next
@@ -228,7 +240,8 @@ key-read line at next e = go (leb 1 (run (counts true) (drop at line)) && leb (r
         let u : run (counts true) (drop at line) ≤ 32 = leb-true _ _ (b .1) in
         let x : next ≡ at + run (counts true) (drop at line) = cc in
         let k : next - at ≡ run (counts true) (drop at line) = omega arith in
-        let l : length (take (run (counts true) (drop at line)) (drop at line)) ≡ run (counts true) (drop at line) = length-take-le _ _ (run-length (counts true) (drop at line)) in
+        let l : length (take (run (counts true) (drop at line)) (drop at line)) ≡ run (counts true) (drop at line) =
+        length-take-le _ _ (run-length (counts true) (drop at line)) in
         rw k
         (record {
           good = record { some = omega arith; short = omega arith; plain = run-each (counts true) (drop at line) };
@@ -250,14 +263,16 @@ abbrev OpRead : List ℕ → ℕ → Named → Type 0
 OpRead line at (Is op next) = (next ≡ at + length (opText op)) × (drop at line ≡ opText op ++ drop next line)
 OpRead line at NoName = Unit {0}
 
-op-if : (line : List ℕ) (at : ℕ) (op : Op) (other : Named) → OpRead line at other → OpRead line at (onPlace (textAt line at (opText op)) other (λ next. Is op next))
+op-if : (line : List ℕ) (at : ℕ) (op : Op) (other : Named) → OpRead line at other →
+    OpRead line at (onPlace (textAt line at (opText op)) other (λ next. Is op next))
 op-if line at op other h = go (textAt line at (opText op)) refl
   where
     go : (m : Place) → textAt line at (opText op) ≡ m → OpRead line at (onPlace m other (λ next. Is op next))
     go (At k) q = text-read line (opText op) at k q
     go Missing q = h
 
-pub op-read : (line : List ℕ) (at : ℕ) (op : Op) (next : ℕ) → opAt line at ≡ Is op next → (next ≡ at + length (opText op)) × (drop at line ≡ opText op ++ drop next line)
+pub op-read : (line : List ℕ) (at : ℕ) (op : Op) (next : ℕ) → opAt line at ≡ Is op next →
+    (next ≡ at + length (opText op)) × (drop at line ≡ opText op ++ drop next line)
 unfolding opAt
 op-read line at op next e =
     subst (λ (m : Named). OpRead line at m) e

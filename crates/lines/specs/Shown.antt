@@ -87,7 +87,8 @@ pub record SettingsFit (window bucket factor cache : ℕ) : Type 0 where
 -- t=0 op=sinc key=a rate=60 n=8 draw=0
 unfoldable pub showCall : ℕ → Op → List ℕ → ℕ → ℕ → ℕ → List ℕ
 showCall t op key rate n draw =
-    tText ++ (showNumber t ++ (opText op ++ (keyText ++ (key ++ (rateText ++ (showNumber rate ++ (nText ++ (showNumber n ++ (drawText ++ showNumber draw)))))))))
+    tText ++ (showNumber t ++
+    (opText op ++ (keyText ++ (key ++ (rateText ++ (showNumber rate ++ (nText ++ (showNumber n ++ (drawText ++ showNumber draw)))))))))
 
 pub record CallFits (t : ℕ) (key : List ℕ) (rate n draw : ℕ) : Type 0 where
   pub times : t ≤ largest

@@ -1,11 +1,11 @@
 // Reads settings lines and call lines, good and bad, and prints what was found; then prints answers.
 // A call that is read is told as an answer's line: t, the operation's number, the draw as 16 hex digits, the rate, n, and where its key lies.
-use answers::Answer;
-use answers::AnswerLine;
 use libc::STDOUT_FILENO;
 use lines::CallLine;
 use lines::Op;
 use lines::SettingsLine;
+use printing::Answer;
+use printing::AnswerLine;
 
 fn write(out: &[u8], n: usize) {
     if n <= out.len() {
@@ -15,7 +15,7 @@ fn write(out: &[u8], n: usize) {
 
 fn say(line: AnswerLine) {
     let mut out = [0u8; 256];
-    let n = answers::print(line, &mut out);
+    let n = printing::print(line, &mut out);
     write(&out, n);
     io::write_all(STDOUT_FILENO, b"\n");
 }

@@ -1,42 +1,38 @@
 -- What a call that passes refusals 1 to 7 knows of its key's slot, in the buckets' own terms; and that the planned edits can be carried out.
 -- Assumes nothing.
-use mathlib.Core.Path.{_≡_, refl, sym, ap, subst, _∙_}
-use mathlib.Core.Bool.{Bool, true, false, not, _&&_, _||_, cond, false≢true}
-use mathlib.Core.List.{List, [], _∷_}
-use Prim.Native.Nat.{ℕ, _+_, _≤_, _<_}
+use mathlib.Core.Path.{_≡_, sym, ap, _∙_}
+use mathlib.Core.Bool.{Bool, true, false, not, _||_, false≢true}
+use mathlib.Core.List.{List, []}
+use Prim.Native.Nat.{ℕ, _≤_, _<_}
 use native.Mathlib.Omega.{arith}
-use lib.ListN.{length, getD, drop}
-use lib.Dec.{leb, ltb, eqb}
-use lib.Ieee.{Float}
-use borrow.Author.Tests.{lt-ltb, leb-true, eqb-true}
-use Rattle.base.specs.Decides.{and-true}
-use Rattle.common.specs.Factor.{factorWordOk}
+use lib.ListN.{length, drop}
+use borrow.Author.Tests.{lt-ltb, leb-true}
+use Rattle.base.specs.Decides.{other-true, and-true}
+use Rattle.suppression.specs.Factor.{factorWordOk}
 use Rattle.common.specs.Limits.{limitOk}
-use Rattle.common.specs.Settings.{windowIn, bucketIn, factorIn, Proper}
-use Rattle.common.specs.declared.settings.Settings.{Settings}
-use Rattle.history.specs.Rules.{windowTicks, ahead, lastSecond, newest}
-use Rattle.history.specs.Measured.{Measured, pass-judges, pass-measures}
-use Rattle.history.specs.Sweep.{passOf, unsound}
+use Rattle.settings.specs.Settings.{windowIn, factorIn}
+use Rattle.settings.specs.declared.Settings.{Settings}
+use Rattle.rules.specs.Buckets.{windowTicks}
+use Rattle.sweep.specs.Measured.{Measured, pass-judges, pass-measures}
+use Rattle.sweep.specs.Sweep.{passOf}
 use Rattle.ring.specs.declared.Bucket.{Bucket}
-use Rattle.ring.specs.Ring.{noBucket, counts, declineds, mostTotal, mostRing, sizeOf, totalOf, declinedOf, lenOf, buckets}
-use Rattle.ring.specs.Sound.{Sound, soundBuckets, sound-true, true-sound, sound-later}
-use Rattle.room.specs.Room.{Room, slotsOf, ringOf, lastOf, useOf, bodyOf, keySound, vacant}
+use Rattle.layout.specs.Layout.{sizeOf}
+use Rattle.ring.specs.Ring.{counts, declineds, totalOf, declinedOf, buckets}
+use Rattle.ring.specs.Sound.{Sound, soundBuckets, sound-true, sound-later}
+use Rattle.room.specs.Room.{Room, slotsOf, ringOf, lastOf, useOf, bodyOf, keySound}
 use Rattle.room.specs.Laws.{body-length}
 use Rattle.change.specs.declared.Edit.{Edit}
 use Rattle.change.specs.declared.Then.{Then}
-use Rattle.change.specs.Words.{ActsOn, startedView, Edits, EditsAt}
-use Rattle.judge.specs.declared.RoomKind.{RoomKind}
+use Rattle.change.specs.Words.{ActsOn, startedView, EditsAt}
+use Rattle.rules.specs.declared.RoomKind.{RoomKind}
 use Rattle.judge.specs.declared.Slot.{Slot}
-use Rattle.judge.specs.Sound.{limitOf, factorOf, factorTimeOf, hasSeries, hasCached, rightUse, divisor, declinedRight, soundSeries, soundCached, soundSlot, addressed, soundAt}
+use Rattle.judge.specs.Sound.{limitOf, factorOf, factorTimeOf, hasSeries, hasCached, rightUse, declinedRight, soundSeries, soundCached, soundSlot, addressed}
+use Rattle.judge.specs.Sound.{soundAt}
+use Rattle.rules.specs.Both.{divisor}
 use Rattle.judge.specs.Slot.{noSlot, pickPass, opened, slotOf}
 use Rattle.judge.specs.Judge.{Passed}
 use Rattle.judge.specs.Right.{slot-here, slot-none}
-use Rattle.plan.specs.Plan.{keeping, evicting, opening}
-
--- an implication as a test: a, where it is there
-there : (a b : Bool) → a ≡ true → not a || b ≡ true → b ≡ true
-there true b e h = h
-there false b e h = absurd (false≢true e)
+use Rattle.plan.specs.Plan.{opening}
 
 -- the slot of a key that has a slot
 pub record Found (kind : RoomKind) (s : Settings) (w : List ℕ) (t at : ℕ) (x : Slot) : Type 0 where
@@ -78,7 +74,9 @@ module _ (kind : RoomKind) (s : Settings) (w : List ℕ) (t : ℕ) (key : List �
 -- ---- what is sound
 
 module _ (kind : RoomKind) (s : Settings) (w : List ℕ) (t at : ℕ) (x : Slot) (f : Found kind s w t at x) where
-  parts : (rightUse kind (useOf w at) ≡ true) × ((not (hasSeries (useOf w at)) || soundSeries kind s (ringOf w) (lastOf w) (bodyOf w at) ≡ true) × (not (hasCached (useOf w at)) || soundCached (lastOf w) (bodyOf w at) ≡ true))
+  parts : (rightUse kind (useOf w at) ≡ true) ×
+      ((not (hasSeries (useOf w at)) || soundSeries kind s (ringOf w) (lastOf w) (bodyOf w at) ≡ true) ×
+      (not (hasCached (useOf w at)) || soundCached (lastOf w) (bodyOf w at) ≡ true))
   unfolding soundSlot
   parts =
       let a = and-true (keySound w at) _ (f .sound) in
@@ -108,7 +106,7 @@ module _ (kind : RoomKind) (s : Settings) (w : List ℕ) (t at : ℕ) (x : Slot)
   pub cached-known : x .cached ≡ true → Cached (lastOf w) x
   unfolding soundCached opened
   cached-known e =
-      let c = there (hasCached (useOf w at)) _ (sym cached-is ∙ e) (parts .1 .1) in
+      let c = other-true (hasCached (useOf w at)) _ (sym cached-is ∙ e) (parts .1 .1) in
       let d = and-true (factorWordOk (factorOf (bodyOf w at))) _ c in
       record {
         factor-ok = ap (λ (y : Slot). factorWordOk (y .factor)) (f .is) ∙ d .0;
@@ -119,13 +117,15 @@ module _ (kind : RoomKind) (s : Settings) (w : List ℕ) (t at : ℕ) (x : Slot)
   unfolding soundSeries opened
   series-known later e =
       let h : hasSeries (useOf w at) ≡ true = sym series-is ∙ e in
-      let q = there (hasSeries (useOf w at)) _ h (parts .1 .0) in
+      let q = other-true (hasSeries (useOf w at)) _ h (parts .1 .0) in
       let a = and-true (soundBuckets (ringOf w) (bodyOf w at) (lastOf w)) _ q in
       let c = and-true (declinedRight kind (declinedOf (bodyOf w at))) _ (a .1) in
-      let m : x .pass ≡ passOf (ringOf w) (bodyOf w at) (lastOf w) t (windowTicks (windowIn s)) = ap (λ (y : Slot). y .pass) (f .is) ∙ ap (λ (z : Bool). pickPass z (passOf (ringOf w) (bodyOf w at) (lastOf w) t (windowTicks (windowIn s)))) h in
+      let m : x .pass ≡ passOf (ringOf w) (bodyOf w at) (lastOf w) t (windowTicks (windowIn s)) =
+      ap (λ (y : Slot). y .pass) (f .is) ∙ ap (λ (z : Bool). pickPass z (passOf (ringOf w) (bodyOf w at) (lastOf w) t (windowTicks (windowIn s)))) h in
       record {
         inside = f .inside;
-        measured = pass-measures (ringOf w) (bodyOf w at) (lastOf w) t (windowTicks (windowIn s)) (x .pass) m (pass-judges (ringOf w) (bodyOf w at) (lastOf w) t (windowTicks (windowIn s)) (x .pass) m ∙ a .0);
+        measured = pass-measures (ringOf w) (bodyOf w at) (lastOf w) t (windowTicks (windowIn s)) (x .pass) m
+            (pass-judges (ringOf w) (bodyOf w at) (lastOf w) t (windowTicks (windowIn s)) (x .pass) m ∙ a .0);
         now = sound-later t later (sound-true (ringOf w) (bodyOf w at) (lastOf w) (a .0));
         at-is = at-as;
         used-is = used-as;
@@ -162,7 +162,8 @@ module _ (kind : RoomKind) (s : Settings) (w : List ℕ) (t at : ℕ) (x : Slot)
   live = drop (x .pass .expired) view
 
   -- an edit that keeps all, or evicts, may have another limit, factor and use
-  pub keeping-edits : (b : ℕ) (e : Edit) → e .begins ≡ false → e .gone ≡ 0 → e .total ≡ x .total → e .declined ≡ x .declined → ActsOn (ringOf w) b t (e .then) (buckets (ringOf w) (bodyOf w at)) → EditsAt w at b t e
+  pub keeping-edits : (b : ℕ) (e : Edit) → e .begins ≡ false → e .gone ≡ 0 → e .total ≡ x .total → e .declined ≡ x .declined →
+      ActsOn (ringOf w) b t (e .then) (buckets (ringOf w) (bodyOf w at)) → EditsAt w at b t e
   unfolding startedView
   keeping-edits b e p q u v a = record {
     room = o;
@@ -171,12 +172,20 @@ module _ (kind : RoomKind) (s : Settings) (w : List ℕ) (t at : ℕ) (x : Slot)
       long = room-long w at o (k .inside);
       one = o .some;
       small = o .small;
-      stays = λ z. record { sound = k .now; some = omega arith; total = u ∙ k .total-is ∙ k .now .total ∙ ap (λ (n : ℕ). counts (drop n (buckets (ringOf w) (bodyOf w at)))) (sym q); declined = v ∙ k .declined-is ∙ k .now .declined ∙ ap (λ (n : ℕ). declineds (drop n (buckets (ringOf w) (bodyOf w at)))) (sym q) };
+      stays = λ z. record {
+        sound = k .now;
+        some = omega arith;
+        total = u ∙ k .total-is ∙ k .now .total ∙
+            ap (λ (n : ℕ). counts (drop n (buckets (ringOf w) (bodyOf w at)))) (sym q);
+        declined =
+            v ∙ k .declined-is ∙ k .now .declined ∙ ap (λ (n : ℕ). declineds (drop n (buckets (ringOf w) (bodyOf w at)))) (sym q);
+      };
       acts = rw (p, q) a;
     };
   }
 
-  pub evicting-edits : (b : ℕ) (e : Edit) → e .begins ≡ false → e .gone ≡ x .pass .expired → e .total ≡ x .pass .«live_total» → e .declined ≡ x .pass .«live_declined» →
+  pub evicting-edits : (b : ℕ) (e : Edit) → e .begins ≡ false → e .gone ≡ x .pass .expired → e .total ≡ x .pass .«live_total» →
+      e .declined ≡ x .pass .«live_declined» →
       ActsOn (ringOf w) b t (e .then) (drop (x .pass .expired) (buckets (ringOf w) (bodyOf w at))) → EditsAt w at b t e
   unfolding startedView
   evicting-edits b e p q u v a = record {
@@ -186,7 +195,14 @@ module _ (kind : RoomKind) (s : Settings) (w : List ℕ) (t at : ℕ) (x : Slot)
       long = room-long w at o (k .inside);
       one = o .some;
       small = o .small;
-      stays = λ z. record { sound = k .now; some = omega (arith, k .measured .some); total = u ∙ k .measured .total ∙ ap (λ (n : ℕ). counts (drop n (buckets (ringOf w) (bodyOf w at)))) (sym q); declined = v ∙ k .measured .declined ∙ ap (λ (n : ℕ). declineds (drop n (buckets (ringOf w) (bodyOf w at)))) (sym q) };
+      stays = λ z. record {
+        sound = k .now;
+        some = omega (arith, k .measured .some);
+        total = u ∙ k .measured .total ∙
+            ap (λ (n : ℕ). counts (drop n (buckets (ringOf w) (bodyOf w at)))) (sym q);
+        declined =
+            v ∙ k .measured .declined ∙ ap (λ (n : ℕ). declineds (drop n (buckets (ringOf w) (bodyOf w at)))) (sym q);
+      };
       acts = rw (p, q) a;
     };
   }

@@ -1,2 +1,4 @@
 pub mod Plan
+pub mod Fits
 pub mod Known
+pub mod Seen

@@ -1,10 +1,34 @@
--- Edits of a key's slot as the limiters plan them. x is the slot opened.
+-- What the limiters plan on a key's slot x, as it is opened: where it stands, whether an increment fits, and the edits.
 -- Assumes nothing.
-use mathlib.Core.Bool.{true, false}
-use Prim.Native.Nat.{ℕ}
+use mathlib.Core.Bool.{Bool, true, false, not, _&&_, cond}
+use mathlib.Core.List.{List}
+use Prim.Native.Nat.{ℕ, _-_}
+use lib.Dec.{leb, ltb}
+use Rattle.room.specs.Room.{slotsOf, vacant}
+use Rattle.judge.specs.Judge.{hasSlot}
 use Rattle.change.specs.declared.Edit.{Edit}
 use Rattle.change.specs.declared.Then.{Then}
 use Rattle.judge.specs.declared.Slot.{Slot}
+
+-- ---- where
+
+-- "One without a slot takes the lowest free one": the slot, or the number of slots where none is free
+unfoldable pub placeOf : List ℕ → Slot → ℕ
+placeOf w x = cond (hasSlot x) (x .at) (vacant w)
+
+-- "a slot is needed and none is free", where at is the place
+unfoldable pub lacksAt : List ℕ → ℕ → Slot → Bool
+lacksAt w at x = not (hasSlot x) && leb (slotsOf w) at
+
+-- ---- an increment, once the oldest k buckets are out; b is the bucket size, r the ring
+
+unfoldable pub joinsAfter : ℕ → ℕ → ℕ → Slot → Bool
+joinsAfter b t k x = ltb k (x .pass .buckets) && leb (t - x .pass .newest .time) b
+
+unfoldable pub fullAfter : ℕ → ℕ → ℕ → ℕ → Slot → Bool
+fullAfter r b t k x = not (joinsAfter b t k x) && leb r (x .pass .buckets - k)
+
+-- ---- edits
 
 -- the slot with its buckets, and then
 abbrev pub keeping : Slot → Then → Edit
@@ -42,6 +66,20 @@ opening limit then factor time used = record {
   total = 0;
   declined = 0;
   then = then;
+  limit = limit;
+  factor = factor;
+  «factor_time» = time;
+  used = used;
+}
+
+-- another limit, cached factor and use
+abbrev pub restored : Edit → ℕ → ℕ → ℕ → ℕ → Edit
+restored e limit factor time used = record {
+  begins = e .begins;
+  gone = e .gone;
+  total = e .total;
+  declined = e .declined;
+  then = e .then;
   limit = limit;
   factor = factor;
   «factor_time» = time;

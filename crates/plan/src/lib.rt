@@ -1,9 +1,84 @@
-// Edits of a key's slot, as the limiters plan them: the slot as it is, without its expired buckets, or with a series that begins.
+// What the limiters plan on a key's slot: where it stands, whether an increment fits, and the edits, of the slot as it is, without its expired
+// buckets, or with a series that begins.
 ghost use mathlib.Core.Path.{_≡_};
-ghost use Rattle.plan.specs.Plan.{keeping, evicting, opening};
+ghost use Prim.Native.Nat.{_-_};
+ghost use Rattle.rules.specs.Both.{passes};
+ghost use Rattle.room.specs.Room.{Room};
+ghost use Rattle.plan.specs.Plan.{placeOf, lacksAt, joinsAfter, fullAfter, keeping, evicting, opening, restored};
 use change::Edit;
 use change::Then;
 use judge::Slot;
+
+// ---- where
+
+// The key's slot, or the lowest free one, or the number of slots where none is free.
+pub fn place(w: &[u64], x: Slot) -> usize
+    requires { ⌜ Room (now w) ⌝ }
+    ensures { λ n. ⌜ n ≡ placeOf (now (w .entry)) x ⌝ }
+{
+    if judge::has_slot(x) {
+        return x.at;
+    }
+    room::vacant(w)
+}
+
+// Whether a slot is needed and none is free, where `at` is the place.
+pub fn lacks_slot(w: &[u64], at: usize, x: Slot) -> bool
+    requires { ⌜ Room (now w) ⌝ }
+    ensures { λ y. ⌜ y ≡ lacksAt (now (w .entry)) at x ⌝ }
+{
+    let slots = w[layout::SLOTS] as usize;
+    if judge::has_slot(x) {
+        return false;
+    }
+    slots <= at
+}
+
+// ---- whether an increment fits
+
+// Whether a total with the count passes 2^53; no sum wraps.
+pub fn passes(count: u64, total: u64) -> bool
+    ensures { λ r. ⌜ r ≡ passes count total ⌝ }
+{
+    if layout::MOST_TOTAL < count {
+        return true;
+    }
+    layout::MOST_TOTAL - count < total
+}
+
+// Whether an increment joins the newest bucket, once `gone` of the oldest are out.
+fn joins_after(size: u64, reading: u64, gone: usize, x: Slot) -> bool
+    ensures { λ y. ⌜ y ≡ joinsAfter size reading gone x ⌝ }
+{
+    let pass = x.pass;
+    let buckets = pass.buckets;
+    let newest = pass.newest;
+    if buckets <= gone {
+        return false;
+    }
+    ring::less(reading, newest.time) <= size
+}
+
+// The difference, or 0.
+fn fewer(a: usize, b: usize) -> usize
+    ensures { λ x. ⌜ x ≡ a - b ⌝ }
+{
+    if a < b { 0 } else { a - b }
+}
+
+// Whether a bucket must be added to a full ring of `r`, once `gone` of the oldest are out.
+pub fn is_ring_full(r: usize, size: u64, reading: u64, gone: usize, x: Slot) -> bool
+    ensures { λ y. ⌜ y ≡ fullAfter r size reading gone x ⌝ }
+{
+    let pass = x.pass;
+    let buckets = pass.buckets;
+    if joins_after(size, reading, gone, x) {
+        return false;
+    }
+    r <= fewer(buckets, gone)
+}
+
+// ---- edits
 
 // The slot with its buckets, and `then` done to them.
 pub fn keeping(x: Slot, then: Then) -> Edit
@@ -49,6 +124,24 @@ pub fn opening(limit: u64, then: Then, factor: u64, factor_time: u64, used: u64)
         gone: 0,
         total: 0,
         declined: 0,
+        then,
+        limit,
+        factor,
+        factor_time,
+        used,
+    }
+}
+
+// An edit with another limit, cached factor and use.
+pub fn restored(e: Edit, limit: u64, factor: u64, factor_time: u64, used: u64) -> Edit
+    ensures { λ r. ⌜ r ≡ restored e limit factor «factor_time» used ⌝ }
+{
+    let then = e.then;
+    Edit {
+        begins: e.begins,
+        gone: e.gone,
+        total: e.total,
+        declined: e.declined,
         then,
         limit,
         factor,

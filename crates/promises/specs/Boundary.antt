@@ -12,25 +12,25 @@ use borrow.Author.Tests.{ne-eqb}
 use Rattle.base.specs.Seek as Seek
 use Rattle.base.specs.Splice as Splice
 use Rattle.base.specs.Tab as Tab
-use Rattle.common.specs.Factor as Factor
+use Rattle.suppression.specs.Factor as Factor
 use Rattle.common.specs.Limits as Limits
 use Rattle.common.specs.Ranges as Ranges
 use Rattle.common.specs.Ranges.{nil, one}
 use Rattle.common.specs.Refusals as Refusals
 use Rattle.common.specs.Refusals.{first}
-use Rattle.common.specs.Settings as Settings
-use Rattle.common.specs.Settings.{defaults, withWindow}
-use Rattle.common.specs.Share as Share
-use Rattle.common.specs.declared.answers.FactorAnswer.the-variants as factor
-use Rattle.common.specs.declared.answers.RateLimitDecision.the-variants.{Allowed, Rejected, Suppressed, Refused}
-use Rattle.common.specs.declared.answers.SnapshotAnswer.the-variants as snapshot
-use Rattle.common.specs.declared.answers.TotalAnswer.the-variants as total
+use Rattle.settings.specs.Settings as Settings
+use Rattle.settings.specs.Settings.{defaults, withWindow}
+use Rattle.share.specs.Share as Share
+use Rattle.answers.specs.declared.FactorAnswer.the-variants as factor
+use Rattle.answers.specs.declared.RateLimitDecision.the-variants.{Allowed, Rejected, Suppressed, Refused}
+use Rattle.answers.specs.declared.SnapshotAnswer.the-variants as snapshot
+use Rattle.answers.specs.declared.TotalAnswer.the-variants as total
 use Rattle.ring.specs.Order as Order
 use Rattle.ring.specs.Ring as Ring
 use Rattle.ring.specs.Ring.{bucket, totalOf}
 use Rattle.ring.specs.Sound as RingSound
-use Rattle.history.specs.Rules as Rules
-use Rattle.history.specs.Sweep as Sweep
+use Rattle.rules.specs.Buckets as Rules
+use Rattle.sweep.specs.Sweep as Sweep
 use Rattle.history.specs.Words as HistoryWords
 use Rattle.room.specs.Room as Room
 use Rattle.room.specs.Room.{useOf, bodyOf}
@@ -43,17 +43,24 @@ use Rattle.calls.specs.Set as Sets
 use Rattle.cleanup.specs.Cleanup as Cleanup
 use Rattle.cleanup.specs.Every as Every
 use Rattle.absolute.specs.Calls as Absolute
-use Rattle.absolute_rules.specs.Rules as AbsoluteRules
+use Rattle.absolute_opened.specs.Opened as AbsoluteEdits
+use Rattle.rules.specs.Both as Both
+use Rattle.rules.specs.Absolute as AbsoluteRules
+use Rattle.rules.specs.Suppressed as SuppressedRules
+use Rattle.rules.specs.Sets as SetRules
+use Rattle.rules.specs.Stale as Stale
+use Rattle.judge.specs.Held as Held
+use Rattle.plan.specs.Plan as Plan
+use Rattle.shared_opened.specs.Opened as SetEdits
 use Rattle.suppressed.specs.Calls as SuppressedCalls
 use Rattle.suppressed_edits.specs.Edits as Edits
-use Rattle.suppressed_rules.specs.Factor as FactorRules
-use Rattle.suppressed_rules.specs.Forecast as Forecast
-use Rattle.suppressed_edits.specs.Refusals as SuppressedRefusals
+use Rattle.suppressed_opened.specs.Opened as SuppressedSlots
 use Rattle.demand3.specs.History.{hardOf}
 use Rattle.readout.specs.ReadOut as ReadOut
 use Rattle.readout.specs.ReadOut.{bucketsOf}
-use Rattle.promises.specs.Refusals.{suppressedInc}
-use Rattle.promises.specs.Cases.{half, hardBy, perSecond, key, room, ainc, aget, ten, sinc, factorAt, sget, eightAndTwo, single, twenty, clean, sevenFive, preserve, twentieth}
+use Rattle.steps.specs.Table.{suppressedInc}
+use Rattle.promises.specs.Cases.{half, hardBy, perSecond, key, room, ainc, aget, ten, sinc, factorAt, sget, eightAndTwo, single, twenty, clean}
+use Rattle.promises.specs.Cases.{sevenFive, preserve, twentieth}
 
 pub record Boundary : Type 0 where
   -- "age 10,000 live; 10,001 expired"
@@ -121,7 +128,20 @@ pub record Computed : Type 0 where
   pub further : Further
 
 pub computed : Computed
-unfolding Seek.seek Splice.splice Tab.tab Factor.freshFactor Factor.perceivesNothing Factor.factorWordOk Factor.admitted Limits.absoluteWord Limits.hardWord Limits.cutWord Limits.softWord Limits.limitOk Ranges.rateOk Ranges.factorOk Refusals.first Settings.faults Share.mulDiv Order.fine Ring.sumOf Ring.wrap Ring.bucketAt Ring.buckets Ring.shaped Ring.pushed Ring.rewritten Ring.without RingSound.soundBuckets Rules.over Rules.within Rules.ahead Rules.joins Rules.partial Sweep.passOf HistoryWords.incremented HistoryWords.wholes HistoryWords.partWords HistoryWords.shrunkWords HistoryWords.preservedWords Room.fits Room.empty Room.keyOf Room.sameKey Room.within Room.keyFits Room.keyAt Room.free Room.has Room.bodyFrom Room.entered Room.withUse Room.withReading Judge.misfits Slot.opened Slot.slotOf Sound.rightUse Sound.soundSeries Sound.soundCached Sound.soundSlot Sound.addressed Sound.soundAt Verdicts.judge Words.begun Words.started Words.acted Words.fixed Words.edited Words.withEdit Words.updated Words.taken Words.carried Words.applied Sets.already Sets.idle Sets.outcome Sets.stored Sets.setting Sets.placeIn Sets.full Sets.setOwn Every.every Cleanup.seriesStays Cleanup.factorStays Cleanup.useAfter Cleanup.swept Cleanup.cleaned Cleanup.slotPasses Cleanup.misfits Cleanup.cleanup Absolute.get Absolute.inc AbsoluteRules.below AbsoluteRules.evicts AbsoluteRules.allowed AbsoluteRules.rejected AbsoluteRules.decided AbsoluteRules.over AbsoluteRules.joinsAfter AbsoluteRules.full AbsoluteRules.clears AbsoluteRules.place AbsoluteRules.lacks AbsoluteRules.incRefusals AbsoluteRules.getChange AbsoluteRules.incChange SuppressedCalls.getOn SuppressedCalls.get SuppressedCalls.factorOn SuppressedCalls.getFactor SuppressedCalls.limitFor SuppressedCalls.incOn SuppressedCalls.inc Edits.recached Edits.getChange Edits.factorChange Edits.incEdit Edits.incChange FactorRules.stays FactorRules.usable FactorRules.ruleOf FactorRules.worked FactorRules.asked Forecast.reachOf Forecast.drawn Forecast.outcome SuppressedRefusals.placeOf SuppressedRefusals.joinsLeft SuppressedRefusals.crowded ReadOut.bucketsOf Ieee.le Ieee.lt Ieee.eq Ieee.mul Ieee.div Ieee.sub Ieee.add Ieee.ofInt Ieee.ofBits Ieee.ofFields Ieee.toBits Ieee.toUnsigned Ieee.fits
+unfolding Seek.seek Splice.splice Tab.tab Factor.freshFactor Factor.perceivesNothing Factor.factorWordOk Factor.admitted Limits.absoluteWord Limits.hardWord
+    Limits.cutWord Limits.softWord Limits.limitOk Ranges.rateOk Ranges.factorOk Refusals.first Settings.faults Share.mulDiv Order.fine Ring.sumOf Ring.wrap
+    Ring.bucketAt Ring.buckets Ring.shaped Ring.pushed Ring.rewritten Ring.without RingSound.soundBuckets Rules.older Rules.recent Rules.ahead Rules.joins
+    Rules.partial Sweep.passOf HistoryWords.incremented HistoryWords.wholes HistoryWords.partWords HistoryWords.shrunkWords HistoryWords.preservedWords
+    Room.fits Room.empty Room.keyOf Room.sameKey Room.unusedZero Room.keyFits Room.keyAt Room.free Room.has Room.bodyFrom Room.entered Room.withUse
+    Room.withReading Judge.misfits Slot.opened Slot.slotOf Sound.rightUse Sound.soundSeries Sound.soundCached Sound.soundSlot Sound.addressed Sound.soundAt
+    Verdicts.unlessRefused Words.begun Words.started Words.acted Words.fixed Words.edited Words.withEdit Words.updated Words.taken Words.carried
+    Words.applied Every.every Cleanup.useAfter Cleanup.swept Cleanup.cleaned Cleanup.slotPasses Cleanup.misfits Cleanup.cleanup Absolute.get Absolute.inc
+    Edits.recached Edits.getChange Edits.factorChange Edits.incEdit Edits.incChange ReadOut.bucketsOf Ieee.le Ieee.lt Ieee.eq Ieee.mul Ieee.div Ieee.sub
+    Ieee.add Ieee.ofInt Ieee.ofBits Ieee.ofFields Ieee.toBits Ieee.toUnsigned Ieee.fits SuppressedCalls.get SuppressedCalls.getFactor SuppressedCalls.inc
+    Sets.set Held.heldIn Plan.placeOf Both.passes Both.ringFull AbsoluteRules.below AbsoluteRules.tested AbsoluteRules.allowed AbsoluteRules.decided
+    AbsoluteRules.takesOut AbsoluteEdits.getChange AbsoluteEdits.incChange SuppressedRules.stays SuppressedRules.asked SuppressedRules.reachOf
+    SuppressedRules.drawn SuppressedRules.outcome SuppressedSlots.staysAt SetRules.already SetRules.idle SetRules.outcome SetEdits.stored SetEdits.setting
+    Stale.seriesStays Stale.factorStays
 computed = record {
   table = record {
     live-10000 = refl;

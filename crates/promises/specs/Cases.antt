@@ -6,20 +6,20 @@ use Prim.Native.Nat.{ℕ}
 use lib.IntN.{pos, negsuc}
 use lib.Ieee.{Float, fin, binary64, div, ofInt}
 use Rattle.common.specs.Ranges.{one}
-use Rattle.common.specs.Settings.{defaults, withFactor}
-use Rattle.common.specs.declared.answers.DoneAnswer.{DoneAnswer}
-use Rattle.common.specs.declared.answers.FactorAnswer.{FactorAnswer}
-use Rattle.common.specs.declared.answers.RateLimitDecision.{RateLimitDecision}
-use Rattle.common.specs.declared.answers.SetAnswer.{SetAnswer}
-use Rattle.common.specs.declared.answers.SnapshotAnswer.{SnapshotAnswer}
-use Rattle.common.specs.declared.answers.TotalAnswer.{TotalAnswer}
+use Rattle.settings.specs.Settings.{defaults, withFactor}
+use Rattle.answers.specs.declared.DoneAnswer.{DoneAnswer}
+use Rattle.answers.specs.declared.FactorAnswer.{FactorAnswer}
+use Rattle.answers.specs.declared.RateLimitDecision.{RateLimitDecision}
+use Rattle.answers.specs.declared.SetAnswer.{SetAnswer}
+use Rattle.answers.specs.declared.SnapshotAnswer.{SnapshotAnswer}
+use Rattle.answers.specs.declared.TotalAnswer.{TotalAnswer}
 use Rattle.common.specs.declared.comparator.RateLimitComparator.the-variants as comparator
-use Rattle.common.specs.declared.history_mode.HistoryPreservation.the-variants.{PreserveNewest}
-use Rattle.common.specs.declared.history_mode.HistoryUpdateMode.the-variants as mode
-use Rattle.common.specs.declared.settings.Settings.{Settings}
+use Rattle.answers.specs.declared.HistoryPreservation.the-variants.{PreserveNewest}
+use Rattle.answers.specs.declared.HistoryUpdateMode.the-variants as mode
+use Rattle.settings.specs.declared.Settings.{Settings}
 use Rattle.common.specs.declared.units.RateLimit.{RateLimit}
 use Rattle.room.specs.Room.{empty}
-use Rattle.judge.specs.declared.RoomKind.the-variants as kind
+use Rattle.rules.specs.declared.RoomKind.the-variants as kind
 use Rattle.judge.specs.Verdict.{Verdict}
 use Rattle.calls.specs.Set as Sets
 use Rattle.cleanup.specs.Cleanup as Cleanup

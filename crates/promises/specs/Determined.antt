@@ -9,33 +9,25 @@ use lib.ListN.{length, take}
 use lib.Ieee.{Float}
 use Rattle.base.specs.Decides.{Decides}
 use Rattle.common.specs.Limits.{rateBack}
-use Rattle.common.specs.declared.comparator.RateLimitComparator.{RateLimitComparator}
-use Rattle.common.specs.declared.history_mode.HistoryUpdateMode.{HistoryUpdateMode}
-use Rattle.common.specs.declared.settings.Settings.{Settings}
+use Rattle.settings.specs.declared.Settings.{Settings}
 use Rattle.common.specs.declared.units.RateLimit.{RateLimit}
 use Rattle.ring.specs.declared.Bucket.{Bucket}
 use Rattle.ring.specs.Ring.{Shape}
 use Rattle.room.specs.Room.{Room, Made, Starts}
-use Rattle.judge.specs.declared.RoomKind.{RoomKind}
+use Rattle.rules.specs.declared.RoomKind.{RoomKind}
 use Rattle.judge.specs.Verdict.{Verdict, verdict, Told}
-use Rattle.calls.specs.Clear as Clear
-use Rattle.calls.specs.Delete as Delete
-use Rattle.calls.specs.Rate as Rate
-use Rattle.calls.specs.Set as Set
-use Rattle.cleanup.specs.Cleanup as Cleanup
-use Rattle.absolute.specs.Calls as Absolute
-use Rattle.suppressed.specs.Calls as Suppressed
 use Rattle.provider.specs.Provider as Provider
 use Rattle.readout.specs.ReadOut as ReadOut
-use Rattle.plain.specs.Plain.{Given}
+use Rattle.rows.specs.Plain.{Given}
 use Rattle.abi.specs.Faces.{Face, Faced}
 use Rattle.desk_step.specs.Desk.{Step, Answered}
 use Rattle.desk_feed.specs.declared.Progress.{Progress}
 use Rattle.desk_feed.specs.declared.Turn.{Turn}
 use Rattle.desk_feed.specs.Feed.{Effect, Whole, whole, feed}
 use Rattle.desk_feed.specs.Contracts.{Took, Feeding, BothMade}
-use Rattle.answers.specs.Printing.{pasted, Printed}
-use Rattle.answers.specs.declared.AnswerLine.{AnswerLine}
+use Rattle.printing.specs.Printing.{pasted, Printed}
+use Rattle.printing.specs.declared.AnswerLine.{AnswerLine}
+use Rattle.steps.specs.Ops.{Op, verdictOf}
 
 -- what a contract C allows is one result
 abbrev pub Once : {R : Type 0} → (R → Type 0) → Type 0
@@ -69,32 +61,24 @@ told-so v r exit P o p = subst P (told-one v v (verdict r exit) (record { answer
 -- ---- by function
 
 pub record Determined : Type 1 where
-  -- the absolute limiter
-  pub absolute-inc : (s : Settings) (w : List ℕ) (t : ℕ) (key : List ℕ) (rate : RateLimit) (count : ℕ) → TellsOne (Absolute.inc s w t key rate count)
-  pub absolute-is-allowed : (s : Settings) (w : List ℕ) (t : ℕ) (key : List ℕ) → TellsOne (Absolute.isAllowed s w t key)
-  pub absolute-get : (s : Settings) (w : List ℕ) (t : ℕ) (key : List ℕ) → TellsOne (Absolute.get s w t key)
-  -- the suppressed limiter
-  pub suppressed-inc : (s : Settings) (w : List ℕ) (t : ℕ) (key : List ℕ) (rate : RateLimit) (count draw : ℕ) → TellsOne (Suppressed.inc s w t key rate count draw)
-  pub suppressed-get : (s : Settings) (w : List ℕ) (t : ℕ) (key : List ℕ) → TellsOne (Suppressed.get s w t key)
-  pub suppressed-factor : (s : Settings) (w : List ℕ) (t : ℕ) (key : List ℕ) → TellsOne (Suppressed.getFactor s w t key)
-  -- the calls that both have; `set_if` has mode Replace, `set_if_preserve_history` Preserve
-  pub set-rate-limit : (kind : RoomKind) (s : Settings) (w : List ℕ) (t : ℕ) (key : List ℕ) (rate : RateLimit) → TellsOne (Rate.setRateLimit kind s w t key rate)
-  pub delete : (kind : RoomKind) (s : Settings) (w : List ℕ) (t : ℕ) (key : List ℕ) → TellsOne (Delete.delete kind s w t key)
-  pub set-if : (kind : RoomKind) (s : Settings) (w : List ℕ) (t : ℕ) (key : List ℕ) (rate : RateLimit) (comparator : RateLimitComparator) (count : ℕ) (mode : HistoryUpdateMode) → TellsOne (Set.set kind s w t key rate comparator count mode)
-  pub clear : (s : Settings) (w : List ℕ) (t : ℕ) → TellsOne (Clear.clear s w t)
-  pub cleanup : (kind : RoomKind) (s : Settings) (w : List ℕ) (t stale : ℕ) → TellsOne (Cleanup.cleanup kind s w t stale)
+  -- every call of either limiter; of the provider's cleanup, each room
+  pub calls : (kind : RoomKind) (s : Settings) (w : List ℕ) (t : ℕ) (op : Op kind) → TellsOne (verdictOf kind s w t op)
   -- both rooms
-  pub provider-cleanup : (s : Settings) (a b : List ℕ) (t stale : ℕ) → Once {R = Provider.Verdict} (λ x. Provider.Told (Provider.cleanup s a b t stale) (x .answer) (x .absolute) (x .suppressed))
+  pub provider-cleanup : (s : Settings) (a b : List ℕ) (t stale : ℕ) →
+      Once {R = Provider.Verdict} (λ x. Provider.Told (Provider.cleanup s a b t stale) (x .answer) (x .absolute) (x .suppressed))
   -- the row
-  pub read-out : (kind : RoomKind) (s : Settings) (w key : List ℕ) (row : List Bucket) → Once {R = ReadOut.Filled} (λ x. ReadOut.Shown (ReadOut.readOut kind s w key row) (x .answer) (x .row))
+  pub read-out : (kind : RoomKind) (s : Settings) (w key : List ℕ) (row : List Bucket) →
+      Once {R = ReadOut.Filled} (λ x. ReadOut.Shown (ReadOut.readOut kind s w key row) (x .answer) (x .row))
   -- making a room: yes or no, and the words
   pub make : (slots ring : ℕ) (w : List ℕ) → Once {R = Bool × List ℕ} (λ x. Made slots ring w (x .0) (x .1))
   -- the faces for C and Rust: the number, the answer row and the words of the room, or of both; and a row that is handed over
   pub faces : {W : Type 0} (f : Face W) → Once {R = ℕ × Face W} (λ x. Faced f (x .0) (x .1 .row) (x .1 .words))
   pub give : (row : List ℕ) → Once {R = ℕ × List ℕ} (λ x. Given row (x .0) (x .1))
-  -- the bytes of `desk`: both rooms made; a block taken, of which as much goes in as there is room to print for; the last line; each with what is printed and kept
+  -- the bytes of `desk`: both rooms made; a block taken, of which as much goes in as there is room to print for; the last line; each with what is printed
+  -- and kept
   pub desk-rooms : (a b : List ℕ) → Once {R = Bool × List ℕ × List ℕ} (λ x. BothMade a b (x .0) (x .1) (x .2))
-  pub desk-feed : (w : Whole) (block out : List ℕ) → Once {R = Progress × List ℕ × List ℕ × List ℕ × List ℕ} (λ x. Feeding w block out (x .0) (x .1) (x .2) (x .3) (x .4))
+  pub desk-feed : (w : Whole) (block out : List ℕ) → Once {R = Progress × List ℕ × List ℕ × List ℕ × List ℕ}
+      (λ x. Feeding w block out (x .0) (x .1) (x .2) (x .3) (x .4))
   pub desk-finish : (v : Effect) (out : List ℕ) (at : ℕ) → Once {R = Turn × List ℕ × List ℕ × List ℕ} (λ x. Took v out at (x .0) (x .1) (x .2) (x .3))
   -- a line of `desk`: the line to print, and both rooms
   pub step : (v : Step) → Once {R = Step} (λ x. Answered v (x .answer) (x .absolute) (x .suppressed))
@@ -110,10 +94,12 @@ pub record Determined : Type 1 where
   pub others : {A : Type 0} (v : A) → Once {R = A} (λ r. r ≡ v)
 
 -- how much of a block is taken decides the rest
-feeding-one : (w : Whole) (block out : List ℕ) → Once {R = Progress × List ℕ × List ℕ × List ℕ × List ℕ} (λ x. Feeding w block out (x .0) (x .1) (x .2) (x .3) (x .4))
+feeding-one : (w : Whole) (block out : List ℕ) → Once {R = Progress × List ℕ × List ℕ × List ℕ × List ℕ}
+    (λ x. Feeding w block out (x .0) (x .1) (x .2) (x .3) (x .4))
 feeding-one w block out x y p q =
     let t : x .0 .taken ≡ y .0 .taken = p .taken ∙ sym (q .taken) in
-    let after : whole (x .0 .desk) (x .1) (x .2) (x .3) ≡ whole (y .0 .desk) (y .1) (y .2) (y .3) = p .after ∙ ap (λ (n : ℕ). feed w (take n block) .whole) t ∙ sym (q .after) in
+    let after : whole (x .0 .desk) (x .1) (x .2) (x .3) ≡ whole (y .0 .desk) (y .1) (y .2) (y .3) =
+    p .after ∙ ap (λ (n : ℕ). feed w (take n block) .whole) t ∙ sym (q .after) in
     let prints : List ℕ → ℕ = λ (b : List ℕ). 0 + length b in
     let next : x .0 .put ≡ y .0 .put = p .put .past ∙ ap (λ (n : ℕ). prints (feed w (take n block) .prints)) t ∙ sym (q .put .past) in
     let bytes : x .4 ≡ y .4 = p .put .is ∙ ap (λ (n : ℕ). pasted out 0 (feed w (take n block) .prints)) t ∙ sym (q .put .is) in
@@ -121,27 +107,29 @@ feeding-one w block out x y p q =
 
 pub determined : Determined
 determined = record {
-  absolute-inc = λ s w t key rate count. told-one (Absolute.inc s w t key rate count);
-  absolute-is-allowed = λ s w t key. told-one (Absolute.isAllowed s w t key);
-  absolute-get = λ s w t key. told-one (Absolute.get s w t key);
-  suppressed-inc = λ s w t key rate count draw. told-one (Suppressed.inc s w t key rate count draw);
-  suppressed-get = λ s w t key. told-one (Suppressed.get s w t key);
-  suppressed-factor = λ s w t key. told-one (Suppressed.getFactor s w t key);
-  set-rate-limit = λ kind s w t key rate. told-one (Rate.setRateLimit kind s w t key rate);
-  delete = λ kind s w t key. told-one (Delete.delete kind s w t key);
-  set-if = λ kind s w t key rate comparator count mode. told-one (Set.set kind s w t key rate comparator count mode);
-  clear = λ s w t. told-one (Clear.clear s w t);
-  cleanup = λ kind s w t stale. told-one (Cleanup.cleanup kind s w t stale);
-  provider-cleanup = λ s a b t stale x y p q i. record { answer = (p .answer ∙ sym (q .answer)) i; absolute = (p .absolute ∙ sym (q .absolute)) i; suppressed = (p .suppressed ∙ sym (q .suppressed)) i };
+  calls = λ kind s w t op. told-one (verdictOf kind s w t op);
+  provider-cleanup = λ s a b t stale x y p q i. record {
+    answer = (p .answer ∙ sym (q .answer)) i;
+    absolute = (p .absolute ∙ sym (q .absolute)) i;
+    suppressed = (p .suppressed ∙ sym (q .suppressed)) i;
+  };
   read-out = λ kind s w key row x y p q i. record { answer = (p .answer ∙ sym (q .answer)) i; row = (p .row ∙ sym (q .row)) i };
   make = λ slots ring w x y p q i. ((p .answer ∙ sym (q .answer)) i, (p .words ∙ sym (q .words)) i);
   faces = λ f x y p q i. ((p .number ∙ sym (q .number)) i, record { row = (p .answer ∙ sym (q .answer)) i; words = (p .left ∙ sym (q .left)) i });
   give = λ row x y p q i. ((p .number ∙ sym (q .number)) i, (p .answer ∙ sym (q .answer)) i);
   desk-rooms = λ a b x y p q i. ((p .answer ∙ sym (q .answer)) i, (p .absolute ∙ sym (q .absolute)) i, (p .suppressed ∙ sym (q .suppressed)) i);
   desk-feed = feeding-one;
-  desk-finish = λ v out at x y p q i.
-      (record { phase = (p .phase ∙ sym (q .phase)) i; next = (p .put .past ∙ sym (q .put .past)) i }, (p .absolute ∙ sym (q .absolute)) i, (p .suppressed ∙ sym (q .suppressed)) i, (p .put .is ∙ sym (q .put .is)) i);
-  step = λ v x y p q i. record { answer = (p .answer ∙ sym (q .answer)) i; absolute = (p .absolute ∙ sym (q .absolute)) i; suppressed = (p .suppressed ∙ sym (q .suppressed)) i };
+  desk-finish = λ v out at x y p q i. (
+    record { phase = (p .phase ∙ sym (q .phase)) i; next = (p .put .past ∙ sym (q .put .past)) i },
+    (p .absolute ∙ sym (q .absolute)) i,
+    (p .suppressed ∙ sym (q .suppressed)) i,
+    (p .put .is ∙ sym (q .put .is)) i,
+  );
+  step = λ v x y p q i. record {
+    answer = (p .answer ∙ sym (q .answer)) i;
+    absolute = (p .absolute ∙ sym (q .absolute)) i;
+    suppressed = (p .suppressed ∙ sym (q .suppressed)) i;
+  };
   print = λ line out x y p q i. ((p .long ∙ sym (q .long)) i, (p .bytes ∙ sym (q .bytes)) i);
   sized = λ w. decides-one (Room w);
   fit = λ r b. decides-one (Shape r b);

@@ -1,4 +1,3 @@
-pub mod Lowest
 pub mod Refusals
 pub mod Determined
 pub mod Shared

@@ -1,4 +1,5 @@
--- Demand 2, on the side of the proofs: what each call that is not turned away answers and leaves is what document 01's rules make of what it finds. A field for each call;
+-- Demand 2, on the side of the proofs: what each call that is not turned away answers and leaves is what document 01's rules make of what it finds. A field
+-- for each call;
 -- what the rules are stands in the records that the fields name. (On the other side the original Rust is run beside the calls: docs/DIFFERENCES.md.)
 -- Assumes nothing.
 use mathlib.Core.Path.{_≡_, sym, subst, _∙_}
@@ -9,36 +10,41 @@ use lib.Dec.{eqb}
 use lib.ListN.{length}
 use borrow.Author.Tests.{eq-eqb}
 use Rattle.common.specs.Refusals.{first}
-use Rattle.common.specs.declared.answers.DoneAnswer.the-variants as done
+use Rattle.answers.specs.declared.DoneAnswer.the-variants as done
 use Rattle.common.specs.declared.comparator.RateLimitComparator.{RateLimitComparator}
-use Rattle.common.specs.declared.history_mode.HistoryUpdateMode.{HistoryUpdateMode}
-use Rattle.common.specs.declared.settings.Settings.{Settings}
+use Rattle.answers.specs.declared.HistoryUpdateMode.{HistoryUpdateMode}
+use Rattle.settings.specs.declared.Settings.{Settings}
 use Rattle.common.specs.declared.units.RateLimit.{RateLimit}
 use Rattle.ring.specs.declared.Bucket.{Bucket}
 use Rattle.frame.specs.Keys.{Bytes}
-use Rattle.judge.specs.declared.RoomKind.{RoomKind}
-use Rattle.judge.specs.declared.RoomKind.the-variants as kind
+use Rattle.rules.specs.declared.RoomKind.{RoomKind}
+use Rattle.rules.specs.declared.RoomKind.the-variants as kind
 use Rattle.judge.specs.Judge.{slotIn}
 use Rattle.calls.specs.Clear as Clear
 use Rattle.calls.specs.Delete as Delete
 use Rattle.calls.specs.Rate as Rate
 use Rattle.calls.specs.Set as Sets
 use Rattle.cleanup.specs.Cleanup as Cleanup
-use Rattle.views.specs.Cleanup.{done-answer, done-words}
+use Rattle.leaves.specs.Cleanup.{done-answer, done-words}
 use Rattle.absolute.specs.Calls as Absolute
 use Rattle.suppressed.specs.Calls as Suppressed
-use Rattle.views.specs.AbsoluteRules.{GetLaw, AskLaw, IncLaw}
-use Rattle.views.specs.Absolute as Absolutely
-use Rattle.views.specs.SuppressedFollows as Own
-use Rattle.views.specs.SuppressedFollows.{askedIn, outcomeIn, Gets, GivesFactor, Counts}
+use Rattle.leaves.specs.AbsoluteLeaves.{GetLaw, AskLaw, IncLaw}
+use Rattle.leaves.specs.Absolute as Absolutely
+use Rattle.leaves.specs.SuppressedFollows as Own
+use Rattle.leaves.specs.SuppressedFollows.{Gets, GivesFactor, Counts}
+use Rattle.rules.specs.Sets.{stillFor}
+use Rattle.rules.specs.Suppressed.{limitFor, outcome}
+use Rattle.judge.specs.Held.{heldIn}
 use Rattle.provider.specs.Provider as Provider
 use Rattle.provider.specs.Laws.{lowest-none, both-by-table}
 use Rattle.readout.specs.ReadOut as ReadOut
 use Rattle.readout.specs.ReadOut.{bucketsOf}
 use Rattle.readout.specs.Row.{over}
 use Rattle.readout.specs.declared.ReadOutAnswer.the-variants as readOut
-use Rattle.promises.specs.Refusals.{absoluteInc, plain, suppressedInc, suppressedGet, suppressedFactor, setRate, sets, clears, cleans, cleansBoth, reads, reads-number}
-use Rattle.promises.specs.Shared.{RateRule, DeleteRule, SetRule, ClearRule, CleanRule, rate-follows, delete-follows, set-follows, clear-follows, clean-follows}
+use Rattle.steps.specs.Table.{absoluteInc, plain, suppressedInc, suppressedGet, suppressedFactor, setRate, sets, clears, cleans, cleansBoth}
+use Rattle.promises.specs.Refusals.{reads, reads-number}
+use Rattle.promises.specs.Shared.{RateRule, DeleteRule, SetRule, ClearRule, CleanRule, rate-follows, delete-follows, set-follows, clear-follows}
+use Rattle.promises.specs.Shared.{clean-follows}
 
 -- cleanup of one room
 pub record CleansRoom (kind : RoomKind) (s : Settings) (w : List ℕ) (t stale : ℕ) : Type 0 where
@@ -51,28 +57,37 @@ pub record CleansBoth (s : Settings) (a b : List ℕ) (t stale : ℕ) : Type 0 w
   pub absolute : CleanRule kind.Absolute s a (Provider.cleanup s a b t stale .absolute) t stale
   pub suppressed : CleanRule kind.Suppressed s b (Provider.cleanup s a b t stale .suppressed) t stale
 
--- "fills a lent row of bucket records, oldest first, expired ones too, as many as fit, leaving the others; it gives the ring's bucket count, 0 for an unknown key"
+-- "fills a lent row of bucket records, oldest first, expired ones too, as many as fit, leaving the others; it gives the ring's bucket count, 0 for an
+-- unknown key"
 pub record ReadsOut (kind : RoomKind) (s : Settings) (w key : List ℕ) (row : List Bucket) : Type 0 where
   pub answer : ReadOut.readOut kind s w key row .answer ≡ readOut.Buckets (length (bucketsOf w key))
   pub fills : ReadOut.readOut kind s w key row .row ≡ over (bucketsOf w key) row
 
 pub record Demand2 : Type 0 where
   -- the absolute limiter; an increment's key is one of bytes
-  pub absolute-inc : (s : Settings) (w : List ℕ) (t : ℕ) (key : List ℕ) (rate : RateLimit) (count : ℕ) → Bytes key → first (absoluteInc s w t key rate count) ≡ 0 → IncLaw s w t key rate count (Absolute.inc s w t key rate count)
-  pub absolute-is-allowed : (s : Settings) (w : List ℕ) (t : ℕ) (key : List ℕ) → first (plain kind.Absolute s w t key) ≡ 0 → AskLaw s w t key (Absolute.isAllowed s w t key)
+  pub absolute-inc : (s : Settings) (w : List ℕ) (t : ℕ) (key : List ℕ) (rate : RateLimit) (count : ℕ) → Bytes key →
+      first (absoluteInc s w t key rate count) ≡ 0 → IncLaw s w t key rate count (Absolute.inc s w t key rate count)
+  pub absolute-is-allowed : (s : Settings) (w : List ℕ) (t : ℕ) (key : List ℕ) → first (plain kind.Absolute s w t key) ≡ 0 →
+      AskLaw s w t key (Absolute.isAllowed s w t key)
   pub absolute-get : (s : Settings) (w : List ℕ) (t : ℕ) (key : List ℕ) → first (plain kind.Absolute s w t key) ≡ 0 → GetLaw s w t key (Absolute.get s w t key)
-  -- the suppressed limiter: `outcomeIn` is what the rules decide, `askedIn` the factor that they give
-  pub suppressed-inc : (s : Settings) (w : List ℕ) (t : ℕ) (key : List ℕ) (rate : RateLimit) (count draw : ℕ) → Bytes key → first (suppressedInc s w t key rate count draw) ≡ 0 →
-      Counts s w t key (Suppressed.limitFor s (slotIn s w t key) rate) count (slotIn s w t key) (outcomeIn s w t rate count draw (slotIn s w t key)) (Suppressed.inc s w t key rate count draw)
+  -- the suppressed limiter: `outcome` is what the rules decide
+  pub suppressed-inc : (s : Settings) (w : List ℕ) (t : ℕ) (key : List ℕ) (rate : RateLimit) (count draw : ℕ) → Bytes key →
+      first (suppressedInc s w t key rate count draw) ≡ 0 →
+      Counts s w t key (limitFor s rate (heldIn w key)) count (slotIn s w t key) (outcome s t (limitFor s rate (heldIn w key)) count draw (heldIn w key))
+      (Suppressed.inc s w t key rate count draw)
   pub suppressed-get : (s : Settings) (w : List ℕ) (t : ℕ) (key : List ℕ) → Bytes key → first (suppressedGet s w t key) ≡ 0 →
-      Gets s w t key (slotIn s w t key) (askedIn s w t (slotIn s w t key)) (Suppressed.get s w t key)
+      Gets s w t key (Suppressed.get s w t key)
   pub suppressed-factor : (s : Settings) (w : List ℕ) (t : ℕ) (key : List ℕ) → Bytes key → first (suppressedFactor s w t key) ≡ 0 →
-      GivesFactor s w t key (slotIn s w t key) (askedIn s w t (slotIn s w t key)) (Suppressed.getFactor s w t key)
+      GivesFactor s w t key (Suppressed.getFactor s w t key)
   -- the calls that both limiters have; `set_if` has mode Replace, `set_if_preserve_history` Preserve
-  pub set-rate-limit : (kind : RoomKind) (s : Settings) (w : List ℕ) (t : ℕ) (key : List ℕ) (rate : RateLimit) → first (setRate kind s w t key rate) ≡ 0 → RateRule kind s w t rate (slotIn s w t key) (Rate.setRateLimit kind s w t key rate)
-  pub delete : (kind : RoomKind) (s : Settings) (w : List ℕ) (t : ℕ) (key : List ℕ) → first (plain kind s w t key) ≡ 0 → DeleteRule s w t (slotIn s w t key) (Delete.delete kind s w t key)
-  pub set-if : (kind : RoomKind) (s : Settings) (w : List ℕ) (t : ℕ) (key : List ℕ) (rate : RateLimit) (comparator : RateLimitComparator) (count : ℕ) (mode : HistoryUpdateMode) → Bytes key →
-      first (sets kind s w t key rate comparator count mode) ≡ 0 → SetRule kind s w t key rate comparator count mode (slotIn s w t key) (Sets.set kind s w t key rate comparator count mode)
+  pub set-rate-limit : (kind : RoomKind) (s : Settings) (w : List ℕ) (t : ℕ) (key : List ℕ) (rate : RateLimit) → first (setRate kind s w t key rate) ≡ 0 →
+      RateRule kind s w t key rate (slotIn s w t key) (Rate.setRateLimit kind s w t key rate)
+  pub delete : (kind : RoomKind) (s : Settings) (w : List ℕ) (t : ℕ) (key : List ℕ) → first (plain kind s w t key) ≡ 0 →
+      DeleteRule s w t key (slotIn s w t key) (Delete.delete kind s w t key)
+  pub set-if : (kind : RoomKind) (s : Settings) (w : List ℕ) (t : ℕ) (key : List ℕ) (rate : RateLimit) (comparator : RateLimitComparator) (count : ℕ)
+      (mode : HistoryUpdateMode) → Bytes key → first (sets kind s w t key rate comparator count mode) ≡ 0 →
+      SetRule kind s w t key rate comparator count mode (stillFor kind s t rate comparator count mode (heldIn w key)) (slotIn s w t key)
+      (Sets.set kind s w t key rate comparator count mode)
   pub clear : (s : Settings) (w : List ℕ) (t : ℕ) → first (clears s w t) ≡ 0 → ClearRule w t (Clear.clear s w t)
   pub cleanup : (kind : RoomKind) (s : Settings) (w : List ℕ) (t stale : ℕ) → first (cleans kind s w t) ≡ 0 → CleansRoom kind s w t stale
   pub provider-cleanup : (s : Settings) (a b : List ℕ) (t stale : ℕ) → first (cleansBoth s a b t) ≡ 0 → CleansBoth s a b t stale
@@ -80,7 +95,11 @@ pub record Demand2 : Type 0 where
 
 cleans-room : (kind : RoomKind) (s : Settings) (w : List ℕ) (t stale : ℕ) → Cleanup.refusal kind s w t ≡ 0 → CleansRoom kind s w t stale
 cleans-room kind s w t stale e =
-    record { answer = done-answer kind s w t stale e; room = subst (λ (v : List ℕ). CleanRule kind s w v t stale) (sym (done-words kind s w t stale e)) (clean-follows kind s w t stale e) }
+    record {
+      answer = done-answer kind s w t stale e;
+      room = subst (λ (v : List ℕ). CleanRule kind s w v t stale) (sym (done-words kind s w t stale e))
+          (clean-follows kind s w t stale e);
+    }
 
 cleans-both : (s : Settings) (a b : List ℕ) (t stale : ℕ) → first (cleansBoth s a b t) ≡ 0 → CleansBoth s a b t stale
 unfolding Provider.decided
@@ -90,8 +109,10 @@ cleans-both s a b t stale e =
     let y : true ≡ eqb (Provider.refusalOfBoth s a b t) 0 = sym (eq-eqb _ 0 n) in
     record {
       answer = rw n;
-      absolute = subst (λ (x : Bool). CleanRule kind.Absolute s a (cond x (Cleanup.cleaned a t stale) a) t stale) y (clean-follows kind.Absolute s a t stale (z .0));
-      suppressed = subst (λ (x : Bool). CleanRule kind.Suppressed s b (cond x (Cleanup.cleaned b t stale) b) t stale) y (clean-follows kind.Suppressed s b t stale (z .1));
+      absolute = subst (λ (x : Bool). CleanRule kind.Absolute s a (cond x (Cleanup.cleaned a t stale) a) t stale) y
+          (clean-follows kind.Absolute s a t stale (z .0));
+      suppressed = subst (λ (x : Bool). CleanRule kind.Suppressed s b (cond x (Cleanup.cleaned b t stale) b) t stale) y
+          (clean-follows kind.Suppressed s b t stale (z .1));
     }
 
 reads-out : (kind : RoomKind) (s : Settings) (w key : List ℕ) (row : List Bucket) → first (reads kind s w key) ≡ 0 → ReadsOut kind s w key row

@@ -10,14 +10,14 @@ use native.Mathlib.Omega.{arith}
 use lib.Dec.{eqb, ltb}
 use borrow.Author.Tests.{eq-eqb, ne-eqb, eqb-true, eqb-false, ltb-true, ltb-false}
 use Rattle.common.specs.Refusals.{first, first-found, first-none}
-use Rattle.common.specs.Settings.{faults}
-use Rattle.common.specs.declared.answers.DoneAnswer.{DoneAnswer}
-use Rattle.common.specs.declared.answers.DoneAnswer.the-variants.{Done, Refused}
-use Rattle.common.specs.declared.settings.Settings.{Settings}
+use Rattle.settings.specs.Settings.{faults}
+use Rattle.answers.specs.declared.DoneAnswer.{DoneAnswer}
+use Rattle.answers.specs.declared.DoneAnswer.the-variants.{Done, Refused}
+use Rattle.settings.specs.declared.Settings.{Settings}
 use Rattle.room.specs.Room.{sized, lastOf}
 use Rattle.judge.specs.Laws.{faults-positive}
-use Rattle.judge.specs.declared.RoomKind.{RoomKind}
-use Rattle.judge.specs.declared.RoomKind.the-variants.{Absolute, Suppressed}
+use Rattle.rules.specs.declared.RoomKind.{RoomKind}
+use Rattle.rules.specs.declared.RoomKind.the-variants.{Absolute, Suppressed}
 use Rattle.cleanup.specs.Cleanup.{cleaned, Ready, allPass, misfits, refusal}
 use Rattle.cleanup.specs.Laws.{Passed, passed, passed-ready}
 use Rattle.provider.specs.Provider.{lowest, refusalOfBoth, Verdict, decided, cleanup, Told}

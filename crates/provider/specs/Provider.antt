@@ -1,14 +1,15 @@
--- The provider's cleanup: what it answers, and what it leaves in both rooms. a and b are the absolute and the suppressed room, t the reading, stale the stale time.
+-- The provider's cleanup: what it answers, and what it leaves in both rooms. a and b are the absolute and the suppressed room, t the reading, stale the
+-- stale time.
 -- Assumes nothing.
 use mathlib.Core.Path.{_≡_}
 use mathlib.Core.Bool.{cond}
 use mathlib.Core.List.{List}
 use Prim.Native.Nat.{ℕ, min}
 use lib.Dec.{eqb}
-use Rattle.common.specs.declared.answers.DoneAnswer.{DoneAnswer}
-use Rattle.common.specs.declared.answers.DoneAnswer.the-variants.{Done, Refused}
-use Rattle.common.specs.declared.settings.Settings.{Settings}
-use Rattle.judge.specs.declared.RoomKind.the-variants.{Absolute, Suppressed}
+use Rattle.answers.specs.declared.DoneAnswer.{DoneAnswer}
+use Rattle.answers.specs.declared.DoneAnswer.the-variants.{Done, Refused}
+use Rattle.settings.specs.declared.Settings.{Settings}
+use Rattle.rules.specs.declared.RoomKind.the-variants.{Absolute, Suppressed}
 use Rattle.cleanup.specs.Cleanup.{cleaned, refusal}
 
 -- the lower of two refusals, where 0 is none

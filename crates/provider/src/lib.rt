@@ -1,9 +1,9 @@
 // What the provider does with both rooms at once: its cleanup, which judges both before it writes in either.
 ghost use mathlib.Core.Path.{_≡_};
 ghost use Rattle.provider.specs.Provider.{lowest, refusalOfBoth, cleanup, Told};
-use common::DoneAnswer;
-use common::Settings;
-use judge::RoomKind;
+use answers::DoneAnswer;
+use rules::RoomKind;
+use settings::Settings;
 
 // The lower of two refusals, where 0 is none.
 fn lowest(m: u64, n: u64) -> u64
@@ -38,7 +38,8 @@ pub fn cleanup(
     reading: u64,
     stale: u64,
 ) -> DoneAnswer
-    ensures { λ r. ⌜ Told (cleanup settings (now (absolute .entry)) (now (suppressed .entry)) reading stale) r (now (absolute .exit)) (now (suppressed .exit)) ⌝ }
+    ensures { λ r. ⌜ Told (cleanup settings (now (absolute .entry)) (now (suppressed .entry)) reading stale) r (now (absolute .exit))
+        (now (suppressed .exit)) ⌝ }
 {
     let code = judge_both(settings, absolute, suppressed, reading);
     if code != 0 {

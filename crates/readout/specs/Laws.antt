@@ -10,10 +10,10 @@ use lib.Dec.{ltb, eqb}
 use borrow.Author.Tests.{le-ltb, lt-ltb, ltb-true, ltb-false, eqb-true}
 use Rattle.base.specs.Decides.{and-true}
 use Rattle.common.specs.Refusals.{first}
-use Rattle.common.specs.Settings.{windowIn, faults}
-use Rattle.common.specs.declared.settings.Settings.{Settings}
-use Rattle.history.specs.Sweep.{passOf}
-use Rattle.judge.specs.declared.RoomKind.{RoomKind}
+use Rattle.settings.specs.Settings.{windowIn, faults}
+use Rattle.settings.specs.declared.Settings.{Settings}
+use Rattle.sweep.specs.Sweep.{passOf}
+use Rattle.rules.specs.declared.RoomKind.{RoomKind}
 use Rattle.judge.specs.declared.Judged.{Judged}
 use Rattle.judge.specs.declared.Slot.{Slot}
 use Rattle.judge.specs.Sound.{hasSeries, rightUse, soundSeries, soundSlot, addressed, soundAt}
@@ -35,7 +35,8 @@ use Rattle.readout.specs.ReadOut.{refusal, bucketsOf, readOut, Shown, sh
 found-path : {x y : Found} → x .code ≡ y .code → x .slot ≡ y .slot → x .count ≡ y .count → x ≡ y
 found-path p q s = λ i. record { code = p i; slot = q i; count = s i }
 
-plan-path : {r r′ : ReadOutAnswer} {at n n′ : ℕ} → r ≡ r′ → n ≡ n′ → _≡_ {A = Plan} (record { answer = r; slot = at; fitting = n }) (record { answer = r′; slot = at; fitting = n′ })
+plan-path : {r r′ : ReadOutAnswer} {at n n′ : ℕ} → r ≡ r′ → n ≡ n′ →
+    _≡_ {A = Plan} (record { answer = r; slot = at; fitting = n }) (record { answer = r′; slot = at; fitting = n′ })
 plan-path {at = at} p q = λ i. record { answer = p i; slot = at; fitting = q i }
 
 module _ (kind : RoomKind) (s : Settings) (w key : List ℕ) where
@@ -47,7 +48,8 @@ module _ (kind : RoomKind) (s : Settings) (w key : List ℕ) where
   -- ---- the slot of a call that is not refused
   module _ (p : Passed kind s w (lastOf w) key) where
     -- a series that is there is sound
-    series-sound : addressed w key < slotsOf w → hasSeries (useOf w (addressed w key)) ≡ true → soundBuckets (ringOf w) (bodyOf w (addressed w key)) (lastOf w) ≡ true
+    series-sound : addressed w key < slotsOf w → hasSeries (useOf w (addressed w key)) ≡ true →
+        soundBuckets (ringOf w) (bodyOf w (addressed w key)) (lastOf w) ≡ true
     unfolding soundAt soundSlot soundSeries
     series-sound h e =
         let at = addressed w key in
@@ -61,7 +63,8 @@ module _ (kind : RoomKind) (s : Settings) (w key : List ℕ) where
     slot-at : slotOf (windowIn s) w (lastOf w) (addressed w key) .at ≡ addressed w key
     slot-at = addressed-at w key s _ (record { room = p .room; reading = lastOf w; is = refl })
 
-    slot-count : (x y : Bool) → ltb (addressed w key) (slotsOf w) ≡ x → hasSeries (useOf w (addressed w key)) ≡ y → slotOf (windowIn s) w (lastOf w) (addressed w key) .pass .buckets ≡ length (bucketsOf w key)
+    slot-count : (x y : Bool) → ltb (addressed w key) (slotsOf w) ≡ x → hasSeries (useOf w (addressed w key)) ≡ y →
+        slotOf (windowIn s) w (lastOf w) (addressed w key) .pass .buckets ≡ length (bucketsOf w key)
     unfolding slotOf opened passOf bucketsOf
     slot-count false y e f = rw e
     slot-count true false e f = rw (e, f)
@@ -79,7 +82,8 @@ module _ (kind : RoomKind) (s : Settings) (w key : List ℕ) where
   judged-count true e = rw (number, e) (slot-count (passed kind s w (lastOf w) key (number ∙ eqb-true _ _ e)) _ _ refl refl)
   judged-count false e = rw (number, e)
 
-  pub found-is : (t : ℕ) → t ≡ lastOf w → (j : Judged) → j ≡ judged kind s w t key → record { code = j .code; slot = j .slot .at; count = j .slot .pass .buckets } ≡ found kind s w key
+  pub found-is : (t : ℕ) → t ≡ lastOf w → (j : Judged) → j ≡ judged kind s w t key →
+      record { code = j .code; slot = j .slot .at; count = j .slot .pass .buckets } ≡ found kind s w key
   unfolding judged found shown
   found-is t q j e =
       let f : j ≡ judged kind s w (lastOf w) key = e ∙ ap (λ (n : ℕ). judged kind s w n key) q in
@@ -100,11 +104,17 @@ module _ (kind : RoomKind) (s : Settings) (w key : List ℕ) where
   readable true true true e f g h =
       let p = passed kind s w (lastOf w) key (number ∙ eqb-true _ _ e) in
       let l = ltb-true (addressed w key) (slotsOf w) f in
-      rw (e, f, g) (record { readable = record { room = p .room; inside = l; shape = sound-true (ringOf w) (bodyOf w (addressed w key)) (lastOf w) (series-sound p l g) .shape }; view = refl })
+      rw (e, f, g) (record {
+        readable =
+            record { room = p .room; inside = l; shape = sound-true (ringOf w) (bodyOf w (addressed w key)) (lastOf w) (series-sound p l g) .shape };
+        view =
+            refl;
+      })
 
   -- ---- what `decide` says
 
-  pub plan-is : (x : Found) → x ≡ found kind s w key → (r : ReadOutAnswer) → r ≡ answerOf x → (n m : ℕ) → m ≡ min (x .count) n → record { answer = r; slot = x .slot; fitting = m } ≡ planOf (found kind s w key) n
+  pub plan-is : (x : Found) → x ≡ found kind s w key → (r : ReadOutAnswer) → r ≡ answerOf x → (n m : ℕ) → m ≡ min (x .count) n →
+      record { answer = r; slot = x .slot; fitting = m } ≡ planOf (found kind s w key) n
   plan-is x e r f n m g = plan-path f g ∙ ap (λ (y : Found). planOf y n) e
 
   -- ---- the row, place by place
@@ -131,7 +141,8 @@ module _ (kind : RoomKind) (s : Settings) (w key : List ℕ) where
     pub row-more : (i : ℕ) (x : Bucket) → i < fitting → x ≡ getD (buckets (ringOf w) (bodyOf w (found kind s w key .slot))) i noBucket →
         set (rowAt kind s w key row i) i x ≡ rowAt kind s w key row (i + 1)
     row-more i x h e =
-        upTo-more (shown kind s w key) row i x noBucket (e ∙ ap (λ (xs : List Bucket). getD xs i noBucket) (reads i h .view)) (omega (arith, count-is)) (omega arith)
+        upTo-more (shown kind s w key) row i x noBucket (e ∙ ap (λ (xs : List Bucket). getD xs i noBucket) (reads i h .view)) (omega (arith, count-is))
+        (omega arith)
 
     -- all that fit are the row to leave
     shown-as : (b : Bool) → eqb (refusal kind s w key) 0 ≡ b → Shown (readOut kind s w key row) (answerOf (found kind s w key)) (over (shown kind s w key) row)

@@ -7,9 +7,9 @@ use Prim.Native.Nat.{ℕ, _<_, min}
 use lib.ListN.{length}
 use lib.Dec.{ltb, eqb}
 use Rattle.common.specs.Refusals.{first}
-use Rattle.common.specs.Settings.{faults}
-use Rattle.common.specs.declared.settings.Settings.{Settings}
-use Rattle.judge.specs.declared.RoomKind.{RoomKind}
+use Rattle.settings.specs.Settings.{faults}
+use Rattle.settings.specs.declared.Settings.{Settings}
+use Rattle.rules.specs.declared.RoomKind.{RoomKind}
 use Rattle.judge.specs.Sound.{hasSeries, addressed, soundAt}
 use Rattle.ring.specs.declared.Bucket.{Bucket}
 use Rattle.ring.specs.Ring.{buckets, Shape}

@@ -6,9 +6,9 @@ ghost use lib.ListN.{getD};
 ghost use Rattle.ring.specs.Ring.{noBucket, buckets};
 ghost use Rattle.room.specs.Room.{ringOf, lastOf, bodyOf};
 ghost use Rattle.readout.specs.ReadOut.{Readable, found, answerOf, planOf, readOut, Shown};
-use common::Settings;
-use judge::RoomKind;
 use ring::Bucket;
+use rules::RoomKind;
+use settings::Settings;
 
 // How many buckets the key's ring has, or the number of the refusal.
 pub enum ReadOutAnswer {
@@ -34,10 +34,10 @@ pub struct Plan {
 fn last_reading(room: &[u64]) -> u64
     ensures { λ x. ⌜ x ≡ lastOf (now (room .entry)) ⌝ }
 {
-    if room.len() <= room::LAST {
+    if room.len() <= layout::LAST {
         return 0;
     }
-    room[room::LAST]
+    room[layout::LAST]
 }
 
 // The read-out has no reading: it judges at the room's own last one, so that refusal 6 is never met.
@@ -59,9 +59,9 @@ pub fn bucket_at(room: &[u64], slot: usize, i: usize) -> Bucket
     requires { ⌜ Readable (now room) slot ⌝ }
     ensures { λ x. ⌜ x ≡ getD (buckets (ringOf (now (room .entry))) (bodyOf (now (room .entry)) slot)) i noBucket ⌝ }
 {
-    let ring = room[room::RING] as usize;
+    let ring = room[layout::RING] as usize;
     let start = room::start(room, slot);
-    let end = start + (room::FIXED + room::CELL * ring);
+    let end = start + (layout::FIXED + layout::CELL * ring);
     ring::nth_or_none(&room[start..end], ring, i)
 }
 

@@ -3,23 +3,23 @@
 // came out, and each call that did not is shown with what was found.
 ghost use Prim.Native.Nat.{_+_, _≤_};
 ghost use lib.ListN.{length};
+use answers::DeleteAnswer;
+use answers::DoneAnswer;
+use answers::FactorAnswer;
+use answers::HistoryPreservation;
+use answers::HistoryUpdateMode;
+use answers::OldRateAnswer;
+use answers::RateLimitDecision;
+use answers::SetAnswer;
+use answers::SnapshotAnswer;
+use answers::TotalAnswer;
 use common::BucketSize;
-use common::DeleteAnswer;
-use common::DoneAnswer;
-use common::FactorAnswer;
-use common::HistoryPreservation;
-use common::HistoryUpdateMode;
-use common::OldRateAnswer;
 use common::RateLimit;
 use common::RateLimitComparator;
-use common::RateLimitDecision;
-use common::SetAnswer;
-use common::Settings;
-use common::SnapshotAnswer;
 use common::SuppressionFactorCachePeriod;
-use common::TotalAnswer;
 use common::WindowSize;
-use judge::RoomKind;
+use rules::RoomKind;
+use settings::Settings;
 
 // ---- answers as the list has them: a kind and three numbers; a refusal is kind 0 with its number
 
@@ -498,7 +498,7 @@ fn room_words(slots: u64, ring: u64) -> usize {
     }
     let n = slots as usize;
     let r = ring as usize;
-    room::HEADER + room::ENTRY * n + n * (room::FIXED + room::CELL * r)
+    layout::HEADER + layout::ENTRY * n + n * (layout::FIXED + layout::CELL * r)
 }
 
 fn make_room(w: &mut [u64], long: usize, slots: u64, ring: u64) -> bool {

@@ -1,6 +1,6 @@
 -- The laws of directory entries: free and held slots, what a word of a key may be, freeing slots one by one.
 -- Assumes nothing.
-use mathlib.Core.Path.{_≡_, refl, sym, ap, subst, _∙_}
+use mathlib.Core.Path.{_≡_, refl, sym, ap, _∙_}
 use mathlib.Core.Bool.{true, false}
 use mathlib.Core.List.{List}
 use mathlib.Core.Logic.{_≢_}
@@ -14,8 +14,9 @@ use lib.Dec.{ltb, eqb}
 use borrow.Author.Tests.{lt-ltb, ltb-true, eq-eqb, ne-eqb, eqb-true}
 use Rattle.base.specs.Decides.{both-ways}
 use Rattle.room.specs.declared.Key.{Key}
-use Rattle.room.specs.Room.{slotsWord, ringWord, slotsOf, entryOf, useOf, keyAt, sameKey, within, free, has, Room, withUse, freed}
-use Rattle.room.specs.Laws.{room-same}
+use Rattle.room.specs.Room.{slotsOf, entryOf, useOf, keyAt, sameKey, unusedZero, free, has, Room, Directory, withUse, freed}
+use Rattle.layout.specs.Layout.{slotsWord, ringWord}
+use Rattle.room.specs.Laws.{room-same, directory-same}
 
 -- ---- equal keys
 
@@ -47,24 +48,24 @@ has-used w k s h = rw (free-no w s h)
 
 -- ---- a word of a key: its bytes past the key's end are 0
 
-pub within-none : (n i x : ℕ) → n ≤ i → eqb x 0 ≡ within n i x
-unfolding within
-within-none n i x h =
+pub unused-none : (n i x : ℕ) → n ≤ i → eqb x 0 ≡ unusedZero n i x
+unfolding unusedZero
+unused-none n i x h =
     let e : n - i ≡ 0 = omega arith in
     let m : min 8 (n - i) ≡ 0 = ap (min 8) e in
     let p : 256 ^ min 8 (n - i) ≡ 1 = ap (λ (z : ℕ). 256 ^ z) m in
     both-ways (eqb x 0) (ltb x (256 ^ min 8 (n - i))) (λ q. lt-ltb x (256 ^ min 8 (n - i)) (omega (arith, eqb-true x 0 q, p)))
     (λ q. eq-eqb x 0 (omega (arith, ltb-true x (256 ^ min 8 (n - i)) q, p)))
 
-pub within-all : (n i x : ℕ) → 8 ≤ n - i → x < 18446744073709551616 → true ≡ within n i x
-unfolding within
-within-all n i x h l =
+pub unused-all : (n i x : ℕ) → 8 ≤ n - i → x < 18446744073709551616 → true ≡ unusedZero n i x
+unfolding unusedZero
+unused-all n i x h l =
     let p : 256 ^ min 8 (n - i) ≡ 18446744073709551616 = ap (λ (z : ℕ). 256 ^ z) (min-eq-left h) in
     sym (lt-ltb x (256 ^ min 8 (n - i)) (omega (arith, p)))
 
-pub within-some : (n i x y : ℕ) → n - i < 8 → y ≡ 256 ^ (n - i) → ltb x y ≡ within n i x
-unfolding within
-within-some n i x y h e = ap (ltb x) (e ∙ ap (λ (z : ℕ). 256 ^ z) (sym (min-eq-right (le-of-lt h))))
+pub unused-some : (n i x y : ℕ) → n - i < 8 → y ≡ 256 ^ (n - i) → ltb x y ≡ unusedZero n i x
+unfolding unusedZero
+unused-some n i x y h e = ap (ltb x) (e ∙ ap (λ (z : ℕ). 256 ^ z) (sym (min-eq-right (le-of-lt h))))
 
 -- a power by its turns
 pub power-fits : (n i : ℕ) → i < n → n < 8 → 256 ^ i ≤ 281474976710656
@@ -94,9 +95,10 @@ pub freed-slots : (w : List ℕ) (n : ℕ) → slotsOf (freed w n) ≡ slotsOf w
 freed-slots w n = freed-other w n slotsWord (λ i l. omega arith)
 
 -- a turn of the loop that frees: what its store asks for, and what it leaves
-pub freed-ready : (w v : List ℕ) (n : ℕ) → v ≡ freed w n → Room w → n < slotsOf w → Room v × (n < slotsOf v)
+pub freed-ready : (w v : List ℕ) (n : ℕ) → v ≡ freed w n → Directory w → n < slotsOf w → Directory v × (n < slotsOf v)
 freed-ready w v n e o h =
-    (subst (λ (y : List ℕ). Room y) (sym e) (freed-room w n o), omega (arith, freed-slots w n, ap (λ (y : List ℕ). slotsOf y) e))
+    let s : slotsOf v ≡ slotsOf w = ap (λ (y : List ℕ). slotsOf y) e ∙ freed-slots w n in
+    (directory-same w v s (ap length e ∙ freed-length w n) o, omega arith)
 
 pub freed-turn : (w v u : List ℕ) (n : ℕ) → v ≡ freed w n → u ≡ withUse v n 0 → u ≡ freed w (n + 1)
 unfolding freed

@@ -10,48 +10,11 @@ use lib.Dec.{leb, ltb, eqb}
 use Rattle.base.specs.Writes.{writes}
 use Rattle.base.specs.Splice.{splice}
 use Rattle.base.specs.Seek.{seek}
+use Rattle.layout.specs.Layout.{slotsWord, ringWord, lastWord, headerWords, lenWord, aWord, bWord, cWord, dWord, entryWords, freeUse, mostSlots, mostRing}
+use Rattle.layout.specs.Layout.{longestKey, sizeOf}
 use Rattle.room.specs.declared.Key.{Key}
 
--- ---- where words stand (the code's constants are these)
-
--- the header's words
-abbrev pub slotsWord : ℕ
-slotsWord = 0
-
-abbrev pub ringWord : ℕ
-ringWord = 1
-
-abbrev pub lastWord : ℕ
-lastWord = 2
-
--- an entry's words behind the use, which is its first
-abbrev pub lenWord : ℕ
-lenWord = 1
-
-abbrev pub aWord : ℕ
-aWord = 2
-
-abbrev pub bWord : ℕ
-bWord = 3
-
-abbrev pub cWord : ℕ
-cWord = 4
-
-abbrev pub dWord : ℕ
-dWord = 5
-
--- how many words: the header, an entry, what stands before a body's cells, and a cell
-abbrev pub headerWords : ℕ
-headerWords = 3
-
-abbrev pub entryWords : ℕ
-entryWords = 6
-
-abbrev pub fixedWords : ℕ
-fixedWords = 7
-
-abbrev pub cellWords : ℕ
-cellWords = 3
+-- ---- the header, and where entries and bodies stand
 
 abbrev pub slotsOf : List ℕ → ℕ
 slotsOf w = getD w slotsWord 0
@@ -62,35 +25,32 @@ ringOf w = getD w ringWord 0
 abbrev pub lastOf : List ℕ → ℕ
 lastOf w = getD w lastWord 0
 
--- how many words a body has, and all bodies with what stands before them
-abbrev pub size : ℕ → ℕ
-size r = fixedWords + cellWords * r
-
+-- all words of a room
 abbrev pub lengthOf : ℕ → ℕ → ℕ
-lengthOf n r = headerWords + entryWords * n + n * size r
+lengthOf n r = headerWords + entryWords * n + n * sizeOf r
 
 -- where slot s's entry starts; where its body starts and ends
 abbrev pub entryOf : ℕ → ℕ
 entryOf s = headerWords + entryWords * s
 
 abbrev pub startOf : List ℕ → ℕ → ℕ
-startOf w s = headerWords + entryWords * slotsOf w + s * size (ringOf w)
+startOf w s = headerWords + entryWords * slotsOf w + s * sizeOf (ringOf w)
 
 abbrev pub endOf : List ℕ → ℕ → ℕ
-endOf w s = startOf w s + size (ringOf w)
+endOf w s = startOf w s + sizeOf (ringOf w)
 
 -- ---- lengths
 
 -- n slots with rings of r are in range, and need l words
 unfoldable pub fits : ℕ → ℕ → ℕ → Bool
-fits n r l = leb 1 n && (leb n 64 && (leb 1 r && (leb r 512 && eqb l (lengthOf n r))))
+fits n r l = leb 1 n && (leb n mostSlots && (leb 1 r && (leb r mostRing && eqb l (lengthOf n r))))
 
 -- the same as facts
 pub record Lengths (n r l : ℕ) : Type 0 where
   pub one : 1 ≤ n
-  pub few : n ≤ 64
+  pub few : n ≤ mostSlots
   pub some : 1 ≤ r
-  pub small : r ≤ 512
+  pub small : r ≤ mostRing
   pub long : l ≡ lengthOf n r
 
 -- a room's words are as many as its header says
@@ -100,9 +60,14 @@ sized w = fits (slotsOf w) (ringOf w) (length w)
 abbrev pub Room : List ℕ → Type 0
 Room w = Lengths (slotsOf w) (ringOf w) (length w)
 
+-- its header and entries are there, whatever stands behind them
+pub record Directory (w : List ℕ) : Type 0 where
+  pub few : slotsOf w ≤ mostSlots
+  pub long : headerWords + entryWords * slotsOf w ≤ length w
+
 -- an empty room: last reading 0, every slot free, every other word 0
 unfoldable pub empty : ℕ → ℕ → List ℕ
-empty n r = n ∷ r ∷ 0 ∷ replicate (entryWords * n + n * size r) 0
+empty n r = n ∷ r ∷ 0 ∷ replicate (entryWords * n + n * sizeOf r) 0
 
 -- making one in lent words: said yes exactly where they fit; else every word stays
 pub record Made (n r : ℕ) (w : List ℕ) (x : Bool) (v : List ℕ) : Type 0 where
@@ -124,12 +89,13 @@ unfoldable pub sameKey : Key → Key → Bool
 sameKey k l = eqb (k .len) (l .len) && (eqb (k .a) (l .a) && (eqb (k .b) (l .b) && (eqb (k .c) (l .c) && eqb (k .d) (l .d))))
 
 -- a word with the bytes from i on, of a key of n bytes, is 0 in the bytes that the key does not have
-unfoldable pub within : ℕ → ℕ → ℕ → Bool
-within n i x = ltb x (256 ^ min 8 (n - i))
+unfoldable pub unusedZero : ℕ → ℕ → ℕ → Bool
+unusedZero n i x = ltb x (256 ^ min 8 (n - i))
 
 -- at most 32 bytes, and unused ones 0
 unfoldable pub keyFits : Key → Bool
-keyFits k = leb (k .len) 32 && (within (k .len) 0 (k .a) && (within (k .len) 8 (k .b) && (within (k .len) 16 (k .c) && within (k .len) 24 (k .d))))
+keyFits k = leb (k .len) longestKey &&
+    (unusedZero (k .len) 0 (k .a) && (unusedZero (k .len) 8 (k .b) && (unusedZero (k .len) 16 (k .c) && unusedZero (k .len) 24 (k .d))))
 
 -- ---- entries
 
@@ -147,7 +113,7 @@ keyAt w s = record {
 }
 
 unfoldable pub free : List ℕ → ℕ → Bool
-free w s = eqb (useOf w s) 0
+free w s = eqb (useOf w s) freeUse
 
 -- slot s is in use with key k
 unfoldable pub has : List ℕ → Key → ℕ → Bool
@@ -168,10 +134,10 @@ vacant w = seek (free w) 0 (slotsOf w)
 
 -- the body that starts at a, and the room with b in its place
 unfoldable pub bodyFrom : List ℕ → ℕ → List ℕ
-bodyFrom w a = take (size (ringOf w)) (drop a w)
+bodyFrom w a = take (sizeOf (ringOf w)) (drop a w)
 
 abbrev pub withFrom : List ℕ → ℕ → List ℕ → List ℕ
-withFrom w a b = splice a (a + size (ringOf w)) w b
+withFrom w a b = splice a (a + sizeOf (ringOf w)) w b
 
 abbrev pub bodyOf : List ℕ → ℕ → List ℕ
 bodyOf w s = bodyFrom w (startOf w s)
@@ -179,7 +145,7 @@ bodyOf w s = bodyFrom w (startOf w s)
 -- where a body starts, and that it ends within the room
 pub record Starts (w : List ℕ) (s x : ℕ) : Type 0 where
   pub at : x ≡ startOf w s
-  pub inside : x + size (ringOf w) ≤ length w
+  pub inside : x + sizeOf (ringOf w) ≤ length w
 
 -- ---- the room with a change
 
@@ -190,7 +156,8 @@ withBody w s b = withFrom w (startOf w s) b
 unfoldable pub entered : List ℕ → ℕ → ℕ → Key → List ℕ
 entered w s u k =
     writes w
-    ((entryOf s, u) ∷ (entryOf s + lenWord, k .len) ∷ (entryOf s + aWord, k .a) ∷ (entryOf s + bWord, k .b) ∷ (entryOf s + cWord, k .c) ∷ (entryOf s + dWord, k .d) ∷ [])
+    ((entryOf s, u) ∷ (entryOf s + lenWord, k .len) ∷ (entryOf s + aWord, k .a) ∷ (entryOf s + bWord, k .b) ∷ (entryOf s + cWord, k .c) ∷
+    (entryOf s + dWord, k .d) ∷ [])
 
 -- use u alone: 0 frees the slot
 unfoldable pub withUse : List ℕ → ℕ → ℕ → List ℕ
@@ -202,7 +169,7 @@ withReading w t = set w lastWord t
 -- the first n slots freed; all of them
 unfoldable pub freed : List ℕ → ℕ → List ℕ
 freed w zero = w
-freed w (suc n) = withUse (freed w n) n 0
+freed w (suc n) = withUse (freed w n) n freeUse
 
 abbrev pub cleared : List ℕ → List ℕ
 cleared w = freed w (slotsOf w)

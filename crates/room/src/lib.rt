@@ -3,34 +3,8 @@ ghost use mathlib.Core.Path.{_≡_};
 ghost use Prim.Native.Nat.{_+_, _*_, _^_, _<_, _≤_};
 ghost use lib.ListN.{length, getD, replicate};
 ghost use Rattle.base.specs.Decides.{Decides};
-ghost use Rattle.room.specs.Room.{Room, Lengths, Made, Starts, slotsOf, ringOf, size, startOf, useOf, keyAt, pack, keyOf, sameKey, within, keyFits, keySound, free, has, find, vacant, entered, withUse, withReading, cleared};
-
-// The header's words.
-pub const SLOTS: usize = 0;
-
-pub const RING: usize = 1;
-
-pub const LAST: usize = 2;
-
-// A directory entry's words behind the use, which is its first.
-const LEN: usize = 1;
-
-const A: usize = 2;
-
-const B: usize = 3;
-
-const C: usize = 4;
-
-const D: usize = 5;
-
-// How many words: the header, a directory entry, what stands before a body's cells, and a cell.
-pub const HEADER: usize = 3;
-
-pub const ENTRY: usize = 6;
-
-pub const FIXED: usize = 7;
-
-pub const CELL: usize = 3;
+ghost use Rattle.room.specs.Room.{Room, Directory, Lengths, Made, Starts, slotsOf, ringOf, startOf, useOf, keyAt, pack, keyOf, sameKey, unusedZero};
+ghost use Rattle.room.specs.Room.{keyFits, keySound, free, has, find, vacant, entered, withUse, withReading, cleared};
 
 // A key as the directory has it: its length, and its bytes in four words, the first one lowest.
 pub struct Key {
@@ -48,18 +22,18 @@ fn fits(slots: u64, ring: u64, len: usize) -> bool
     if slots < 1 {
         return false;
     }
-    if 64 < slots {
+    if layout::MOST_SLOTS < slots {
         return false;
     }
     if ring < 1 {
         return false;
     }
-    if 512 < ring {
+    if layout::MOST_RING < ring {
         return false;
     }
     let n = slots as usize;
     let r = ring as usize;
-    if len != HEADER + ENTRY * n + n * (FIXED + CELL * r) {
+    if len != layout::HEADER + layout::ENTRY * n + n * (layout::FIXED + layout::CELL * r) {
         return false;
     }
     true
@@ -69,10 +43,10 @@ fn fits(slots: u64, ring: u64, len: usize) -> bool
 pub fn sized(w: &[u64]) -> bool
     ensures { λ x. ⌜ Decides x (Room (now (w .entry))) ⌝ }
 {
-    if w.len() < HEADER {
+    if w.len() < layout::HEADER {
         return false;
     }
-    fits(w[SLOTS], w[RING], w.len())
+    fits(w[layout::SLOTS], w[layout::RING], w.len())
 }
 
 // Sets every word to 0.
@@ -94,8 +68,8 @@ pub fn make(w: &mut [u64], slots: u64, ring: u64) -> bool
         return false;
     }
     zero(w);
-    w[SLOTS] = slots;
-    w[RING] = ring;
+    w[layout::SLOTS] = slots;
+    w[layout::RING] = ring;
     true
 }
 
@@ -104,9 +78,9 @@ pub fn start(w: &[u64], s: usize) -> usize
     requires { ⌜ Room (now w) × (s < slotsOf (now w)) ⌝ }
     ensures { λ x. ⌜ Starts (now (w .entry)) s x ⌝ }
 {
-    let slots = w[SLOTS] as usize;
-    let r = w[RING] as usize;
-    HEADER + ENTRY * slots + s * (FIXED + CELL * r)
+    let slots = w[layout::SLOTS] as usize;
+    let r = w[layout::RING] as usize;
+    layout::HEADER + layout::ENTRY * slots + s * (layout::FIXED + layout::CELL * r)
 }
 
 // Byte `i` of a key, or 0 past its end.
@@ -157,8 +131,8 @@ fn top(n: u64) -> u64
 }
 
 // Whether a word with a key's bytes from `i` on is 0 in the bytes that a key of `len` bytes does not have.
-fn within(len: u64, i: u64, word: u64) -> bool
-    ensures { λ x. ⌜ x ≡ within len i word ⌝ }
+fn is_unused_zero(len: u64, i: u64, word: u64) -> bool
+    ensures { λ x. ⌜ x ≡ unusedZero len i word ⌝ }
 {
     if len <= i {
         return word == 0;
@@ -171,39 +145,39 @@ fn within(len: u64, i: u64, word: u64) -> bool
 }
 
 fn key_at(w: &[u64], s: usize) -> Key
-    requires { ⌜ Room (now w) × (s < slotsOf (now w)) ⌝ }
+    requires { ⌜ Directory (now w) × (s < slotsOf (now w)) ⌝ }
     ensures { λ x. ⌜ x ≡ keyAt (now (w .entry)) s ⌝ }
 {
-    let e = HEADER + ENTRY * s;
+    let e = layout::HEADER + layout::ENTRY * s;
     Key {
-        len: w[e + LEN],
-        a: w[e + A],
-        b: w[e + B],
-        c: w[e + C],
-        d: w[e + D],
+        len: w[e + layout::KEY_LEN],
+        a: w[e + layout::KEY_A],
+        b: w[e + layout::KEY_B],
+        c: w[e + layout::KEY_C],
+        d: w[e + layout::KEY_D],
     }
 }
 
 // Whether slot `s`'s key has at most 32 bytes and the rest of its words is 0.
 pub fn key_fits(w: &[u64], s: usize) -> bool
-    requires { ⌜ Room (now w) × (s < slotsOf (now w)) ⌝ }
+    requires { ⌜ Directory (now w) × (s < slotsOf (now w)) ⌝ }
     ensures { λ x. ⌜ x ≡ keySound (now (w .entry)) s ⌝ }
 {
     let k = key_at(w, s);
     let len = k.len;
-    if 32 < len {
+    if layout::LONGEST_KEY < len {
         return false;
     }
-    if !within(len, 0, k.a) {
+    if !is_unused_zero(len, 0, k.a) {
         return false;
     }
-    if !within(len, 8, k.b) {
+    if !is_unused_zero(len, 8, k.b) {
         return false;
     }
-    if !within(len, 16, k.c) {
+    if !is_unused_zero(len, 16, k.c) {
         return false;
     }
-    within(len, 24, k.d)
+    is_unused_zero(len, 24, k.d)
 }
 
 fn same_key(k: Key, l: Key) -> bool
@@ -226,18 +200,18 @@ fn same_key(k: Key, l: Key) -> bool
 
 // Slot `slot`'s use: 0 where it is free.
 pub fn use_of(w: &[u64], slot: usize) -> u64
-    requires { ⌜ Room (now w) × (slot < slotsOf (now w)) ⌝ }
+    requires { ⌜ Directory (now w) × (slot < slotsOf (now w)) ⌝ }
     ensures { λ x. ⌜ x ≡ useOf (now (w .entry)) slot ⌝ }
 {
-    w[HEADER + ENTRY * slot]
+    w[layout::HEADER + layout::ENTRY * slot]
 }
 
 // Whether slot `s` is in use with key `k`.
 fn holds(w: &[u64], k: Key, s: usize) -> bool
-    requires { ⌜ Room (now w) × (s < slotsOf (now w)) ⌝ }
+    requires { ⌜ Directory (now w) × (s < slotsOf (now w)) ⌝ }
     ensures { λ x. ⌜ x ≡ has (now (w .entry)) k s ⌝ }
 {
-    if use_of(w, s) == 0 {
+    if use_of(w, s) == layout::FREE {
         return false;
     }
     same_key(key_at(w, s), k)
@@ -245,10 +219,10 @@ fn holds(w: &[u64], k: Key, s: usize) -> bool
 
 // The lowest slot with key `k`, or the number of slots.
 pub fn find(w: &[u64], k: Key) -> usize
-    requires { ⌜ Room (now w) ⌝ }
+    requires { ⌜ Directory (now w) ⌝ }
     ensures { λ x. ⌜ x ≡ find (now (w .entry)) k ⌝ }
 {
-    let n = w[SLOTS] as usize;
+    let n = w[layout::SLOTS] as usize;
     let mut slot = 0;
     while slot < n {
         if holds(w, k, slot) {
@@ -261,13 +235,13 @@ pub fn find(w: &[u64], k: Key) -> usize
 
 // The lowest free slot, or the number of slots.
 pub fn vacant(w: &[u64]) -> usize
-    requires { ⌜ Room (now w) ⌝ }
+    requires { ⌜ Directory (now w) ⌝ }
     ensures { λ x. ⌜ x ≡ vacant (now (w .entry)) ⌝ }
 {
-    let n = w[SLOTS] as usize;
+    let n = w[layout::SLOTS] as usize;
     let mut spare = 0;
     while spare < n {
-        if use_of(w, spare) == 0 {
+        if use_of(w, spare) == layout::FREE {
             return spare;
         }
         spare += 1;
@@ -277,43 +251,43 @@ pub fn vacant(w: &[u64]) -> usize
 
 // Writes slot `s`'s entry: its use and its key.
 pub fn enter(w: &mut [u64], s: usize, u: u64, k: Key)
-    requires { ⌜ Room (now w) × (s < slotsOf (now w)) ⌝ }
+    requires { ⌜ Directory (now w) × (s < slotsOf (now w)) ⌝ }
     ensures { λ _. ⌜ now (w .exit) ≡ entered (now (w .entry)) s u k ⌝ }
 {
-    let e = HEADER + ENTRY * s;
+    let e = layout::HEADER + layout::ENTRY * s;
     w[e] = u;
-    w[e + LEN] = k.len;
-    w[e + A] = k.a;
-    w[e + B] = k.b;
-    w[e + C] = k.c;
-    w[e + D] = k.d;
+    w[e + layout::KEY_LEN] = k.len;
+    w[e + layout::KEY_A] = k.a;
+    w[e + layout::KEY_B] = k.b;
+    w[e + layout::KEY_C] = k.c;
+    w[e + layout::KEY_D] = k.d;
 }
 
 // Writes slot `s`'s use alone: 0 frees it.
 pub fn set_use(w: &mut [u64], s: usize, u: u64)
-    requires { ⌜ Room (now w) × (s < slotsOf (now w)) ⌝ }
+    requires { ⌜ Directory (now w) × (s < slotsOf (now w)) ⌝ }
     ensures { λ _. ⌜ now (w .exit) ≡ withUse (now (w .entry)) s u ⌝ }
 {
-    w[HEADER + ENTRY * s] = u;
+    w[layout::HEADER + layout::ENTRY * s] = u;
 }
 
 // Writes the last reading.
 pub fn store_reading(w: &mut [u64], t: u64)
-    requires { ⌜ Room (now w) ⌝ }
+    requires { ⌜ Directory (now w) ⌝ }
     ensures { λ _. ⌜ now (w .exit) ≡ withReading (now (w .entry)) t ⌝ }
 {
-    w[LAST] = t;
+    w[layout::LAST] = t;
 }
 
 // Frees every slot, and changes no other word.
 pub fn clear(w: &mut [u64])
-    requires { ⌜ Room (now w) ⌝ }
+    requires { ⌜ Directory (now w) ⌝ }
     ensures { λ _. ⌜ now (w .exit) ≡ cleared (now (w .entry)) ⌝ }
 {
-    let n = w[SLOTS] as usize;
+    let n = w[layout::SLOTS] as usize;
     let mut s = 0;
     while s < n {
-        set_use(w, s, 0);
+        set_use(w, s, layout::FREE);
         s += 1;
     }
 }

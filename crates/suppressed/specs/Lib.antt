@@ -1,3 +1,5 @@
 pub mod Calls
+pub mod Opened
 pub mod Standing
+pub mod Seen
 pub mod Laws

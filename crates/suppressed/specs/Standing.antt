@@ -1,58 +1,59 @@
 -- What a call that passes refusals 1 to 7 knows of its key's slot x: where it is, its series, and its sums.
 -- Assumes nothing.
 use mathlib.Core.Path.{_≡_, refl, sym, ap, subst, _∙_}
-use mathlib.Core.Bool.{Bool, true, false, _&&_, _||_, cond, false≢true}
+use mathlib.Core.Bool.{Bool, true, false, not, _&&_, _||_, cond, false≢true}
 use mathlib.Core.List.{List, [], _∷_}
 use Prim.Native.Nat.{ℕ, suc, _+_, _-_, _^_, _≤_, _<_}
 use native.Mathlib.Decide.{decLt}
 use native.Mathlib.Omega.{arith}
 use lib.Dec.{ltb, leb, eqb}
 use lib.ListN.{length, drop, length-drop}
-use borrow.Author.Tests.{lt-ltb, le-ltb, ltb-true}
-use Rattle.common.specs.FactorLaws.{nothing-is}
-use Rattle.common.specs.Settings.{windowIn}
-use Rattle.common.specs.declared.settings.Settings.{Settings}
-use Rattle.history.specs.Measured.{newest-drop}
-use Rattle.history.specs.Rules.{windowTicks, over, within, ahead, lastSecond, newest, joins}
-use Rattle.history.specs.Sweep.{passOf, unsound}
-use Rattle.history.specs.declared.tally.Pass.{Pass}
+use borrow.Author.Tests.{lt-ltb, ltb-true, leb-false}
+use Rattle.common_laws.specs.FactorLaws.{nothing-is}
+use Rattle.settings.specs.Settings.{windowIn}
+use Rattle.settings.specs.declared.Settings.{Settings}
+use Rattle.sweep.specs.Measured.{newest-drop}
+use Rattle.rules.specs.Buckets.{windowTicks, older, recent, ahead, lastSecond, newest, joins}
+use Rattle.sweep.specs.Sweep.{passOf, unsound}
+use Rattle.sweep.specs.declared.tally.Pass.{Pass}
 use Rattle.ring.specs.declared.Bucket.{Bucket}
 use Rattle.ring.specs.Order.{fine-sums, fine-drop}
 use Rattle.ring.specs.Ring.{sumOf, countOf, counts, declineds, buckets}
 use Rattle.ring.specs.Sums.{sum-split}
 use Rattle.ring.specs.View.{view-length}
-use Rattle.room.specs.Room.{slotsOf, ringOf, lastOf, bodyOf}
-use Rattle.judge.specs.declared.RoomKind.the-variants as kind
+use Rattle.room.specs.Room.{slotsOf, ringOf, lastOf, bodyOf, vacant}
+use Rattle.rules.specs.declared.RoomKind.the-variants as kind
 use Rattle.judge.specs.declared.Slot.{Slot}
 use Rattle.judge.specs.Judge.{Passed, hasSlot, slotIn}
 use Rattle.judge.specs.Slot.{noSlot, pickPass, opened}
 use Rattle.judge.specs.Sound.{addressed}
 use Rattle.plan.specs.Known.{Found, Known, found, none, series-known, series-is, at-as}
-use Rattle.suppressed.specs.Calls.{unperceived}
-use Rattle.suppressed_rules.specs.Factor.{left}
-use Rattle.suppressed_edits.specs.Refusals.{joinsLeft}
+use Rattle.suppressed.specs.Opened.{unperceived}
+use Rattle.suppressed_opened.specs.Opened.{left}
+use Rattle.plan.specs.Plan.{placeOf, lacksAt}
 
 -- ---- the counts of the last second are among the live ones
 
-within-le : (w t : ℕ) (xs : List Bucket) → counts (within w t xs) ≤ counts xs
-unfolding within sumOf
+within-le : (w t : ℕ) (xs : List Bucket) → counts (recent w t xs) ≤ counts xs
+unfolding recent sumOf
 within-le w t [] = omega arith
-within-le w t (x ∷ xs) = go (over w t x) (within-le w t xs)
+within-le w t (x ∷ xs) = go (older w t x) (within-le w t xs)
   where
-    go : (o : Bool) → counts (within w t xs) ≤ counts xs → counts (cond o (within w t xs) (x ∷ within w t xs)) ≤ x .count + counts xs
+    go : (o : Bool) → counts (recent w t xs) ≤ counts xs → counts (cond o (recent w t xs) (x ∷ recent w t xs)) ≤ x .count + counts xs
     go true h = omega arith
     go false h = omega arith
 
-pub over-more : (v w t : ℕ) (x : Bucket) → v ≤ w → over w t x ≡ true → over v t x ≡ true
-unfolding over
+pub over-more : (v w t : ℕ) (x : Bucket) → v ≤ w → older w t x ≡ true → older v t x ≡ true
+unfolding older
 over-more v w t x h e = lt-ltb v (t - x .time) (omega (arith, ltb-true w (t - x .time) e))
 
-pub recent-le : (v w t : ℕ) (xs : List Bucket) → v ≤ w → counts (within v t xs) ≤ counts (drop (ahead w t xs) xs)
-unfolding within ahead
+pub recent-le : (v w t : ℕ) (xs : List Bucket) → v ≤ w → counts (recent v t xs) ≤ counts (drop (ahead w t xs) xs)
+unfolding recent ahead
 recent-le v w t [] h = omega arith
-recent-le v w t (x ∷ xs) h = go (over w t x) refl (recent-le v w t xs h)
+recent-le v w t (x ∷ xs) h = go (older w t x) refl (recent-le v w t xs h)
   where
-    go : (o : Bool) → over w t x ≡ o → counts (within v t xs) ≤ counts (drop (ahead w t xs) xs) → counts (cond (over v t x) (within v t xs) (x ∷ within v t xs)) ≤ counts (drop (cond o (suc (ahead w t xs)) 0) (x ∷ xs))
+    go : (o : Bool) → older w t x ≡ o → counts (recent v t xs) ≤ counts (drop (ahead w t xs) xs) →
+        counts (cond (older v t x) (recent v t xs) (x ∷ recent v t xs)) ≤ counts (drop (cond o (suc (ahead w t xs)) 0) (x ∷ xs))
     go true e i = rw (over-more v w t x h e) i
     go false e i = within-le v t (x ∷ xs)
 
@@ -89,26 +90,6 @@ module _ (s : Settings) (w : List ℕ) (t at : ℕ) (x : Slot) (k : Known kind.S
       let xs = buckets (ringOf w) (bodyOf w at) in
       omega (arith, length-drop (x .pass .expired) xs, view-length (ringOf w) (bodyOf w at), k .measured .buckets-are)
 
-  -- the newest that the pass found is the newest of the live ones
-  pub joins-left : (b : ℕ) → joinsLeft b t x ≡ joins b t (drop (x .pass .expired) (buckets (ringOf w) (bodyOf w at)))
-  unfolding joinsLeft joins
-  joins-left b = go (decLt 0 (left x))
-    where
-      xs : List Bucket
-      xs = buckets (ringOf w) (bodyOf w at)
-
-      ys : List Bucket
-      ys = drop (x .pass .expired) (buckets (ringOf w) (bodyOf w at))
-
-      go : Dec (0 < left x) → ltb 0 (left x) && leb (t - x .pass .newest .time) b ≡ ltb 0 (length ys) && leb (t - newest ys .time) b
-      go (yes l) =
-          let h : x .pass .expired < length xs = omega (arith, view-length (ringOf w) (bodyOf w at), k .measured .buckets-are) in
-          ap (λ (z : Bucket). ltb 0 (left x) && leb (t - z .time) b) (k .measured .newest-is ∙ sym (newest-drop (x .pass .expired) xs h)) ∙
-          ap (λ (n : ℕ). ltb 0 n && leb (t - newest ys .time) b) (sym left-length)
-      go (no l) =
-          ap (λ (z : Bool). z && leb (t - x .pass .newest .time) b) (le-ltb 0 (left x) (omega arith)) ∙
-          sym (ap (λ (z : Bool). z && leb (t - newest ys .time) b) (le-ltb 0 (length ys) (omega (arith, left-length))))
-
 lone-pass : (s : Settings) (w : List ℕ) (t at : ℕ) (x : Slot) → Found kind.Suppressed s w t at x → x .series ≡ false → x .pass ≡ unsound
 unfolding opened
 lone-pass s w t at x f e =
@@ -120,7 +101,8 @@ lone-pass s w t at x f e =
 module _ (s : Settings) (w : List ℕ) (t : ℕ) (key : List ℕ) (q : Passed kind.Suppressed s w t key) (x : Slot) (p : x ≡ slotIn s w t key) where
   there : addressed w key < slotsOf w → Found kind.Suppressed s w t (x .at) x
   there l =
-      let f : Found kind.Suppressed s w t (addressed w key) x = subst (λ (y : Slot). Found kind.Suppressed s w t (addressed w key) y) (sym p) (found kind.Suppressed s w t key q l) in
+      let f : Found kind.Suppressed s w t (addressed w key) x =
+      subst (λ (y : Slot). Found kind.Suppressed s w t (addressed w key) y) (sym p) (found kind.Suppressed s w t key q l) in
       subst (λ (n : ℕ). Found kind.Suppressed s w t n x) (sym (at-as kind.Suppressed s w t (addressed w key) x f)) f
 
   nowhere : (addressed w key < slotsOf w → ⊥) → x ≡ noSlot (slotsOf w)
@@ -143,6 +125,15 @@ module _ (s : Settings) (w : List ℕ) (t : ℕ) (key : List ℕ) (q : Passed ki
       go (yes l) = lone-pass s w t (x .at) x (there l) e
       go (no n) = ap (λ (y : Slot). y .pass) (nowhere n)
 
+  -- where a slot is not lacking, the place is in the room
+  pub place-inside : lacksAt w (placeOf w x) x ≡ false → placeOf w x < slotsOf w
+  unfolding lacksAt placeOf
+  place-inside f = go (hasSlot x) refl f
+    where
+      go : (z : Bool) → hasSlot x ≡ z → not z && leb (slotsOf w) (cond z (x .at) (vacant w)) ≡ false → cond z (x .at) (vacant w) < slotsOf w
+      go true e g = used e .inside
+      go false e g = leb-false (slotsOf w) (vacant w) g
+
   pub sums : Sums x
   sums = go (x .series) refl
     where
@@ -152,4 +143,5 @@ module _ (s : Settings) (w : List ℕ) (t : ℕ) (key : List ℕ) (q : Passed ki
 
   -- the perceived rate is zero exactly where nothing was counted
   pub unperceived-is : unperceived s x ≡ eqb (x .pass .«live_total») 0
-  unperceived-is = nothing-is (x .pass .«live_total») (windowIn s) (x .pass .«last_second») (sums .recent) (sums .most) (q .settings .window-low) (q .settings .window-high)
+  unperceived-is = nothing-is (x .pass .«live_total») (windowIn s) (x .pass .«last_second») (sums .recent) (sums .most) (q .settings .window-low)
+      (q .settings .window-high)

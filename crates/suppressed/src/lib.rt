@@ -7,32 +7,33 @@ ghost use Rattle.calls.specs.Delete as Delete;
 ghost use Rattle.calls.specs.Rate.{setRateLimit};
 ghost use Rattle.calls.specs.Set as Set;
 ghost use Rattle.cleanup.specs.Cleanup as Cleanup;
-ghost use Rattle.common.specs.declared.history_mode.HistoryUpdateMode.the-variants.{Replace, Preserve};
-ghost use Rattle.judge.specs.declared.RoomKind.the-variants.{Suppressed};
-ghost use Rattle.suppressed.specs.Calls.{snapshotOf, limitFor, get, getFactor, inc};
-use common::DeleteAnswer;
-use common::DoneAnswer;
-use common::FactorAnswer;
-use common::HistoryPreservation;
-use common::HistoryUpdateMode;
-use common::OldRateAnswer;
+ghost use Rattle.answers.specs.declared.HistoryUpdateMode.the-variants.{Replace, Preserve};
+ghost use Rattle.rules.specs.declared.RoomKind.the-variants.{Suppressed};
+ghost use Rattle.suppressed.specs.Calls.{get, getFactor, inc};
+ghost use Rattle.suppressed.specs.Opened.{snapshotAt, limitAt};
+use answers::DeleteAnswer;
+use answers::DoneAnswer;
+use answers::FactorAnswer;
+use answers::HistoryPreservation;
+use answers::HistoryUpdateMode;
+use answers::OldRateAnswer;
+use answers::RateLimitDecision;
+use answers::SetAnswer;
+use answers::SnapshotAnswer;
+use answers::SuppressedRateLimitSnapshot;
 use common::RateLimit;
 use common::RateLimitComparator;
-use common::RateLimitDecision;
-use common::SetAnswer;
-use common::Settings;
-use common::SnapshotAnswer;
-use common::SuppressedRateLimitSnapshot;
-use judge::RoomKind;
 use judge::Slot;
+use rules::RoomKind;
+use settings::Settings;
 use suppressed_edits::edits;
 use suppressed_edits::refusals;
-use suppressed_rules::factor;
-use suppressed_rules::forecast;
+use suppressed_opened::factor;
+use suppressed_opened::forecast;
 
 // Live total, live declined and the factor; zeros for an unknown key.
 fn snapshot_of(x: Slot, factor: f64) -> SuppressedRateLimitSnapshot
-    ensures { λ r. ⌜ r ≡ snapshotOf x factor ⌝ }
+    ensures { λ r. ⌜ r ≡ snapshotAt x factor ⌝ }
 {
     let series = x.series;
     let pass = x.pass;
@@ -90,8 +91,8 @@ pub fn get_suppression_factor(
     if code != 0 {
         return FactorAnswer::Refused(code);
     }
-    let at = refusals::place_of(room, x);
-    if refusals::is_full(room, at) {
+    let at = plan::place(room, x);
+    if plan::lacks_slot(room, at, x) {
         return FactorAnswer::Refused(11);
     }
     let asked = factor::ask(settings, x, x.limit, reading);
@@ -114,7 +115,7 @@ pub fn get_suppression_factor(
 
 // A series' own limit, or that of the rate.
 fn limit_for(settings: Settings, x: Slot, rate: RateLimit) -> u64
-    ensures { λ r. ⌜ r ≡ limitFor settings x rate ⌝ }
+    ensures { λ r. ⌜ r ≡ limitAt settings x rate ⌝ }
 {
     let series = x.series;
     if series {
@@ -141,10 +142,10 @@ pub fn inc(
     if code != 0 {
         return RateLimitDecision::Refused(code);
     }
-    let at = refusals::place_of(room, x);
-    let full = refusals::is_full(room, at);
+    let at = plan::place(room, x);
+    let lacks = plan::lacks_slot(room, at, x);
     let ring = refusals::ring_of(room);
-    let late = refusals::inc_late(settings, x, full, ring, reading, rate, count, draw);
+    let late = refusals::inc_late(settings, x, lacks, ring, reading, rate, count, draw);
     if late != 0 {
         return RateLimitDecision::Refused(late);
     }
@@ -223,7 +224,8 @@ pub fn set_if_preserve_history(
     count: u64,
     preservation: HistoryPreservation,
 ) -> SetAnswer
-    ensures { λ r. ⌜ Told (Set.set Suppressed settings (now (room .entry)) reading (now (key .entry)) rate comparator count (Preserve preservation)) r (now (room .exit)) ⌝ }
+    ensures { λ r. ⌜ Told (Set.set Suppressed settings (now (room .entry)) reading (now (key .entry)) rate comparator count (Preserve preservation)) r
+        (now (room .exit)) ⌝ }
 {
     calls::set(
         RoomKind::Suppressed,

@@ -10,10 +10,10 @@ use Rattle.change.specs.declared.Edit.{Edit}
 use Rattle.change.specs.declared.Then.the-variants.{Nothing, Increment}
 use Rattle.judge.specs.declared.Slot.{Slot}
 use Rattle.judge.specs.Judge.{hasSlot}
-use Rattle.plan.specs.Plan.{evicting, opening}
-use Rattle.suppressed_rules.specs.declared.factor.Caching.{Caching}
-use Rattle.suppressed_rules.specs.declared.factor.Caching.the-variants.{Left, Cached}
-use Rattle.suppressed_rules.specs.Factor.{stays}
+use Rattle.plan.specs.Plan.{evicting, opening, restored}
+use Rattle.rules.specs.declared.Caching.{Caching}
+use Rattle.rules.specs.declared.Caching.the-variants.{Left, Cached}
+use Rattle.suppressed_opened.specs.Opened.{staysAt}
 
 -- ---- the cached factor's words and the use, of a slot with a series: 1, or 3 with a cached factor
 
@@ -29,21 +29,11 @@ timeAfter Left n = n
 timeAfter (Cached k) n = k .time
 
 abbrev pub useAfter : Caching → Slot → ℕ
-useAfter Left x = useLeft (stays x)
+useAfter Left x = useLeft (staysAt x)
 useAfter (Cached k) x = 3
 
 unfoldable pub recached : Slot → Caching → Edit → Edit
-recached x k e = record {
-  begins = e .begins;
-  gone = e .gone;
-  total = e .total;
-  declined = e .declined;
-  then = e .then;
-  limit = e .limit;
-  factor = factorAfter k (e .factor);
-  «factor_time» = timeAfter k (e .«factor_time»);
-  used = useAfter k x;
-}
+recached x k e = restored e (e .limit) (factorAfter k (e .factor)) (timeAfter k (e .«factor_time»)) (useAfter k x)
 
 -- ---- the calls
 

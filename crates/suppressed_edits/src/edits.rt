@@ -5,48 +5,33 @@ use change::Change;
 use change::Edit;
 use change::Then;
 use judge::Slot;
-use suppressed_rules::factor::Caching;
-use suppressed_rules::factor::stays;
-
-const CACHED_FACTOR: u64 = 2;
-
-const BOTH: u64 = 3;
+use rules::Caching;
+use suppressed_opened::factor::stays;
 
 // A series' use, by whether its cached factor stays.
 fn use_left(stays_on: bool) -> u64
     ensures { λ r. ⌜ r ≡ useLeft «stays_on» ⌝ }
 {
-    if stays_on { 3 } else { 1 }
+    if stays_on {
+        layout::BOTH
+    } else {
+        layout::SERIES
+    }
 }
 
 // An edit of a series, with what becomes of the cached factor.
 fn recached(x: Slot, caching: Caching, e: Edit) -> Edit
     ensures { λ r. ⌜ r ≡ recached x caching e ⌝ }
 {
-    let then = e.then;
     match caching {
-        Caching::Left => Edit {
-            begins: e.begins,
-            gone: e.gone,
-            total: e.total,
-            declined: e.declined,
-            then,
-            limit: e.limit,
-            factor: e.factor,
-            factor_time: e.factor_time,
-            used: use_left(stays(x)),
-        },
-        Caching::Cached(cached) => Edit {
-            begins: e.begins,
-            gone: e.gone,
-            total: e.total,
-            declined: e.declined,
-            then,
-            limit: e.limit,
-            factor: common::word_of(cached.suppression_factor),
-            factor_time: cached.time,
-            used: BOTH,
-        },
+        Caching::Left => plan::restored(e, e.limit, e.factor, e.factor_time, use_left(stays(x))),
+        Caching::Cached(cached) => plan::restored(
+            e,
+            e.limit,
+            common::word_of(cached.suppression_factor),
+            cached.time,
+            layout::BOTH,
+        ),
     }
 }
 
@@ -65,7 +50,7 @@ pub fn get_change(x: Slot, caching: Caching) -> Change
 fn lone_by(there: bool, reading: u64) -> Change
     ensures { λ r. ⌜ r ≡ loneBy there reading ⌝ }
 {
-    let e = plan::opening(0, Then::Nothing, 0, reading, CACHED_FACTOR);
+    let e = plan::opening(0, Then::Nothing, 0, reading, layout::CACHED);
     if there {
         Change::Update(e)
     } else {

@@ -1,5 +1,5 @@
 -- The limiter's answer for these settings, handed over as its row.
-use Rattle.common.specs.Answers.{doneRow}
+use Rattle.answers.specs.Rows.{doneRow}
 use Rattle.abi.specs.Laws.{faced}
 use borrow.Author.Needs.{needs}
 use Rattle.abi.proofs.frostaxle_absolute_clear.Statement.{statement}
@@ -23,7 +23,8 @@ same-length c = search needs
 returns : tie.Need-returns
 returns c =
     let answered = c .before .before .before .before .before in
-    faced doneRow _ _ _ _ _ _ (rw (answered .before .before .settings .ensures) at (answered .clear .ensures)) (c .before .before .done-row .ensures) (c .give .ensures)
+    faced doneRow _ _ _ _ _ _ (rw (answered .before .before .settings .ensures) at (answered .clear .ensures)) (c .before .before .done-row .ensures)
+    (c .give .ensures)
 
 pub frostaxle-absolute-clear-spec : {M : Type 1} → statement M
 frostaxle-absolute-clear-spec =

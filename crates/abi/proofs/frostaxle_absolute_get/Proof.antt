@@ -1,5 +1,5 @@
 -- The limiter's answer for these settings, handed over as its row.
-use Rattle.common.specs.Answers.{totalRow}
+use Rattle.answers.specs.Rows.{totalRow}
 use Rattle.abi.specs.Laws.{faced}
 use borrow.Author.Needs.{needs}
 use Rattle.abi.proofs.frostaxle_absolute_get.Statement.{statement}
@@ -23,7 +23,8 @@ same-length c = search needs
 returns : tie.Need-returns
 returns c =
     let answered = c .before .before .before .before .before in
-    faced totalRow _ _ _ _ _ _ (rw (answered .before .before .settings .ensures) at (answered .get .ensures)) (c .before .before .total-row .ensures) (c .give .ensures)
+    faced totalRow _ _ _ _ _ _ (rw (answered .before .before .settings .ensures) at (answered .get .ensures)) (c .before .before .total-row .ensures)
+    (c .give .ensures)
 
 pub frostaxle-absolute-get-spec : {M : Type 1} → statement M
 frostaxle-absolute-get-spec =

@@ -1,5 +1,5 @@
 -- The limiter's answer for these settings, handed over as its row.
-use Rattle.common.specs.Answers.{decisionRow}
+use Rattle.answers.specs.Rows.{decisionRow}
 use Rattle.abi.specs.Laws.{faced}
 use borrow.Author.Needs.{needs}
 use Rattle.abi.proofs.frostaxle_absolute_is_allowed.Statement.{statement}
@@ -23,7 +23,8 @@ same-length c = search needs
 returns : tie.Need-returns
 returns c =
     let answered = c .before .before .before .before .before in
-    faced decisionRow _ _ _ _ _ _ (rw (answered .before .before .settings .ensures) at (answered .is-allowed .ensures)) (c .before .before .decision-row .ensures) (c .give .ensures)
+    faced decisionRow _ _ _ _ _ _ (rw (answered .before .before .settings .ensures) at (answered .is-allowed .ensures))
+    (c .before .before .decision-row .ensures) (c .give .ensures)
 
 pub frostaxle-absolute-is-allowed-spec : {M : Type 1} → statement M
 frostaxle-absolute-is-allowed-spec =

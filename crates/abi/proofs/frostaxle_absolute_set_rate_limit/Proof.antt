@@ -1,5 +1,5 @@
 -- The limiter's answer for these settings, handed over as its row.
-use Rattle.common.specs.Answers.{oldRateRow}
+use Rattle.answers.specs.Rows.{oldRateRow}
 use Rattle.abi.specs.Laws.{faced}
 use borrow.Author.Needs.{needs}
 use Rattle.abi.proofs.frostaxle_absolute_set_rate_limit.Statement.{statement}
@@ -23,7 +23,8 @@ same-length c = search needs
 returns : tie.Need-returns
 returns c =
     let answered = c .before .before .before .before .before in
-    faced oldRateRow _ _ _ _ _ _ (rw (answered .before .before .settings .ensures) at (answered .set-rate-limit .ensures)) (c .before .before .old-rate-row .ensures) (c .give .ensures)
+    faced oldRateRow _ _ _ _ _ _ (rw (answered .before .before .settings .ensures) at (answered .set-rate-limit .ensures))
+    (c .before .before .old-rate-row .ensures) (c .give .ensures)
 
 pub frostaxle-absolute-set-rate-limit-spec : {M : Type 1} → statement M
 frostaxle-absolute-set-rate-limit-spec =

@@ -25,7 +25,8 @@ same-length-2 c = search needs
 returns : tie.Need-returns
 returns c =
     let answered = c .before .before .before .before .before .before .before in
-    faced-both _ _ _ _ _ _ _ (rw (answered .before .before .before .settings .ensures) at (answered .cleanup .ensures)) (c .before .before .done-row .ensures) (c .give .ensures)
+    faced-both _ _ _ _ _ _ _ (rw (answered .before .before .before .settings .ensures) at (answered .cleanup .ensures)) (c .before .before .done-row .ensures)
+    (c .give .ensures)
 
 pub frostaxle-provider-cleanup-spec : {M : Type 1} → statement M
 frostaxle-provider-cleanup-spec =

@@ -1,5 +1,5 @@
 -- The limiter's answer for these settings, handed over as its row.
-use Rattle.common.specs.Answers.{deleteRow}
+use Rattle.answers.specs.Rows.{deleteRow}
 use Rattle.abi.specs.Laws.{faced}
 use borrow.Author.Needs.{needs}
 use Rattle.abi.proofs.frostaxle_suppressed_delete.Statement.{statement}
@@ -23,7 +23,8 @@ same-length c = search needs
 returns : tie.Need-returns
 returns c =
     let answered = c .before .before .before .before .before in
-    faced deleteRow _ _ _ _ _ _ (rw (answered .before .before .settings .ensures) at (answered .delete .ensures)) (c .before .before .delete-row .ensures) (c .give .ensures)
+    faced deleteRow _ _ _ _ _ _ (rw (answered .before .before .settings .ensures) at (answered .delete .ensures)) (c .before .before .delete-row .ensures)
+    (c .give .ensures)
 
 pub frostaxle-suppressed-delete-spec : {M : Type 1} → statement M
 frostaxle-suppressed-delete-spec =

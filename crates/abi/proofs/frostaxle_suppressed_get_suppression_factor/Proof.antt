@@ -1,5 +1,5 @@
 -- The limiter's answer for these settings, handed over as its row.
-use Rattle.common.specs.Answers.{factorRow}
+use Rattle.answers.specs.Rows.{factorRow}
 use Rattle.abi.specs.Laws.{faced}
 use borrow.Author.Needs.{needs}
 use Rattle.abi.proofs.frostaxle_suppressed_get_suppression_factor.Statement.{statement}
@@ -23,7 +23,8 @@ same-length c = search needs
 returns : tie.Need-returns
 returns c =
     let answered = c .before .before .before .before .before in
-    faced factorRow _ _ _ _ _ _ (rw (answered .before .before .settings .ensures) at (answered .get-suppression-factor .ensures)) (c .before .before .factor-row .ensures) (c .give .ensures)
+    faced factorRow _ _ _ _ _ _ (rw (answered .before .before .settings .ensures) at (answered .get-suppression-factor .ensures))
+    (c .before .before .factor-row .ensures) (c .give .ensures)
 
 pub frostaxle-suppressed-get-suppression-factor-spec : {M : Type 1} → statement M
 frostaxle-suppressed-get-suppression-factor-spec =

@@ -1,6 +1,6 @@
 -- A number that names nothing is no call; else the set's answer, handed over as its row.
 use mathlib.Core.Path.{refl}
-use Rattle.common.specs.Answers.{setRow}
+use Rattle.answers.specs.Rows.{setRow}
 use Rattle.abi.specs.Faces.{shownSet}
 use Rattle.abi.specs.Laws.{given-faced, faced}
 use borrow.Author.Needs.{needs}
@@ -41,7 +41,8 @@ returns-2 : tie.Need-returns-2
 unfolding shownSet
 returns-2 c =
     let refused = c .before .before in
-    rw (refused .before .before .before .before .comparison .given .1, refused .before .enum-told2 .given .1) (given-faced _ _ _ _ _ (refused .bad-call-row2 .ensures) (c .give2 .ensures) refl)
+    rw (refused .before .before .before .before .comparison .given .1, refused .before .enum-told2 .given .1)
+    (given-faced _ _ _ _ _ (refused .bad-call-row2 .ensures) (c .give2 .ensures) refl)
 
 set-requires : tie.Need-set-requires
 set-requires c κs = search needs
@@ -60,7 +61,8 @@ unfolding shownSet
 returns-3 c =
     let answered = c .before .before .before .before .before in
     let chosen = answered .before .before .before in
-    rw (chosen .before .before .before .comparison .given .1, chosen .mode .given .1) (faced setRow _ _ _ _ _ _ (answered .set .ensures) (c .before .before .set-row .ensures) (c .give3 .ensures))
+    rw (chosen .before .before .before .comparison .given .1, chosen .mode .given .1)
+    (faced setRow _ _ _ _ _ _ (answered .set .ensures) (c .before .before .set-row .ensures) (c .give3 .ensures))
 
 pub set-spec : {M : Type 1} → statement M
 set-spec =

@@ -24,7 +24,8 @@ apply-requires c κs =
     let k = c .before .before .before .before in
     let j = k .before .judge in
     let a = k .before .before .before .before .before .before .args in
-    get-fits (a .settings) (a .room .now) (a .reading) (a .key .now) (j .result) (record { is = j .ensures; none = k .if1 .left }) (c .get-change .result) (c .get-change .ensures)
+    get-fits (a .settings) (a .room .now) (a .reading) (a .key .now) (j .result) (record { is = j .ensures; none = k .if1 .left }) (c .get-change .result)
+    (c .get-change .ensures)
 
 same-length-2 : tie.Need-same-length-2
 same-length-2 c = search needs
@@ -36,7 +37,8 @@ returns-2 c =
     let k = m .before .before .before .before .before in
     let j = k .before .judge in
     let a = k .before .before .before .before .before .before .args in
-    get-done (a .settings) (a .room .now) (a .reading) (a .key .now) (j .result) (record { is = j .ensures; none = k .if1 .left }) (g .result) (g .ensures) (m .apply .last .0) (m .apply .ensures)
+    get-done (a .settings) (a .room .now) (a .reading) (a .key .now) (j .result) (record { is = j .ensures; none = k .if1 .left }) (g .result) (g .ensures)
+    (m .apply .last .0) (m .apply .ensures)
 
 pub get-spec : {M : Type 1} → statement M
 get-spec =

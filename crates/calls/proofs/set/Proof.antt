@@ -1,11 +1,13 @@
 -- A refused call leaves the room; another carries the change out, and gives the outcome.
-use mathlib.Core.Path.{_∙_, sym}
-use Rattle.common.specs.declared.answers.SetAnswer.the-variants.{Refused}
+use mathlib.Core.Path.{_∙_, sym, ap}
+use mathlib.Core.Bool.{Bool, not, _&&_}
+use Rattle.answers.specs.declared.SetAnswer.the-variants.{Refused}
+use Rattle.judge.specs.Verdict.{told-as}
 use Rattle.calls.specs.Calls.{judged-passed, judged-early}
-use Rattle.calls.specs.Set.{setOwnOf, sets}
+use Rattle.calls.specs.Opened.{setOwnOf, sets}
+use Rattle.calls.specs.Seen.{set-opened}
 use Rattle.calls.specs.SetLaws.{set-refused, set-carried, set-done}
 use borrow.Author.Needs.{needs}
-use native.Mathlib.Omega.{arith}
 use Rattle.calls.proofs.set.Statement.{statement}
 use Rattle.calls.proofs.set.Tie as tie
 
@@ -19,7 +21,10 @@ returns : tie.Need-returns
 returns c =
     let a = c .before .before .before .before .before .args in
     let j = c .before .judge in
-    judged-early (a .kind) (a .settings) (a .room .now) (a .reading) (a .key .now) (j .result) (j .ensures) Refused (setOwnOf (a .kind) (a .settings) (a .room .now) (a .rate) (a .comparator) (a .count) (a .mode)) (sets (a .kind) (a .settings) (a .room .now) (a .reading) (a .key .now) (a .rate) (a .comparator) (a .count) (a .mode)) (c .if1 .taken)
+    let own = setOwnOf (a .kind) (a .settings) (a .room .now) (a .rate) (a .comparator) (a .count) (a .mode) in
+    told-as (set-opened (a .kind) (a .settings) (a .room .now) (a .reading) (a .key .now) (a .rate) (a .comparator) (a .count) (a .mode))
+    (judged-early (a .kind) (a .settings) (a .room .now) (a .reading) (a .key .now) (j .result) (j .ensures) Refused own
+    (sets (a .kind) (a .settings) (a .room .now) (a .reading) (a .key .now) (a .rate) (a .comparator) (a .count) (a .mode)) (c .if1 .taken))
 
 limit-of-requires : tie.Need-limit-of-requires
 limit-of-requires c κs = search needs
@@ -29,19 +34,20 @@ idle-requires c κs = search needs
 
 place-requires : tie.Need-place-requires
 place-requires c κs =
-    let a = c .before .before .before .before .before .before .before .before .before .args in
-    let j = c .before .before .before .before .before .judge in
-    judged-passed (a .kind) (a .settings) (a .room .now) (a .reading) (a .key .now) (j .result) (j .ensures) (c .before .before .before .before .if1 .left) .room
+    let k = c .before .before .before .before in
+    let j = k .before .judge in
+    let a = k .before .before .before .before .before .args in
+    judged-passed (a .kind) (a .settings) (a .room .now) (a .reading) (a .key .now) (j .result) (j .ensures) (k .if1 .left) .room
 
-slice-read-slots : tie.Need-slice-read-slots
-slice-read-slots c =
-    let a = c .before .before .before .before .before .before .before .before .before .before .before .args in
-    let j = c .before .before .before .before .before .before .before .judge in
-    let o = judged-passed (a .kind) (a .settings) (a .room .now) (a .reading) (a .key .now) (j .result) (j .ensures) (c .before .before .before .before .before .before .if1 .left) .room in
-    omega arith
+lacks-slot-requires : tie.Need-lacks-slot-requires
+lacks-slot-requires c κs =
+    let k = c .before .before .before .before .before .before in
+    let j = k .before .judge in
+    let a = k .before .before .before .before .before .args in
+    judged-passed (a .kind) (a .settings) (a .room .now) (a .reading) (a .key .now) (j .result) (j .ensures) (k .if1 .left) .room
 
-is-full-requires : tie.Need-is-full-requires
-is-full-requires c κs = search needs
+lacks-unless-requires : tie.Need-lacks-unless-requires
+lacks-unless-requires c κs = search needs
 
 set-refusal-requires : tie.Need-set-refusal-requires
 set-refusal-requires c κs = search needs
@@ -51,28 +57,42 @@ same-length-2 c = search needs
 
 returns-2 : tie.Need-returns-2
 returns-2 c =
-    let a = c .before .before .before .before .before .before .before .before .before .before .before .before .before .before .args in
-    let j = c .before .before .before .before .before .before .before .before .before .before .judge in
-    let h = c .before .before .before .before .before .before .before .before .before .if1 .left in
-    let l = c .before .before .before .before .before .before .before .limit-of in
-    let i = c .before .before .before .before .before .before .idle in
-    let p = c .before .before .before .before .place in
-    let f = c .before .before .is-full in
-    set-refused (a .kind) (a .settings) (a .room .now) (a .reading) (a .key .now) (a .rate) (a .comparator) (a .count) (a .mode) (j .result) (j .ensures) h (l .result) (i .result) (p .result) (f .result) (record { limit-is = l .ensures; still-is = i .ensures; place-is = p .ensures; none-is = f .ensures }) (c .before .set-refusal .result) (c .before .set-refusal .ensures) (c .if2 .taken)
+    let l = c .before in
+    let u = l .before in
+    let v = u .before in
+    let p = v .before .before in
+    let i = p .before .before in
+    let m = i .before in
+    let k = m .before .before in
+    let j = k .before .judge in
+    let a = k .before .before .before .before .before .args in
+    let none = u .lacks-unless .ensures ∙ ap (λ (z : Bool). not (i .idle .result) && z) (v .lacks-slot .ensures) in
+    set-refused (a .kind) (a .settings) (a .room .now) (a .reading) (a .key .now) (a .rate) (a .comparator) (a .count) (a .mode)
+    (j .result) (j .ensures) (k .if1 .left) (m .limit-of .result) (i .idle .result) (p .place .result) (u .lacks-unless .result)
+    (record { limit-is = m .limit-of .ensures; still-is = i .idle .ensures; place-is = p .place .ensures; none-is = none })
+    (l .set-refusal .result) (l .set-refusal .ensures) (c .if2 .taken)
 
 setting-requires : tie.Need-setting-requires
 setting-requires c κs = search needs
 
 apply-requires : tie.Need-apply-requires
 apply-requires c κs =
-    let a = c .before .before .before .before .before .before .before .before .before .before .before .before .before .before .before .before .before .args in
-    let j = c .before .before .before .before .before .before .before .before .before .before .before .before .before .judge in
-    let h = c .before .before .before .before .before .before .before .before .before .before .before .before .if1 .left in
-    let l = c .before .before .before .before .before .before .before .before .before .before .limit-of in
-    let i = c .before .before .before .before .before .before .before .before .before .idle in
-    let p = c .before .before .before .before .before .before .before .place in
-    let f = c .before .before .before .before .before .is-full in
-    set-carried (a .kind) (a .settings) (a .room .now) (a .reading) (a .key .now) (a .rate) (a .comparator) (a .count) (a .mode) (j .result) (j .ensures) h (l .result) (i .result) (p .result) (f .result) (record { limit-is = l .ensures; still-is = i .ensures; place-is = p .ensures; none-is = f .ensures }) (sym (c .before .before .before .before .set-refusal .ensures) ∙ c .before .before .before .if2 .left) (c .before .setting .result) (c .before .setting .ensures)
+    let g = c .before in
+    let q = g .before .before in
+    let l = q .before in
+    let u = l .before in
+    let v = u .before in
+    let p = v .before .before in
+    let i = p .before .before in
+    let m = i .before in
+    let k = m .before .before in
+    let j = k .before .judge in
+    let a = k .before .before .before .before .before .args in
+    let none = u .lacks-unless .ensures ∙ ap (λ (z : Bool). not (i .idle .result) && z) (v .lacks-slot .ensures) in
+    set-carried (a .kind) (a .settings) (a .room .now) (a .reading) (a .key .now) (a .rate) (a .comparator) (a .count) (a .mode)
+    (j .result) (j .ensures) (k .if1 .left) (m .limit-of .result) (i .idle .result) (p .place .result) (u .lacks-unless .result)
+    (record { limit-is = m .limit-of .ensures; still-is = i .idle .ensures; place-is = p .place .ensures; none-is = none })
+    (sym (l .set-refusal .ensures) ∙ q .if2 .left) (g .setting .result) (g .setting .ensures)
 
 outcome-requires : tie.Need-outcome-requires
 outcome-requires c κs = search needs
@@ -82,14 +102,41 @@ same-length-3 c = search needs
 
 returns-3 : tie.Need-returns-3
 returns-3 c =
-    let a = c .before .before .before .before .before .before .before .before .before .before .before .before .before .before .before .before .before .before .before .before .before .args in
-    let j = c .before .before .before .before .before .before .before .before .before .before .before .before .before .before .before .before .before .judge in
-    let h = c .before .before .before .before .before .before .before .before .before .before .before .before .before .before .before .before .if1 .left in
-    let l = c .before .before .before .before .before .before .before .before .before .before .before .before .before .before .limit-of in
-    let i = c .before .before .before .before .before .before .before .before .before .before .before .before .before .idle in
-    let p = c .before .before .before .before .before .before .before .before .before .before .before .place in
-    let f = c .before .before .before .before .before .before .before .before .before .is-full in
-    set-done (a .kind) (a .settings) (a .room .now) (a .reading) (a .key .now) (a .rate) (a .comparator) (a .count) (a .mode) (j .result) (j .ensures) h (l .result) (i .result) (p .result) (f .result) (record { limit-is = l .ensures; still-is = i .ensures; place-is = p .ensures; none-is = f .ensures }) (sym (c .before .before .before .before .before .before .before .before .set-refusal .ensures) ∙ c .before .before .before .before .before .before .before .if2 .left) (c .before .before .before .before .before .setting .result) (c .before .before .before .before .before .setting .ensures) _ _ (c .outcome .ensures) (c .before .before .before .apply .ensures)
+    let y = c .before .before .before in
+    let g = y .before .before in
+    let q = g .before .before in
+    let l = q .before in
+    let u = l .before in
+    let v = u .before in
+    let p = v .before .before in
+    let i = p .before .before in
+    let m = i .before in
+    let k = m .before .before in
+    let j = k .before .judge in
+    let a = k .before .before .before .before .before .args in
+    let none = u .lacks-unless .ensures ∙ ap (λ (z : Bool). not (i .idle .result) && z) (v .lacks-slot .ensures) in
+    set-done (a .kind) (a .settings) (a .room .now) (a .reading) (a .key .now) (a .rate) (a .comparator) (a .count) (a .mode)
+    (j .result) (j .ensures) (k .if1 .left) (m .limit-of .result) (i .idle .result) (p .place .result) (u .lacks-unless .result)
+    (record { limit-is = m .limit-of .ensures; still-is = i .idle .ensures; place-is = p .place .ensures; none-is = none })
+    (sym (l .set-refusal .ensures) ∙ q .if2 .left) (g .setting .result) (g .setting .ensures) _ _ (c .outcome .ensures) (y .apply .ensures)
 
 pub set-spec : {M : Type 1} → statement M
-set-spec = tie.close (tie.spec judge-requires same-length returns limit-of-requires idle-requires place-requires slice-read-slots is-full-requires set-refusal-requires same-length-2 returns-2 setting-requires apply-requires outcome-requires same-length-3 returns-3)
+set-spec =
+    tie.close
+    (tie.spec
+    judge-requires
+    same-length
+    returns
+    limit-of-requires
+    idle-requires
+    place-requires
+    lacks-slot-requires
+    lacks-unless-requires
+    set-refusal-requires
+    same-length-2
+    returns-2
+    setting-requires
+    apply-requires
+    outcome-requires
+    same-length-3
+    returns-3)

@@ -1,8 +1,9 @@
 -- The change, then the reading.
+use Rattle.room.specs.Laws.{room-directory}
 use mathlib.Core.Path.{sym, ap, subst, _∙_}
 use mathlib.Core.List.{List}
 use Prim.Native.Nat.{ℕ}
-use Rattle.room.specs.Room.{Room, withReading}
+use Rattle.room.specs.Room.{Directory, withReading}
 use Rattle.change.specs.Words.{applied}
 use Rattle.change.specs.Laws.{carried-room}
 use borrow.Author.Needs.{needs}
@@ -16,7 +17,8 @@ store-reading-requires : tie.Need-store-reading-requires
 store-reading-requires c κs =
     let k = c .before .before .before in
     let a = k .before .before .before .before in
-    subst (λ (y : List ℕ). Room y) (sym (k .carry .ensures)) (carried-room (a .args .w .now) (a .args .at) (a .args .key .now) (a .args .size) (a .args .reading) (a .args .change) (a .pre))
+    let o = carried-room (a .args .w .now) (a .args .at) (a .args .key .now) (a .args .size) (a .args .reading) (a .args .change) (a .pre) in
+    subst (λ (y : List ℕ). Directory y) (sym (k .carry .ensures)) (room-directory o)
 
 same-length : tie.Need-same-length
 same-length c = search needs

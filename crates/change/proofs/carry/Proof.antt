@@ -1,4 +1,5 @@
 -- Each arm is its case of the definition.
+use Rattle.room.specs.Laws.{room-directory}
 use Rattle.change.specs.Words.{Applies, carried}
 use borrow.Author.Needs.{needs}
 use Rattle.change.proofs.carry.Statement.{statement}
@@ -11,7 +12,8 @@ enum-told-2 : tie.Need-enum-told-2
 enum-told-2 c = search needs
 
 set-use-requires : tie.Need-set-use-requires
-set-use-requires c κs = let p = rw (c .before .enum-told2 .given .1) at (c .before .before .before .before .before .pre) in (p .room, p .inside)
+set-use-requires c κs = let p = rw (c .before .enum-told2 .given .1) at (c .before .before .before .before .before .pre) in
+    (room-directory (p .room), p .inside)
 
 enum-known-change : tie.Need-enum-known-change
 enum-known-change c = search needs

@@ -42,7 +42,8 @@ edit-body-requires c κs =
     let k = c .before in
     let a = k .before .before .before .before in
     let w = a .args .w .now in
-    subst (λ (y : List ℕ). Edits (ringOf w) (a .args .size) (a .args .reading) y (a .args .e)) (sym (part-body w (k .start .result) (a .args .at) (k .start .ensures .at))) (a .pre .edits)
+    subst (λ (y : List ℕ). Edits (ringOf w) (a .args .size) (a .args .reading) y (a .args .e))
+    (sym (part-body w (k .start .result) (a .args .at) (k .start .ensures .at))) (a .pre .edits)
 
 same-length : tie.Need-same-length
 same-length c =
@@ -59,7 +60,8 @@ returns c =
     let a = q .before .before .before .before .args in
     let w = a .w .now in
     part-home w (k .edit-body .last .0) (q .start .result) (a .at) (q .start .ensures .at) ∙
-    ap (withBody w (a .at)) (k .edit-body .ensures ∙ ap (λ (y : List ℕ). edited (ringOf w) (a .size) (a .reading) y (a .e)) (part-body w (q .start .result) (a .at) (q .start .ensures .at)))
+    ap (withBody w (a .at)) (k .edit-body .ensures ∙ ap (λ (y : List ℕ). edited (ringOf w) (a .size) (a .reading) y (a .e))
+    (part-body w (q .start .result) (a .at) (q .start .ensures .at)))
 
 pub edit-at-spec : {M : Type 1} → statement M
 edit-at-spec =

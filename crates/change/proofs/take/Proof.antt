@@ -1,9 +1,10 @@
 -- The body, then the entry.
+use Rattle.room.specs.Laws.{room-directory}
 use mathlib.Core.Path.{sym, ap, ap₂, subst, _∙_}
 use mathlib.Core.List.{List}
 use Prim.Native.Nat.{ℕ, _<_}
 use Rattle.room.specs.declared.Key.{Key}
-use Rattle.room.specs.Room.{Room, slotsOf, entered}
+use Rattle.room.specs.Room.{Directory, slotsOf, entered}
 use Rattle.frame.specs.Frame.{inside-after}
 use Rattle.change.specs.Words.{taken}
 use Rattle.change.specs.Laws.{edit-change}
@@ -22,7 +23,7 @@ enter-requires c κs =
     let k = c .before .before .before .before in
     let a = k .before .before .before .before in
     let d = edit-change _ _ _ _ _ (a .pre) in
-    subst (λ (y : List ℕ). Room y × (a .args .at < slotsOf y)) (sym (k .edit-at .ensures)) (d .room, inside-after d)
+    subst (λ (y : List ℕ). Directory y × (a .args .at < slotsOf y)) (sym (k .edit-at .ensures)) (room-directory (d .room), inside-after d)
 
 same-length : tie.Need-same-length
 same-length c = search needs

@@ -1,8 +1,9 @@
 -- The body, then the use.
+use Rattle.room.specs.Laws.{room-directory}
 use mathlib.Core.Path.{sym, ap, subst, _∙_}
 use mathlib.Core.List.{List}
 use Prim.Native.Nat.{ℕ, _<_}
-use Rattle.room.specs.Room.{Room, slotsOf, withUse}
+use Rattle.room.specs.Room.{Directory, slotsOf, withUse}
 use Rattle.frame.specs.Frame.{inside-after}
 use Rattle.change.specs.Words.{updated}
 use Rattle.change.specs.Laws.{edit-change}
@@ -18,7 +19,7 @@ set-use-requires c κs =
     let k = c .before .before .before in
     let a = k .before .before .before in
     let d = edit-change _ _ _ _ _ (a .pre) in
-    subst (λ (y : List ℕ). Room y × (a .args .at < slotsOf y)) (sym (k .edit-at .ensures)) (d .room, inside-after d)
+    subst (λ (y : List ℕ). Directory y × (a .args .at < slotsOf y)) (sym (k .edit-at .ensures)) (room-directory (d .room), inside-after d)
 
 same-length : tie.Need-same-length
 same-length c = search needs

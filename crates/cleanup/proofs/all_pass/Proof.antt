@@ -32,7 +32,8 @@ returns c =
     let p = c .before in
     let l = p .before .before in
     let a = l .before .before .before .args in
-    sym (every-off (slotPasses (a .kind) (a .settings) (a .w .now)) (slotsOf (a .w .now)) (l .loop .i) (p .before .loop-test .taken) (sym (p .slot-passes .ensures) ∙ not-true (p .slot-passes .result) (c .if1 .taken)))
+    sym (every-off (slotPasses (a .kind) (a .settings) (a .w .now)) (slotsOf (a .w .now)) (l .loop .i) (p .before .loop-test .taken)
+    (sym (p .slot-passes .ensures) ∙ not-true (p .slot-passes .result) (c .if1 .taken)))
 
 add-i : tie.Need-add-i Inv-loop μ-loop
 add-i c = search needs
@@ -44,8 +45,11 @@ loop-again : tie.Need-loop-again Inv-loop μ-loop
 loop-again c =
     let p = c .before in
     let l = p .before .before in
-    let a = l .before .before .before .args in
-    (omega arith, every-on (slotPasses (a .kind) (a .settings) (a .w .now)) (l .loop .i) (l .loop .inv .1) (sym (p .slot-passes .ensures) ∙ not-false (p .slot-passes .result) (c .if1 .left)))
+    let a = l .before .before .before .args in (
+      omega arith,
+      every-on (slotPasses (a .kind) (a .settings) (a .w .now)) (l .loop .i) (l .loop .inv .1)
+          (sym (p .slot-passes .ensures) ∙ not-false (p .slot-passes .result) (c .if1 .left)),
+    )
 
 returns-2 : tie.Need-returns-2 Inv-loop μ-loop
 returns-2 c =

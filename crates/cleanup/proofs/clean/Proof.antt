@@ -1,8 +1,9 @@
 -- The uses, then the reading.
+use Rattle.room.specs.Laws.{room-directory}
 use mathlib.Core.Path.{sym, ap, subst, _∙_}
 use mathlib.Core.List.{List}
 use Prim.Native.Nat.{ℕ}
-use Rattle.room.specs.Room.{Room, slotsOf, withReading}
+use Rattle.room.specs.Room.{Directory, slotsOf, withReading}
 use Rattle.cleanup.specs.Cleanup.{cleaned}
 use Rattle.cleanup.specs.Swept.{swept-room}
 use native.Mathlib.Omega.{arith}
@@ -18,7 +19,7 @@ store-reading-requires c κs =
     let k = c .before .before .before in
     let s = k .before .before .before in
     let w = s .args .w .now in
-    subst (λ (y : List ℕ). Room y) (sym (k .sweep .ensures)) (swept-room w (s .args .reading) (s .args .stale) (slotsOf w) (s .pre .room))
+    subst (λ (y : List ℕ). Directory y) (sym (k .sweep .ensures)) (room-directory (swept-room w (s .args .reading) (s .args .stale) (slotsOf w) (s .pre .room)))
 
 same-length : tie.Need-same-length
 same-length c = search needs

@@ -22,7 +22,8 @@ clean-requires : tie.Need-clean-requires
 clean-requires c κs =
     let j = c .before .before in
     let a = j .before .before .before .args in
-    passed-ready (a .kind) (a .settings) (a .room .now) (a .reading) (passed (a .kind) (a .settings) (a .room .now) (a .reading) (sym (j .judge-all .ensures) ∙ c .before .if1 .left))
+    passed-ready (a .kind) (a .settings) (a .room .now) (a .reading)
+    (passed (a .kind) (a .settings) (a .room .now) (a .reading) (sym (j .judge-all .ensures) ∙ c .before .if1 .left))
 
 same-length-2 : tie.Need-same-length-2
 same-length-2 c = search needs
@@ -32,7 +33,8 @@ returns-2 c =
     let k = c .before .before in
     let j = k .before .before .before in
     let a = j .before .before .before .args in
-    cleanup-done (a .kind) (a .settings) (a .room .now) (a .reading) (a .stale) (k .clean .last .0) (sym (j .judge-all .ensures) ∙ k .before .before .if1 .left) (k .clean .ensures)
+    cleanup-done (a .kind) (a .settings) (a .room .now) (a .reading) (a .stale) (k .clean .last .0)
+    (sym (j .judge-all .ensures) ∙ k .before .before .if1 .left) (k .clean .ensures)
 
 pub cleanup-spec : {M : Type 1} → statement M
 cleanup-spec =

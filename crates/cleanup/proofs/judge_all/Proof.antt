@@ -1,7 +1,7 @@
 -- Settings first, then the lengths, then the rest.
 use mathlib.Core.Path.{sym, _∙_}
 use Rattle.base.specs.Decides.{decided, undecided}
-use Rattle.common.specs.Settings.{proper}
+use Rattle.settings.specs.Settings.{proper}
 use Rattle.cleanup.specs.Laws.{number-fault, number-lengths}
 use native.Mathlib.Omega.{arith}
 use borrow.Author.Needs.{needs}
@@ -24,7 +24,8 @@ returns-2 c =
     let z = c .before in
     let n = z .before in
     let a = n .before .before .before .args in
-    number-lengths (a .kind) (a .settings) (a .w .now) (a .reading) (proper (a .settings) (sym (n .before .refusal .ensures) ∙ n .if1 .left)) (undecided (z .sized .result) (c .if2 .taken) (z .sized .ensures))
+    number-lengths (a .kind) (a .settings) (a .w .now) (a .reading) (proper (a .settings) (sym (n .before .refusal .ensures) ∙ n .if1 .left))
+    (undecided (z .sized .result) (c .if2 .taken) (z .sized .ensures))
 
 judge-room-requires : tie.Need-judge-room-requires
 judge-room-requires c κs =

@@ -15,7 +15,8 @@ returns c =
     let p = c .before in
     let s = p .before .before in
     let a = s .args in
-    number-unsound (a .kind) (a .settings) (a .w .now) (a .reading) (s .pre .1) (s .pre .0) (sym (p .all-pass .ensures) ∙ not-true (p .all-pass .result) (c .if1 .taken))
+    number-unsound (a .kind) (a .settings) (a .w .now) (a .reading) (s .pre .1) (s .pre .0)
+    (sym (p .all-pass .ensures) ∙ not-true (p .all-pass .result) (c .if1 .taken))
 
 shared-slice-read-if2 : tie.Need-shared-slice-read-if2
 shared-slice-read-if2 c = search needs
@@ -26,7 +27,8 @@ returns-2 c =
     let p = q .before in
     let s = p .before .before in
     let a = s .args in
-    number-reading (a .kind) (a .settings) (a .w .now) (a .reading) (s .pre .1) (s .pre .0) (sym (p .all-pass .ensures) ∙ not-false (p .all-pass .result) (q .if1 .left)) (c .if2 .taken)
+    number-reading (a .kind) (a .settings) (a .w .now) (a .reading) (s .pre .1) (s .pre .0)
+    (sym (p .all-pass .ensures) ∙ not-false (p .all-pass .result) (q .if1 .left)) (c .if2 .taken)
 
 returns-3 : tie.Need-returns-3
 returns-3 c =
@@ -35,7 +37,12 @@ returns-3 c =
     let s = p .before .before in
     let a = s .args in
     number-none (a .kind) (a .settings) (a .w .now) (a .reading)
-    (record { settings = s .pre .1; room = s .pre .0; sound = sym (p .all-pass .ensures) ∙ not-false (p .all-pass .result) (q .if1 .left); later = c .if2 .left })
+    (record {
+      settings = s .pre .1;
+      room = s .pre .0;
+      sound = sym (p .all-pass .ensures) ∙ not-false (p .all-pass .result) (q .if1 .left);
+      later = c .if2 .left;
+    })
 
 pub judge-room-spec : {M : Type 1} → statement M
 judge-room-spec =

@@ -24,7 +24,8 @@ returns-2 c =
     let k = c .before in
     let u = k .before .before in
     let a = u .before .before .before .args in
-    fails-key (a .kind) (a .settings) (a .w .now) (a .i) (λ z. k .before .if1 .left (u .use-of .ensures ∙ z)) (sym (k .key-fits .ensures) ∙ not-true (k .key-fits .result) (c .if2 .taken))
+    fails-key (a .kind) (a .settings) (a .w .now) (a .i) (λ z. k .before .if1 .left (u .use-of .ensures ∙ z))
+    (sym (k .key-fits .ensures) ∙ not-true (k .key-fits .result) (c .if2 .taken))
 
 open-at-requires : tie.Need-open-at-requires
 open-at-requires c κs = search needs
@@ -43,7 +44,8 @@ returns-3 c =
     let s = u .before .before .before in
     let a = s .args in
     passes-right (a .kind) (a .settings) (a .w .now) (a .i) (a .reading) (u .use-of .result) (o .open-at .result) (c .slot-right .result) (s .pre .1)
-    (λ z. k .before .if1 .left (u .use-of .ensures ∙ z)) (sym (k .key-fits .ensures) ∙ not-false (k .key-fits .result) (o .before .if2 .left)) (u .use-of .ensures) (o .open-at .ensures) (c .slot-right .ensures)
+    (λ z. k .before .if1 .left (u .use-of .ensures ∙ z)) (sym (k .key-fits .ensures) ∙ not-false (k .key-fits .result) (o .before .if2 .left))
+    (u .use-of .ensures) (o .open-at .ensures) (c .slot-right .ensures)
 
 pub slot-passes-spec : {M : Type 1} → statement M
 slot-passes-spec =

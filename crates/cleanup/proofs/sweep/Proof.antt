@@ -1,4 +1,5 @@
 -- After `at` turns the words are those with the first `at` slots swept.
+use Rattle.room.specs.Laws.{room-directory}
 use mathlib.Core.Path.{_≡_, refl, ap, _∙_}
 use Prim.Native.Nat.{_-_, _≤_}
 use lib.ListN.{length}
@@ -33,8 +34,9 @@ set-use-requires : tie.Need-set-use-requires Inv-loop μ-loop
 set-use-requires c κs =
     let l = c .before .before .before .before in
     let s = l .before .before .before in
-    let r = swept-readable (s .args .w .now) (s .args .reading) (s .args .stale) (l .loop .w) (l .loop .at) (l .loop .inv .1) (s .pre) (c .before .before .before .loop-test .taken) in
-    (r .room, r .inside)
+    let r = swept-readable (s .args .w .now) (s .args .reading) (s .args .stale) (l .loop .w) (l .loop .at) (l .loop .inv .1) (s .pre)
+    (c .before .before .before .loop-test .taken) in
+    (room-directory (r .room), r .inside)
 
 add-at : tie.Need-add-at Inv-loop μ-loop
 add-at c = search needs
@@ -48,8 +50,11 @@ loop-again c =
     let n = u .before .before in
     let l = n .before .before .before in
     let a = l .before .before .before .args in
-    let t : l .loop .at ≤ slotsOf (a .w .now) = omega (arith, n .before .before .loop-test .taken) in
-    (omega arith, swept-turn (a .w .now) (a .reading) (a .stale) (l .loop .w) (u .set-use .last .0) (l .loop .at) (n .use-next .result) t (l .loop .inv .1) (n .use-next .ensures) (u .set-use .ensures))
+    let t : l .loop .at ≤ slotsOf (a .w .now) = omega (arith, n .before .before .loop-test .taken) in (
+      omega arith,
+      swept-turn (a .w .now) (a .reading) (a .stale) (l .loop .w) (u .set-use .last .0) (l .loop .at) (n .use-next .result) t (l .loop .inv .1)
+          (n .use-next .ensures) (u .set-use .ensures),
+    )
 
 same-length : tie.Need-same-length Inv-loop μ-loop
 same-length c =

@@ -30,19 +30,29 @@ add-result : tie.Need-add-result
 add-result c =
     let k = c .before .before in
     let a = k .before .before .before .args in
-    omega (arith, k .series-use2 .ensures, c .factor-use2 .ensures, series-few (buckets (a .r) (a .b .now)) (a .reading) (a .stale), factor-few (factorTimeOf (a .b .now)) (a .reading) (a .stale))
+    omega (
+      arith,
+      k .series-use2 .ensures,
+      c .factor-use2 .ensures,
+      series-few (buckets (a .r) (a .b .now)) (a .reading) (a .stale),
+      factor-few (factorTimeOf (a .b .now)) (a .reading) (a .stale),
+    )
 
 returns : tie.Need-returns
-returns c = let a = c .before .before .before .args in after-series (a .r) (a .u) (a .b .now) (a .reading) (a .stale) _ (c .before .match .keys1) (c .series-use .ensures)
+returns c = let a = c .before .before .before .args in
+    after-series (a .r) (a .u) (a .b .now) (a .reading) (a .stale) _ (c .before .match .keys1) (c .series-use .ensures)
 
 returns-2 : tie.Need-returns-2
-returns-2 c = let k = c .before .before in let a = k .before .before .args in after-factor (a .r) (a .u) (a .b .now) (a .reading) (a .stale) _ (k .match .keys2) (c .factor-use .ensures)
+returns-2 c = let k = c .before .before in let a = k .before .before .args in
+    after-factor (a .r) (a .u) (a .b .now) (a .reading) (a .stale) _ (k .match .keys2) (c .factor-use .ensures)
 
 returns-3 : tie.Need-returns-3
-returns-3 c = let k = c .before .before in let a = k .before .before .before .args in after-both (a .r) (a .u) (a .b .now) (a .reading) (a .stale) _ _ (k .before .match .keys3) (k .series-use2 .ensures) (c .factor-use2 .ensures)
+returns-3 c = let k = c .before .before in let a = k .before .before .before .args in
+    after-both (a .r) (a .u) (a .b .now) (a .reading) (a .stale) _ _ (k .before .match .keys3) (k .series-use2 .ensures) (c .factor-use2 .ensures)
 
 returns-4 : tie.Need-returns-4
-returns-4 c = let a = c .before .before .args in let f = c .match .rest in after-other (a .r) (a .u) (a .b .now) (a .reading) (a .stale) (f .0 .0 .1) (f .0 .1) (f .1)
+returns-4 c = let a = c .before .before .args in let f =
+    c .match .rest in after-other (a .r) (a .u) (a .b .now) (a .reading) (a .stale) (f .0 .0 .1) (f .0 .1) (f .1)
 
 pub use-after-spec : {M : Type 1} → statement M
 use-after-spec =

@@ -60,7 +60,8 @@ returns c =
     let a = k .before .before .before .before .args in
     let w = a .w .now in
     c .use-after .ensures ∙
-    ap₂ (λ (u : ℕ) (b : List ℕ). useAfter (ringOf w) u b (a .reading) (a .stale)) (k .before .use-of .ensures) (part-body w (k .start .result) (a .i) (k .start .ensures .at))
+    ap₂ (λ (u : ℕ) (b : List ℕ). useAfter (ringOf w) u b (a .reading) (a .stale)) (k .before .use-of .ensures)
+    (part-body w (k .start .result) (a .i) (k .start .ensures .at))
 
 pub use-next-spec : {M : Type 1} → statement M
 use-next-spec =

@@ -30,7 +30,8 @@ returns : tie.Need-returns
 returns c =
     let a = c .before .before .before .before .before .before .before .before .before .before .before .before .before .before .before .before .args in
     let h = a .hold .now in
-    let e = ap (λ (n : ℕ). take n h) (c .before .before .before .before .before .before .before .before .before .before .before .least .ensures) ∙ take-least (a .desk .held) h in
+    let e = ap (λ (n : ℕ). take n h) (c .before .before .before .before .before .before .before .before .before .before .before .least .ensures) ∙
+    take-least (a .desk .held) h in
     rw e at (c .before .before .before .before .before .before .take-line .ensures)
 
 pub end-line-spec : {M : Type 1} → statement M

@@ -20,7 +20,8 @@ abbrev μ-loop : tie.MeasureT-loop
     length block - taken
 
 loop-holds : tie.Need-loop-holds Inv-loop μ-loop
-loop-holds c = let a = c .before .before .before .before .before .args in (stands-first (whole (a .desk) (a .absolute .now) (a .suppressed .now) (a .hold .now)) (a .block .now) (a .out .now), refl, refl, refl)
+loop-holds c = let a = c .before .before .before .before .before .args in
+    (stands-first (whole (a .desk) (a .absolute .now) (a .suppressed .now) (a .hold .now)) (a .block .now) (a .out .now), refl, refl, refl)
 
 same-length : tie.Need-same-length Inv-loop μ-loop
 same-length c = c .before .before .loop .inv .1
@@ -38,7 +39,8 @@ returns : tie.Need-returns Inv-loop μ-loop
 returns c =
     let a = c .before .before .before .before .before .before .before .before .args in
     let k = c .before .before .loop in
-    stands-full (whole (a .desk) (a .absolute .now) (a .suppressed .now) (a .hold .now)) (a .block .now) (a .out .now) _ _ _ _ (k .inv .0) _ _ _ _ refl (omega (arith, k .inv .0 .same, c .if1 .taken))
+    stands-full (whole (a .desk) (a .absolute .now) (a .suppressed .now) (a .hold .now)) (a .block .now) (a .out .now) _ _ _ _ (k .inv .0) _ _ _ _ refl
+    (omega (arith, k .inv .0 .same, c .if1 .taken))
 
 sub-if2 : tie.Need-sub-if2 Inv-loop μ-loop
 sub-if2 c = search needs
@@ -59,7 +61,8 @@ returns-2 : tie.Need-returns-2 Inv-loop μ-loop
 returns-2 c =
     let a = c .before .before .before .before .before .before .before .before .before .args in
     let k = c .before .before .before .loop in
-    stands-full (whole (a .desk) (a .absolute .now) (a .suppressed .now) (a .hold .now)) (a .block .now) (a .out .now) _ _ _ _ (k .inv .0) _ _ _ _ refl (omega (arith, k .inv .0 .same, c .if2 .taken, c .before .if1 .left))
+    stands-full (whole (a .desk) (a .absolute .now) (a .suppressed .now) (a .hold .now)) (a .block .now) (a .out .now) _ _ _ _ (k .inv .0) _ _ _ _ refl
+    (omega (arith, k .inv .0 .same, c .if2 .taken, c .before .if1 .left))
 
 shared-slice-read-feed-byte : tie.Need-shared-slice-read-feed-byte Inv-loop μ-loop
 shared-slice-read-feed-byte c = search needs
@@ -75,11 +78,22 @@ loop-less c = search needs
 
 loop-again : tie.Need-loop-again Inv-loop μ-loop
 loop-again c =
-    let a = c .before .before .before .before .before .before .before .before .before .before .before .before .before .before .before .before .before .before .before .before .before .before .before .before .args in
-    let k = c .before .before .before .before .before .before .before .before .before .before .before .before .before .before .before .before .before .before .loop in
+    let a = c .before .before .before .before .before .before .before .before .before .before .before .before .before .before .before .before .before .before
+    .before .before .before .before .before .before .args in
+    let k = c .before .before .before .before .before .before .before .before .before .before .before .before .before .before .before .before .before .before
+    .loop in
     let f = c .before .before .before .before .before .before .before .before .before .feed-byte in
     let s = k .inv .0 in (
-      stands-next (whole (a .desk) (a .absolute .now) (a .suppressed .now) (a .hold .now)) (a .block .now) (a .out .now) _ _ _ _ s _ (f .result) _ _ _ _ refl (c .before .before .before .before .before .before .before .before .before .before .before .before .before .before .before .before .before .loop-test .taken) (omega (arith, s .same, c .before .before .before .before .before .before .before .before .before .before .before .before .before .before .before .if2 .left, c .before .before .before .before .before .before .before .before .before .before .before .before .before .before .before .before .if1 .left)) (f .ensures) (f .kept .1 .1 .1 .1 .1 .0),
+      stands-next (whole (a .desk) (a .absolute .now) (a .suppressed .now) (a .hold .now)) (a .block .now) (a .out .now) _ _ _ _ s _ (f .result) _ _ _ _ refl
+          (c .before .before .before .before .before .before .before .before .before .before .before .before .before .before .before .before .before
+          .loop-test .taken) (omega (
+            arith,
+            s .same,
+            c .before .before .before .before .before .before .before .before .before .before .before .before .before
+                .before .before .if2 .left,
+            c .before .before .before .before .before .before .before .before .before .before .before .before .before .before
+                .before .before .if1 .left,
+          )) (f .ensures) (f .kept .1 .1 .1 .1 .1 .0),
       f .kept .1 .0 ∙ k .inv .1,
       f .kept .1 .1 .0 ∙ k .inv .2,
       f .kept .1 .1 .1 .0 ∙ k .inv .3,
@@ -101,7 +115,8 @@ returns-3 : tie.Need-returns-3 Inv-loop μ-loop
 returns-3 c =
     let a = c .before .before .before .before .before .before .before .args in
     let k = c .before .loop in
-    stands-end (whole (a .desk) (a .absolute .now) (a .suppressed .now) (a .hold .now)) (a .block .now) (a .out .now) _ _ _ _ (k .inv .0) _ _ _ _ refl (c .loop-test .left)
+    stands-end (whole (a .desk) (a .absolute .now) (a .suppressed .now) (a .hold .now)) (a .block .now) (a .out .now) _ _ _ _ (k .inv .0) _ _ _ _ refl
+    (c .loop-test .left)
 
 pub feed-spec : {M : Type 1} → statement M
 feed-spec =

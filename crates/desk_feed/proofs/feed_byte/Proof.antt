@@ -32,7 +32,8 @@ returns c =
     let w = whole (a .desk) (a .absolute .now) (a .suppressed .now) (a .hold .now) in
     let e = c .before .before .before .before .before .before .before .end-line in
     rw (eq-eqb _ _ (c .before .before .before .before .before .before .before .before .before .before .before .before .if1 .taken))
-    (line-gone (ending w) (a .out .now) (a .at) (e .result) (e .last .1 .0) (e .last .1 .1 .0) (a .hold .now) (e .last .1 .1 .1 .1 .0) (c .rested .result) (c .rested .ensures) (e .ensures))
+    (line-gone (ending w) (a .out .now) (a .at) (e .result) (e .last .1 .0) (e .last .1 .1 .0) (a .hold .now) (e .last .1 .1 .1 .1 .0) (c .rested .result)
+    (c .rested .ensures) (e .ensures))
 
 keep-requires : tie.Need-keep-requires
 keep-requires c κs = search needs

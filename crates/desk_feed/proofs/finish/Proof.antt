@@ -2,7 +2,7 @@
 -- Assumes nothing.
 use mathlib.Core.Path.{refl}
 use borrow.Author.Tests.{lt-ltb, le-ltb}
-use Rattle.answers.specs.Printing.{put-none}
+use Rattle.printing.specs.Printing.{put-none}
 use Rattle.desk_feed.specs.Feed.{finishing}
 use borrow.Author.Needs.{needs}
 use Rattle.desk_feed.proofs.finish.Statement.{statement}
@@ -21,7 +21,8 @@ returns-2 : tie.Need-returns-2
 unfolding finishing
 returns-2 c =
     let a = c .before .before .before .before .before .before .before .args in
-    rw (le-ltb _ _ (c .before .before .if1 .left), ← c .before .is-over .ensures, c .if2 .taken) (record { phase = refl; absolute = refl; suppressed = refl; put = put-none (a .out .now) 0 })
+    rw (le-ltb _ _ (c .before .before .if1 .left), ← c .before .is-over .ensures, c .if2 .taken)
+    (record { phase = refl; absolute = refl; suppressed = refl; put = put-none (a .out .now) 0 })
 
 end-line-requires : tie.Need-end-line-requires
 end-line-requires c κs = search needs
@@ -37,7 +38,12 @@ same-length-3 c = search needs
 
 returns-3 : tie.Need-returns-3
 unfolding finishing
-returns-3 c = rw (le-ltb _ _ (c .before .before .before .before .before .before .before .before .before .before .before .before .if1 .left), ← c .before .before .before .before .before .before .before .before .before .before .before .is-over .ensures, c .before .before .before .before .before .before .before .before .before .before .if2 .left) (c .before .before .before .before .before .before .end-line .ensures)
+returns-3 c = rw (
+  le-ltb _ _ (c .before .before .before .before .before .before .before .before .before .before .before .before .if1 .left),
+  ← c .before .before .before .before .before .before .before .before .before .before .before .is-over .ensures,
+  c .before .before .before .before .before .before .before .before .before .before .if2 .left,
+)
+    (c .before .before .before .before .before .before .end-line .ensures)
 
 pub finish-spec : {M : Type 1} → statement M
 finish-spec =

@@ -1,7 +1,7 @@
 -- Each arm is its case of the definition.
 -- Assumes nothing.
 use mathlib.Core.Path.{refl, sym, _∙_}
-use Rattle.answers.specs.Printing.{put-none}
+use Rattle.printing.specs.Printing.{put-none}
 use borrow.Author.Needs.{needs}
 use Rattle.desk_feed.proofs.open_desk.Statement.{statement}
 use Rattle.desk_feed.proofs.open_desk.Tie as tie
@@ -30,7 +30,9 @@ same-length : tie.Need-same-length
 same-length c = search needs
 
 returns-2 : tie.Need-returns-2
-returns-2 c = rw (sym (c .before .before .before .before .before .before .before .before .begin .ensures) ∙ c .before .before .before .before .before .before .opening2 .given .1) (record { phase = refl; put = rw (c .before .before .before .before .refusal .ensures) at (c .before .before .put-line .ensures) })
+returns-2 c = rw (sym (c .before .before .before .before .before .before .before .before .begin .ensures) ∙
+    c .before .before .before .before .before .before .opening2 .given .1)
+    (record { phase = refl; put = rw (c .before .before .before .before .refusal .ensures) at (c .before .before .put-line .ensures) })
 
 pub open-desk-spec : {M : Type 1} → statement M
 open-desk-spec =

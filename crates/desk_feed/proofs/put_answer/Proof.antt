@@ -25,7 +25,12 @@ add-result : tie.Need-add-result
 add-result c =
     let a = c .before .before .before .before .before in
     let p = c .before .before .print in
-    omega (arith, answer-put (a .args .line) (a .args .out .now) (p .last .1 .0) (a .args .at) (p .result) (a .pre) (p .ensures) (p .kept .1 .0) .short, a .pre, a .good .1 .0)
+    omega (
+      arith,
+      answer-put (a .args .line) (a .args .out .now) (p .last .1 .0) (a .args .at) (p .result) (a .pre) (p .ensures) (p .kept .1 .0) .short,
+      a .pre,
+      a .good .1 .0,
+    )
 
 same-length : tie.Need-same-length
 same-length c = search needs

@@ -1,7 +1,7 @@
 -- Each arm is its case of the definition.
 -- Assumes nothing.
 use mathlib.Core.Path.{refl}
-use Rattle.answers.specs.Printing.{put-none}
+use Rattle.printing.specs.Printing.{put-none}
 use Rattle.desk_feed.specs.Feed.{turn}
 use borrow.Author.Needs.{needs}
 use Rattle.desk_feed.proofs.take_line.Statement.{statement}
@@ -41,7 +41,8 @@ same-length-4 : tie.Need-same-length-4
 same-length-4 c = search needs
 
 returns-2 : tie.Need-returns-2
-returns-2 c = rw (c .before .before .before .before .before .before .before .before .before .before .before .phase .given .1) (c .before .before .before .before .before .before .put-step .ensures)
+returns-2 c = rw (c .before .before .before .before .before .before .before .before .before .before .before .phase .given .1)
+    (c .before .before .before .before .before .before .put-step .ensures)
 
 returns-3 : tie.Need-returns-3
 unfolding turn

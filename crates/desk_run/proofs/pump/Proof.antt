@@ -12,7 +12,8 @@ use Rattle.desk_run.proofs.pump.Tie as tie
 
 -- the part from `at` on is no longer than what is left
 inside : (block : List ℕ) (at n : ℕ) → n ≤ length (take (length block - at) (drop at block)) → n ≤ length block - at
-inside block at n h = let e : length (take (length block - at) (drop at block)) ≤ length block - at = simp (length-take, length-drop) (omega arith) in omega arith
+inside block at n h = let e : length (take (length block - at) (drop at block)) ≤ length block - at =
+    simp (length-take, length-drop) (omega arith) in omega arith
 
 abbrev Inv-loop : tie.InvT-loop
 Inv-loop absolute₀ suppressed₀ hold₀ block out₀ state₀ at₀ absolute suppressed hold out state at =
@@ -40,39 +41,64 @@ write-put-requires : tie.Need-write-put-requires Inv-loop μ-loop
 write-put-requires c κs = put-inside _ _ _ _ (c .before .before .before .before .before .before .before .before .before .feed .ensures .put)
 
 same-length : tie.Need-same-length Inv-loop μ-loop
-same-length c = c .before .before .before .before .before .before .before .before .before .before .before .before .feed .kept .1 .0 ∙ c .before .before .before .before .before .before .before .before .before .before .before .before .before .before .before .before .before .before .before .loop .inv .0
+same-length c = c .before .before .before .before .before .before .before .before .before .before .before .before .feed .kept .1 .0 ∙
+    c .before .before .before .before .before .before .before .before .before .before .before .before .before .before .before .before .before .before .before
+    .loop .inv .0
 
 same-length-2 : tie.Need-same-length-2 Inv-loop μ-loop
-same-length-2 c = c .before .before .before .before .before .before .before .before .before .before .before .before .feed .kept .1 .1 .0 ∙ c .before .before .before .before .before .before .before .before .before .before .before .before .before .before .before .before .before .before .before .loop .inv .1
+same-length-2 c = c .before .before .before .before .before .before .before .before .before .before .before .before .feed .kept .1 .1 .0 ∙
+    c .before .before .before .before .before .before .before .before .before .before .before .before .before .before .before .before .before .before .before
+    .loop .inv .1
 
 same-length-3 : tie.Need-same-length-3 Inv-loop μ-loop
-same-length-3 c = c .before .before .before .before .before .before .before .before .before .before .before .before .feed .kept .1 .1 .1 .0 ∙ c .before .before .before .before .before .before .before .before .before .before .before .before .before .before .before .before .before .before .before .loop .inv .2
+same-length-3 c = c .before .before .before .before .before .before .before .before .before .before .before .before .feed .kept .1 .1 .1 .0 ∙
+    c .before .before .before .before .before .before .before .before .before .before .before .before .before .before .before .before .before .before .before
+    .loop .inv .2
 
 same-length-4 : tie.Need-same-length-4 Inv-loop μ-loop
-same-length-4 c = c .before .before .before .before .before .before .before .before .before .before .before .before .feed .kept .1 .1 .1 .1 .1 .0 ∙ c .before .before .before .before .before .before .before .before .before .before .before .before .before .before .before .before .before .before .before .loop .inv .3
+same-length-4 c = c .before .before .before .before .before .before .before .before .before .before .before .before .feed .kept .1 .1 .1 .1 .1 .0 ∙
+    c .before .before .before .before .before .before .before .before .before .before .before .before .before .before .before .before .before .before .before
+    .loop .inv .3
 
 returns : tie.Need-returns Inv-loop μ-loop
 returns c = search needs
 
 add-at : tie.Need-add-at Inv-loop μ-loop
 add-at c =
-    let k = c .before .before .before .before .before .before .before .before .before .before .before .before .before .before .before .before .before .before .before .loop in
+    let k = c .before .before .before .before .before .before .before .before .before .before .before .before .before .before .before .before .before .before
+    .before .loop in
     let f = c .before .before .before .before .before .before .before .before .before .before .before .before .feed in
-    let a = c .before .before .before .before .before .before .before .before .before .before .before .before .before .before .before .before .before .before .before .before .before .before .before .before .before in
+    let a = c .before .before .before .before .before .before .before .before .before .before .before .before .before .before .before .before .before .before
+    .before .before .before .before .before .before .before in
     let t = inside (a .args .block .now) (k .at) (f .result .taken) (feeding-inside _ _ _ _ _ _ _ _ (f .ensures)) in
-    omega (arith, t, c .before .before .before .before .before .before .before .before .before .before .before .before .before .before .before .before .before .before .loop-test .taken, a .good .1 .1 .1 .1 .0)
+    omega (
+      arith,
+      t,
+      c .before .before .before .before .before .before .before .before .before .before .before .before .before .before .before .before .before
+          .before .loop-test .taken,
+      a .good .1 .1 .1 .1 .0,
+    )
 
 loop-less : tie.Need-loop-less Inv-loop μ-loop
 loop-less c =
-    let k = c .before .before .before .before .before .before .before .before .before .before .before .before .before .before .before .before .before .before .before .loop in
+    let k = c .before .before .before .before .before .before .before .before .before .before .before .before .before .before .before .before .before .before
+    .before .loop in
     let f = c .before .before .before .before .before .before .before .before .before .before .before .before .feed in
-    let a = c .before .before .before .before .before .before .before .before .before .before .before .before .before .before .before .before .before .before .before .before .before .before .before .before .before in
+    let a = c .before .before .before .before .before .before .before .before .before .before .before .before .before .before .before .before .before .before
+    .before .before .before .before .before .before .before in
     let t = inside (a .args .block .now) (k .at) (f .result .taken) (feeding-inside _ _ _ _ _ _ _ _ (f .ensures)) in
-    omega (arith, t, c .before .before .before .before .before .before .before .before .before .before .before .before .before .before .before .before .before .before .loop-test .taken, c .if1 .left)
+    omega (
+      arith,
+      t,
+      c .before .before .before .before .before .before .before .before .before .before .before .before .before .before .before .before .before
+          .before .loop-test .taken,
+      c .if1 .left,
+    )
 
 loop-again : tie.Need-loop-again Inv-loop μ-loop
 loop-again c =
-    let k = c .before .before .before .before .before .before .before .before .before .before .before .before .before .before .before .before .before .before .before .loop .inv in
+    let k = c .before .before .before .before .before .before .before .before .before .before .before .before .before .before .before .before .before .before
+    .before .loop .inv in
     let f = c .before .before .before .before .before .before .before .before .before .before .before .before .feed .kept in
     (f .1 .0 ∙ k .0, f .1 .1 .0 ∙ k .1, f .1 .1 .1 .0 ∙ k .2, f .1 .1 .1 .1 .1 .0 ∙ k .3)
 

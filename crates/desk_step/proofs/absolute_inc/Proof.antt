@@ -28,7 +28,8 @@ returns c =
     let a = c .before .before .before .before .before .before .before .before .before .before .args in
     let g = c .before .before .before .before .before .inc in
     let told = rw (c .before .before .before .before .before .before .per-minute .ensures) at (g .ensures) in
-    line-told (decisionLine (a .t)) (a .key .now) (Absolute.inc (a .settings) (a .room .now) (a .t) (a .key .now) (perMinute (a .rate)) (a .n)) (g .result) (g .last .1 .0) (c .before .stored-of .result) (c .decision-line .result) told (c .before .stored-of .ensures) (c .decision-line .ensures)
+    line-told (decisionLine (a .t)) (a .key .now) (Absolute.inc (a .settings) (a .room .now) (a .t) (a .key .now) (perMinute (a .rate)) (a .n)) (g .result)
+    (g .last .1 .0) (c .before .stored-of .result) (c .decision-line .result) told (c .before .stored-of .ensures) (c .decision-line .ensures)
 
 pub absolute-inc-spec : {M : Type 1} → statement M
 absolute-inc-spec =

@@ -22,16 +22,20 @@ refused-requires c κs = search needs
 
 returns : tie.Need-returns
 unfolding stepped
-returns c = rw (sym (c .before .before .before .read-call .ensures) ∙ c .before .enum-told .given .1) (record { answer = c .refused .ensures; absolute = refl; suppressed = refl })
+returns c = rw (sym (c .before .before .before .read-call .ensures) ∙ c .before .enum-told .given .1)
+    (record { answer = c .refused .ensures; absolute = refl; suppressed = refl })
 
 sub-call : tie.Need-sub-call
-sub-call c = let k = read-inside _ _ _ _ _ _ _ _ (sym (c .before .before .before .before .before .read-call .ensures) ∙ c .before .before .before .t .given .1) in omega (arith, k .starts)
+sub-call c = let k = read-inside _ _ _ _ _ _ _ _ (sym (c .before .before .before .before .before .read-call .ensures) ∙
+    c .before .before .before .t .given .1) in omega (arith, k .starts)
 
 part-call-start : tie.Need-part-call-start
-part-call-start c = let k = read-inside _ _ _ _ _ _ _ _ (sym (c .before .before .before .before .before .read-call .ensures) ∙ c .before .before .before .t .given .1) in omega (arith, k .starts)
+part-call-start c = let k = read-inside _ _ _ _ _ _ _ _ (sym (c .before .before .before .before .before .read-call .ensures) ∙
+    c .before .before .before .t .given .1) in omega (arith, k .starts)
 
 part-call-end : tie.Need-part-call-end
-part-call-end c = let k = read-inside _ _ _ _ _ _ _ _ (sym (c .before .before .before .before .before .read-call .ensures) ∙ c .before .before .before .t .given .1) in omega (arith, k .ends)
+part-call-end c = let k = read-inside _ _ _ _ _ _ _ _ (sym (c .before .before .before .before .before .read-call .ensures) ∙
+    c .before .before .before .t .given .1) in omega (arith, k .ends)
 
 call-requires : tie.Need-call-requires
 call-requires c κs = search needs
@@ -44,7 +48,8 @@ same-length-2 c = search needs
 
 returns-2 : tie.Need-returns-2
 unfolding stepped
-returns-2 c = rw (sym (c .before .before .before .before .before .before .before .before .before .before .before .read-call .ensures) ∙ c .before .before .before .before .before .before .before .before .before .t .given .1) (c .before .before .before .before .call .ensures)
+returns-2 c = rw (sym (c .before .before .before .before .before .before .before .before .before .before .before .read-call .ensures) ∙
+    c .before .before .before .before .before .before .before .before .before .t .given .1) (c .before .before .before .before .call .ensures)
 
 pub step-spec : {M : Type 1} → statement M
 step-spec =

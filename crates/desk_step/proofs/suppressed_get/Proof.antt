@@ -24,7 +24,8 @@ unfolding suppressedGet
 returns c =
     let a = c .before .before .before .before .before .before .before .before .before .args in
     let g = c .before .before .before .before .before .get in
-    line-told (snapshotLine (a .t)) (a .key .now) (Suppressed.get (a .settings) (a .room .now) (a .t) (a .key .now)) (g .result) (g .last .1 .0) (c .before .stored-of .result) (c .snapshot-line .result) (g .ensures) (c .before .stored-of .ensures) (c .snapshot-line .ensures)
+    line-told (snapshotLine (a .t)) (a .key .now) (Suppressed.get (a .settings) (a .room .now) (a .t) (a .key .now)) (g .result) (g .last .1 .0)
+    (c .before .stored-of .result) (c .snapshot-line .result) (g .ensures) (c .before .stored-of .ensures) (c .snapshot-line .ensures)
 
 pub suppressed-get-spec : {M : Type 1} → statement M
 suppressed-get-spec =

@@ -3,7 +3,7 @@
 use Rattle.history.specs.Steps.{grows-free, grows-raises}
 use Rattle.history.specs.Words.{raisedWords, grownWords}
 use Rattle.ring.specs.Ring.{lenOf}
-use Rattle.history.specs.Rules.{keptEnd}
+use Rattle.rules.specs.Buckets.{keptEnd}
 use borrow.Author.Tests.{eq-eqb, ne-eqb}
 use Prim.Native.Nat.{ℕ, _-_}
 use mathlib.Core.Path.{_≡_, sym, ap, _∙_}
@@ -31,7 +31,8 @@ kept-end-requires c κs = search needs
 
 raise-requires : tie.Need-raise-requires
 raise-requires c κs = let a = c .before .before .before .before .before .before .args in
-    grows-raises (a .p) (c .before .before .before .len .result) (c .before .kept-end .result) (c .before .before .before .before .before .before .pre) (c .before .before .before .len .ensures) (c .before .before .if1 .left) (c .before .kept-end .ensures)
+    grows-raises (a .p) (c .before .before .before .len .result) (c .before .kept-end .result) (c .before .before .before .before .before .before .pre)
+    (c .before .before .before .len .ensures) (c .before .before .if1 .left) (c .before .kept-end .ensures)
 
 same-length-2 : tie.Need-same-length-2
 same-length-2 c = search needs
@@ -39,8 +40,11 @@ same-length-2 c = search needs
 returns-2 : tie.Need-returns-2
 unfolding grownWords
 returns-2 c = let a = c .before .before .before .before .before .before .before .before .before .args in
-    let n : lenOf (a .b .now) ≡ 0 → ⊥ = λ z. c .before .before .before .before .before .if1 .left (c .before .before .before .before .before .before .len .ensures ∙ z) in
-    rw (ne-eqb _ _ n) (c .before .before .raise .ensures ∙ ap (λ (i : ℕ). raisedWords (a .r) (a .b .now) i (a .surplus) 0) (c .before .before .before .before .kept-end .ensures ∙ ap (keptEnd (a .p)) (c .before .before .before .before .before .before .len .ensures)))
+    let n : lenOf (a .b .now) ≡ 0 → ⊥ = λ z. c .before .before .before .before .before .if1 .left
+    (c .before .before .before .before .before .before .len .ensures ∙ z) in
+    rw (ne-eqb _ _ n) (c .before .before .raise .ensures ∙
+    ap (λ (i : ℕ). raisedWords (a .r) (a .b .now) i (a .surplus) 0) (c .before .before .before .before .kept-end .ensures ∙
+    ap (keptEnd (a .p)) (c .before .before .before .before .before .before .len .ensures)))
 
 pub grow-spec : {M : Type 1} → statement M
 grow-spec =

@@ -17,10 +17,16 @@ len-requires c κs = search needs
 
 sub-raise : tie.Need-sub-raise
 sub-raise c = let a = c .before .before .before .before .before .before .before .args in
-    omega (arith, takes-some (a .r) (a .b .now) (a .size) (a .reading) (sym (c .before .before .before .before .is-joined .ensures) ∙ c .before .before .before .if1 .taken), c .before .len .ensures)
+    omega (
+      arith,
+      takes-some (a .r) (a .b .now) (a .size) (a .reading) (sym (c .before .before .before .before .is-joined .ensures) ∙
+          c .before .before .before .if1 .taken),
+      c .before .len .ensures,
+    )
 
 raise-requires : tie.Need-raise-requires
-raise-requires c κs = takes-raises (c .before .len .result) (c .before .before .before .before .before .before .before .pre) (sym (c .before .before .before .before .is-joined .ensures) ∙ c .before .before .before .if1 .taken) (c .before .len .ensures)
+raise-requires c κs = takes-raises (c .before .len .result) (c .before .before .before .before .before .before .before .pre)
+    (sym (c .before .before .before .before .is-joined .ensures) ∙ c .before .before .before .if1 .taken) (c .before .len .ensures)
 
 same-length : tie.Need-same-length
 same-length c = search needs
@@ -28,7 +34,9 @@ same-length c = search needs
 returns : tie.Need-returns
 unfolding incremented
 returns c = let a = c .before .before .before .before .before .before .before .before .before .before .args in
-    rw (sym (c .before .before .before .before .before .before .before .is-joined .ensures) ∙ c .before .before .before .before .before .before .if1 .taken) (c .before .before .raise .ensures ∙ ap (λ (k : ℕ). raisedWords (a .r) (a .b .now) (k - 1) (a .count) (a .declined)) (c .before .before .before .before .len .ensures))
+    rw (sym (c .before .before .before .before .before .before .before .is-joined .ensures) ∙ c .before .before .before .before .before .before .if1 .taken)
+    (c .before .before .raise .ensures ∙ ap (λ (k : ℕ). raisedWords (a .r) (a .b .now) (k - 1) (a .count) (a .declined))
+    (c .before .before .before .before .len .ensures))
 
 push-requires : tie.Need-push-requires
 push-requires c κs = takes-free (c .before .before .before .before .before .pre) (sym (c .before .before .is-joined .ensures) ∙ c .before .if1 .left)
@@ -38,7 +46,8 @@ same-length-2 c = search needs
 
 returns-2 : tie.Need-returns-2
 unfolding incremented
-returns-2 c = rw (sym (c .before .before .before .before .before .is-joined .ensures) ∙ c .before .before .before .before .if1 .left) (c .before .before .push .ensures)
+returns-2 c = rw (sym (c .before .before .before .before .before .is-joined .ensures) ∙ c .before .before .before .before .if1 .left)
+    (c .before .before .push .ensures)
 
 pub increment-spec : {M : Type 1} → statement M
 increment-spec =

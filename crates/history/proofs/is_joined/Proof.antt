@@ -27,7 +27,8 @@ less-requires c κs = search needs
 
 returns-2 : tie.Need-returns-2
 returns-2 c = let a = c .before .before .before .before .before .args in
-    joined-is (a .r) (a .b .now) (a .size) (a .reading) (c .before .before .before .len .result) (c .less .result) (c .before .nth .result) (c .before .before .before .len .ensures) (c .before .before .if1 .left) (c .before .nth .ensures) (c .less .ensures)
+    joined-is (a .r) (a .b .now) (a .size) (a .reading) (c .before .before .before .len .result) (c .less .result) (c .before .nth .result)
+    (c .before .before .before .len .ensures) (c .before .before .if1 .left) (c .before .nth .ensures) (c .less .ensures)
 
 pub is-joined-spec : {M : Type 1} → statement M
 is-joined-spec =

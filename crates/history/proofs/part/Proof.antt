@@ -19,21 +19,31 @@ nth-requires c κs = search needs
 
 sub-retained : tie.Need-sub-retained
 sub-retained c = let a = c .before .before .before .before .before .before .args in
-    part-some (a .p) (a .r) (a .b .now) (a .reading) (a .q) (c .before .before .lost .result) (c .nth .result) _ (c .before .before .before .before .before .before .pre) (c .before .before .lost .ensures .0 ∙ ap (λ (n : ℕ). lostAt (a .p) n 0) (c .before .before .before .len .ensures)) (c .nth .ensures) refl
+    part-some (a .p) (a .r) (a .b .now) (a .reading) (a .q) (c .before .before .lost .result) (c .nth .result) _
+    (c .before .before .before .before .before .before .pre) (c .before .before .lost .ensures .0 ∙
+    ap (λ (n : ℕ). lostAt (a .p) n 0) (c .before .before .before .len .ensures)) (c .nth .ensures) refl
 
 mul-div-requires : tie.Need-mul-div-requires
 mul-div-requires c κs = search needs
 
 rewrite-requires : tie.Need-rewrite-requires
 rewrite-requires c κs = let a = c .before .before .before .before .before .before .before .before .args in
-    part-stores (a .p) (a .r) (a .b .now) (a .reading) (a .q) (c .before .before .before .before .lost .result) (c .before .before .nth .result) (c .before .mul-div .result) (c .before .before .before .before .before .before .before .before .pre) (c .before .before .before .before .lost .ensures .0 ∙ ap (λ (n : ℕ). lostAt (a .p) n 0) (c .before .before .before .before .before .len .ensures)) (c .before .before .nth .ensures) (c .before .mul-div .ensures)
+    part-stores (a .p) (a .r) (a .b .now) (a .reading) (a .q) (c .before .before .before .before .lost .result) (c .before .before .nth .result)
+    (c .before .mul-div .result) (c .before .before .before .before .before .before .before .before .pre)
+    (c .before .before .before .before .lost .ensures .0 ∙ ap (λ (n : ℕ). lostAt (a .p) n 0) (c .before .before .before .before .before .len .ensures))
+    (c .before .before .nth .ensures) (c .before .mul-div .ensures)
 
 same-length : tie.Need-same-length
 same-length c = search needs
 
 returns : tie.Need-returns
 returns c = let a = c .before .before .before .before .before .before .before .before .before .before .before .args in
-    c .before .before .rewrite .ensures ∙ part-words (a .p) (a .r) (a .b .now) (a .reading) (a .q) (c .before .before .before .before .before .before .before .lost .result) (c .before .before .before .before .before .nth .result) (c .before .before .before .before .mul-div .result) (c .before .before .before .before .before .before .before .before .before .before .before .pre) (c .before .before .before .before .before .before .before .lost .ensures .0 ∙ ap (λ (n : ℕ). lostAt (a .p) n 0) (c .before .before .before .before .before .before .before .before .len .ensures)) (c .before .before .before .before .before .nth .ensures) (c .before .before .before .before .mul-div .ensures)
+    c .before .before .rewrite .ensures ∙ part-words (a .p) (a .r) (a .b .now) (a .reading) (a .q)
+    (c .before .before .before .before .before .before .before .lost .result) (c .before .before .before .before .before .nth .result)
+    (c .before .before .before .before .mul-div .result) (c .before .before .before .before .before .before .before .before .before .before .before .pre)
+    (c .before .before .before .before .before .before .before .lost .ensures .0 ∙
+    ap (λ (n : ℕ). lostAt (a .p) n 0) (c .before .before .before .before .before .before .before .before .len .ensures))
+    (c .before .before .before .before .before .nth .ensures) (c .before .before .before .before .mul-div .ensures)
 
 pub part-spec : {M : Type 1} → statement M
 part-spec =

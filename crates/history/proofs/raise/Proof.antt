@@ -21,14 +21,16 @@ add-d c = omega (arith, ap deniedOf (c .before .before .nth .ensures))
 
 rewrite-requires : tie.Need-rewrite-requires
 rewrite-requires c κs = let a = c .before .before .before .before .before .before .args in
-    subst (λ (x : Bucket). Within (a .r) (a .b .now) (a .i) (x .count + a .count) (x .declined + a .declined)) (sym (c .before .before .before .nth .ensures)) (raise-within (c .before .before .before .before .before .before .pre))
+    subst (λ (x : Bucket). Within (a .r) (a .b .now) (a .i) (x .count + a .count) (x .declined + a .declined)) (sym (c .before .before .before .nth .ensures))
+    (raise-within (c .before .before .before .before .before .before .pre))
 
 same-length : tie.Need-same-length
 same-length c = search needs
 
 returns : tie.Need-returns
 returns c = let a = c .before .before .before .before .before .before .before .before .before .args in
-    c .before .before .rewrite .ensures ∙ ap (λ (x : Bucket). rewritten (a .r) (a .b .now) (a .i) (x .count + a .count) (x .declined + a .declined)) (c .before .before .before .before .before .before .nth .ensures)
+    c .before .before .rewrite .ensures ∙ ap (λ (x : Bucket). rewritten (a .r) (a .b .now) (a .i) (x .count + a .count) (x .declined + a .declined))
+    (c .before .before .before .before .before .before .nth .ensures)
 
 pub raise-spec : {M : Type 1} → statement M
 raise-spec = tie.close (tie.spec nth-requires add-c add-d rewrite-requires same-length returns)

@@ -18,7 +18,8 @@ evict-requires c κs = sets-leaves (c .before .len .result) (c .before .before .
 
 push-requires : tie.Need-push-requires
 push-requires c κs = let a = c .before .before .before .before .before .before .before .before .args in
-    sets-free _ (c .before .before .before .before .before .before .before .before .pre) (c .before .before .before .evict .ensures ∙ ap (without (a .r) (a .b .now)) (c .before .before .before .before .before .len .ensures))
+    sets-free _ (c .before .before .before .before .before .before .before .before .pre)
+    (c .before .before .before .evict .ensures ∙ ap (without (a .r) (a .b .now)) (c .before .before .before .before .before .len .ensures))
 
 same-length : tie.Need-same-length
 same-length c = search needs
@@ -26,7 +27,9 @@ same-length c = search needs
 returns : tie.Need-returns
 unfolding replacedWords
 returns c = let a = c .before .before .before .before .before .before .before .before .before .before .before .args in
-    c .before .before .push .ensures ∙ ap (λ (w : List ℕ). pushed (a .r) w (a .n) 0 (a .reading)) (c .before .before .before .before .before .before .evict .ensures ∙ ap (without (a .r) (a .b .now)) (c .before .before .before .before .before .before .before .before .len .ensures))
+    c .before .before .push .ensures ∙ ap (λ (w : List ℕ). pushed (a .r) w (a .n) 0 (a .reading))
+    (c .before .before .before .before .before .before .evict .ensures ∙
+    ap (without (a .r) (a .b .now)) (c .before .before .before .before .before .before .before .before .len .ensures))
 
 pub replace-spec : {M : Type 1} → statement M
 replace-spec = tie.close (tie.spec len-requires evict-requires push-requires same-length returns)

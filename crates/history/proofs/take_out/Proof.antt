@@ -2,8 +2,8 @@
 -- Assumes nothing.
 use Rattle.history.specs.Preserves.{OutLeaves}
 use Rattle.history.specs.Words.{outWords}
-use Rattle.common.specs.declared.history_mode.HistoryPreservation.the-variants.{PreserveNewest, PreserveOldest}
-use Rattle.common.specs.declared.history_mode.HistoryPreservation.{HistoryPreservation}
+use Rattle.answers.specs.declared.HistoryPreservation.the-variants.{PreserveNewest, PreserveOldest}
+use Rattle.answers.specs.declared.HistoryPreservation.{HistoryPreservation}
 use mathlib.Core.Path.{_≡_, sym, ap, subst, _∙_}
 use borrow.Author.Needs.{needs}
 use Rattle.history.proofs.take_out.Statement.{statement}

@@ -25,7 +25,8 @@ loop-holds : tie.Need-loop-holds Inv-loop μ-loop
 loop-holds c = let a = c .before .before .before .args in (omega arith, walking-start (a .p) (a .r) (a .b .now) (a .m) _ refl)
 
 returns : tie.Need-returns Inv-loop μ-loop
-returns c = let a = c .before .before .before .before .before .before .args in let l = c .before .before .loop in walking-done (a .p) (a .r) (a .b .now) (a .m) (l .k) (l .rest) (l .declined) (l .inv .1) (c .if1 .taken)
+returns c = let a = c .before .before .before .before .before .before .args in let l =
+    c .before .before .loop in walking-done (a .p) (a .r) (a .b .now) (a .m) (l .k) (l .rest) (l .declined) (l .inv .1) (c .if1 .taken)
 
 lost-requires : tie.Need-lost-requires Inv-loop μ-loop
 lost-requires c κs = search needs
@@ -36,7 +37,10 @@ nth-requires c κs = search needs
 returns-2 : tie.Need-returns-2 Inv-loop μ-loop
 returns-2 c = let a = c .before .before .before .before .before .before .before .before .before .args in
     let l = c .before .before .before .before .before .loop in
-    walking-part (a .p) (a .r) (a .b .now) (a .m) (l .k) (l .rest) (l .declined) (l .inv .1) (c .before .nth .result) (omega (arith, c .before .before .before .before .before .before .before .len .ensures, c .before .before .before .before .loop-test .taken)) (c .before .nth .ensures ∙ ap (bucketOf (a .r) (a .b .now)) (c .before .before .lost .ensures .0 ∙ ap (λ (n : ℕ). lostAt (a .p) n (l .k)) (c .before .before .before .before .before .before .before .len .ensures))) (c .if2 .taken)
+    walking-part (a .p) (a .r) (a .b .now) (a .m) (l .k) (l .rest) (l .declined) (l .inv .1) (c .before .nth .result)
+    (omega (arith, c .before .before .before .before .before .before .before .len .ensures, c .before .before .before .before .loop-test .taken))
+    (c .before .nth .ensures ∙ ap (bucketOf (a .r) (a .b .now)) (c .before .before .lost .ensures .0 ∙
+    ap (λ (n : ℕ). lostAt (a .p) n (l .k)) (c .before .before .before .before .before .before .before .len .ensures))) (c .if2 .taken)
 
 less-requires : tie.Need-less-requires Inv-loop μ-loop
 less-requires c κs = search needs
@@ -49,13 +53,26 @@ loop-less c = search needs
 
 loop-again : tie.Need-loop-again Inv-loop μ-loop
 loop-again c = let a = c .before .before .before .before .before .before .before .before .before .before .args in
-    let l = c .before .before .before .before .before .before .loop in
-    (omega arith, subst (λ (d : ℕ). Walking (a .p) (a .r) (a .b .now) (a .m) (l .k + 1) (l .rest - c .before .before .nth .result .count) d) (sym (c .less .ensures)) (walking-on (a .p) (a .r) (a .b .now) (a .m) (l .k) (l .rest) (l .declined) (l .inv .1) (c .before .before .nth .result) (omega (arith, c .before .before .before .before .before .before .before .before .len .ensures, c .before .before .before .before .before .loop-test .taken)) (c .before .before .nth .ensures ∙ ap (bucketOf (a .r) (a .b .now)) (c .before .before .before .lost .ensures .0 ∙ ap (λ (n : ℕ). lostAt (a .p) n (l .k)) (c .before .before .before .before .before .before .before .before .len .ensures))) (c .before .before .before .before .if1 .left) (c .before .if2 .left)))
+    let l = c .before .before .before .before .before .before .loop in (
+      omega arith,
+      subst (λ (d : ℕ). Walking (a .p) (a .r) (a .b .now) (a .m) (l .k + 1) (l .rest - c .before .before .nth .result .count) d)
+          (sym (c .less .ensures)) (walking-on (a .p) (a .r) (a .b .now) (a .m) (l .k) (l .rest) (l .declined) (l .inv .1) (c .before .before .nth .result)
+          (omega (
+            arith,
+            c .before .before .before .before .before .before .before .before .len .ensures,
+            c .before .before .before .before .before .loop-test .taken,
+          )) (c .before .before .nth .ensures ∙
+          ap (bucketOf (a .r) (a .b .now))
+          (c .before .before .before .lost .ensures .0 ∙ ap (λ (n : ℕ). lostAt (a .p) n (l .k))
+          (c .before .before .before .before .before .before .before .before .len .ensures))) (c .before .before .before .before .if1 .left)
+          (c .before .if2 .left)),
+    )
 
 returns-3 : tie.Need-returns-3 Inv-loop μ-loop
 returns-3 c = let a = c .before .before .before .before .before .args in
     let l = c .before .loop in
-    walking-end (a .p) (a .r) (a .b .now) (a .m) (l .k) (l .rest) (l .declined) (l .inv .1) (omega (arith, c .before .before .before .len .ensures, c .loop-test .left))
+    walking-end (a .p) (a .r) (a .b .now) (a .m) (l .k) (l .rest) (l .declined) (l .inv .1)
+    (omega (arith, c .before .before .before .len .ensures, c .loop-test .left))
 
 pub walk-spec : {M : Type 1} → statement M
 walk-spec =

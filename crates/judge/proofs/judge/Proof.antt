@@ -2,7 +2,7 @@
 use mathlib.Core.Path.{_∙_, sym}
 use native.Mathlib.Omega.{arith}
 use Rattle.base.specs.Decides.{decided, undecided, not-so}
-use Rattle.common.specs.Settings.{proper}
+use Rattle.settings.specs.Settings.{proper}
 use Rattle.room.specs.Laws.{sized-room}
 use Rattle.judge.specs.Laws.{refused-is, early-fault, early-lengths}
 use borrow.Author.Needs.{needs}
@@ -19,7 +19,8 @@ returns : tie.Need-returns
 returns c =
     let k = c .before .before in
     let a = k .before .before .before in
-    c .refused .ensures ∙ refused-is (a .args .kind) (a .args .settings) _ _ _ _ (early-fault (a .args .kind) (a .args .settings) _ _ _ (k .refusal .result) (k .refusal .ensures) (c .before .if1 .taken)) (c .before .if1 .taken)
+    c .refused .ensures ∙ refused-is (a .args .kind) (a .args .settings) _ _ _ _
+    (early-fault (a .args .kind) (a .args .settings) _ _ _ (k .refusal .result) (k .refusal .ensures) (c .before .if1 .taken)) (c .before .if1 .taken)
 
 sized-requires : tie.Need-sized-requires
 sized-requires c κs = search needs
@@ -33,13 +34,16 @@ returns-2 c =
     let a = k .before .before .before .before .before in
     let f = proper (a .args .settings) (sym (k .before .before .refusal .ensures) ∙ k .before .if1 .left) in
     c .refused2 .ensures ∙ refused-is (a .args .kind) (a .args .settings) (a .args .w .now) (a .args .reading) (a .args .key .now) 5
-    (early-lengths (a .args .kind) (a .args .settings) (a .args .w .now) (a .args .reading) (a .args .key .now) f (not-so _ (λ z. undecided (k .sized .result) (c .before .if2 .taken) (k .sized .ensures) (sized-room (a .args .w .now) z)))) (λ z. omega arith)
+    (early-lengths (a .args .kind) (a .args .settings) (a .args .w .now) (a .args .reading) (a .args .key .now) f
+    (not-so _ (λ z. undecided (k .sized .result) (c .before .if2 .taken) (k .sized .ensures) (sized-room (a .args .w .now) z)))) (λ z. omega arith)
 
 judge-room-requires : tie.Need-judge-room-requires
 judge-room-requires c κs =
     let k = c .before in
-    let a = k .before .before .before .before .before in
-    (decided (k .sized .result) (c .if2 .left) (k .sized .ensures), proper (a .args .settings) (sym (k .before .before .refusal .ensures) ∙ k .before .if1 .left))
+    let a = k .before .before .before .before .before in (
+      decided (k .sized .result) (c .if2 .left) (k .sized .ensures),
+      proper (a .args .settings) (sym (k .before .before .refusal .ensures) ∙ k .before .if1 .left),
+    )
 
 returns-3 : tie.Need-returns-3
 returns-3 c = search needs

@@ -56,8 +56,10 @@ part-open-body-end c = search needs
 open-body-requires : tie.Need-open-body-requires
 open-body-requires c κs =
     let k = c .before in
-    let a = k .before .before .before .before .before .before .before in
-    (omega (arith, part-length (a .args .w .now) (k .start .result) (a .args .at) (k .start .ensures .at) (a .pre .0) (k .before .before .if1 .left)), a .pre .1)
+    let a = k .before .before .before .before .before .before .before in (
+      omega (arith, part-length (a .args .w .now) (k .start .result) (a .args .at) (k .start .ensures .at) (a .pre .0) (k .before .before .if1 .left)),
+      a .pre .1,
+    )
 
 returns-2 : tie.Need-returns-2
 returns-2 c =
@@ -66,7 +68,8 @@ returns-2 c =
     let w = a .args .w .now in
     let at = a .args .at in
     c .open-body .ensures ∙
-    ap₂ (λ (u : ℕ) (b : List ℕ). opened (a .args .window) (ringOf w) (lastOf w) (a .args .reading) at u b) (k .before .use-of .ensures) (part-body w (k .start .result) at (k .start .ensures .at)) ∙
+    ap₂ (λ (u : ℕ) (b : List ℕ). opened (a .args .window) (ringOf w) (lastOf w) (a .args .reading) at u b) (k .before .use-of .ensures)
+    (part-body w (k .start .result) at (k .start .ensures .at)) ∙
     sym (slot-here (a .args .window) (a .args .reading) w at (k .before .before .if1 .left))
 
 pub open-at-spec : {M : Type 1} → statement M

@@ -34,7 +34,13 @@ unfolding seriesRight
 returns-4 c =
     let d = c .before .before .before .declined-right in
     let k = c .before .before .before .before in
-    simp (k .before .if1 .left, not-false (k .before .before .before .args .x .pass .sound) (k .if2 .left), ← d .ensures, not-false (d .result) (c .before .before .if3 .left), ← c .before .divisor .ensures) (c .is-limit .ensures)
+    simp (
+      k .before .if1 .left,
+      not-false (k .before .before .before .args .x .pass .sound) (k .if2 .left),
+      ← d .ensures,
+      not-false (d .result) (c .before .before .if3 .left),
+      ← c .before .divisor .ensures,
+    ) (c .is-limit .ensures)
 
 pub series-right-spec : {M : Type 1} → statement M
 series-right-spec =

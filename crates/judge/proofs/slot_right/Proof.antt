@@ -30,7 +30,8 @@ unfolding slotRight
 returns-3 c =
     let u = c .before .before .before .before .use-right in
     let v = c .before .before .series-right in
-    simp (← u .ensures, not-false (u .result) (c .before .before .before .if1 .left), ← v .ensures, not-false (v .result) (c .before .if2 .left)) (c .cached-right .ensures)
+    simp (← u .ensures, not-false (u .result) (c .before .before .before .if1 .left), ← v .ensures, not-false (v .result) (c .before .if2 .left))
+    (c .cached-right .ensures)
 
 pub slot-right-spec : {M : Type 1} → statement M
 slot-right-spec =

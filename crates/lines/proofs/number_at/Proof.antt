@@ -36,7 +36,8 @@ number-in-requires : tie.Need-number-in-requires
 number-in-requires c κs = search needs
 
 returns-3 : tie.Need-returns-3
-returns-3 c = let j = c .before .before in let k = j .before .before in c .number-in .ensures ∙ sym (number-is _ _ _ (k .before .run-end .ensures) (k .if1 .left) (λ z o. ⊎-elim (λ w. omega (arith, w .1 .left)) (λ w. w .left z) (j .if2 .came)))
+returns-3 c = let j = c .before .before in let k = j .before .before in c .number-in .ensures ∙
+    sym (number-is _ _ _ (k .before .run-end .ensures) (k .if1 .left) (λ z o. ⊎-elim (λ w. omega (arith, w .1 .left)) (λ w. w .left z) (j .if2 .came)))
 
 pub number-at-spec : {M : Type 1} → statement M
 number-at-spec =

@@ -31,7 +31,8 @@ sub-if1 : tie.Need-sub-if1 Inv-loop μ-loop
 sub-if1 c = omega (arith, digit-read _ _ (c .digit .ensures))
 
 returns : tie.Need-returns Inv-loop μ-loop
-returns c = let d = c .before in let k = d .before .before in let s = digit-read _ _ (d .digit .ensures) in sym (number-over _ _ _ _ (k .before .loop .inv .0) (k .loop-test .taken) (d .digit .ensures) _ (omega arith))
+returns c = let d = c .before in let k = d .before .before in let s =
+    digit-read _ _ (d .digit .ensures) in sym (number-over _ _ _ _ (k .before .loop .inv .0) (k .loop-test .taken) (d .digit .ensures) _ (omega arith))
 
 mul-value : tie.Need-mul-value Inv-loop μ-loop
 mul-value c = omega (arith, digit-read _ _ (c .before .digit .ensures))
@@ -46,10 +47,12 @@ loop-less : tie.Need-loop-less Inv-loop μ-loop
 loop-less c = search needs
 
 loop-again : tie.Need-loop-again Inv-loop μ-loop
-loop-again c = let d = c .before in let k = d .before .before in (number-turn _ _ _ _ (k .before .loop .inv .0) (k .loop-test .taken) (d .digit .ensures), omega (arith, digit-read _ _ (d .digit .ensures)))
+loop-again c = let d = c .before in let k = d .before .before in
+    (number-turn _ _ _ _ (k .before .loop .inv .0) (k .loop-test .taken) (d .digit .ensures), omega (arith, digit-read _ _ (d .digit .ensures)))
 
 returns-2 : tie.Need-returns-2 Inv-loop μ-loop
-returns-2 c = sym (number-fits (c .before .before .before .args .digits .now) _ _ (c .before .loop .inv .0 ∙ value-past _ _ _ (c .loop-test .left)) (c .before .loop .inv .1))
+returns-2 c = sym (number-fits (c .before .before .before .args .digits .now) _ _ (c .before .loop .inv .0 ∙ value-past _ _ _ (c .loop-test .left))
+    (c .before .loop .inv .1))
 
 pub number-in-spec : {M : Type 1} → statement M
 number-in-spec =

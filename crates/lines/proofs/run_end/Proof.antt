@@ -27,7 +27,8 @@ goes-on-requires : tie.Need-goes-on-requires Inv-loop μ-loop
 goes-on-requires c κs = search needs
 
 returns : tie.Need-returns Inv-loop μ-loop
-returns c = let g = c .before in let i = g .before .before .before in sym (i .loop .inv ∙ run-stop _ _ _ (g .before .before .loop-test .taken) (sym (g .goes-on .ensures) ∙ not-true _ (c .if1 .taken)))
+returns c = let g = c .before in let i = g .before .before .before in
+    sym (i .loop .inv ∙ run-stop _ _ _ (g .before .before .loop-test .taken) (sym (g .goes-on .ensures) ∙ not-true _ (c .if1 .taken)))
 
 add-i : tie.Need-add-i Inv-loop μ-loop
 add-i c = search needs
@@ -36,7 +37,8 @@ loop-less : tie.Need-loop-less Inv-loop μ-loop
 loop-less c = search needs
 
 loop-again : tie.Need-loop-again Inv-loop μ-loop
-loop-again c = let g = c .before in let i = g .before .before .before in i .loop .inv ∙ run-on _ _ _ (g .before .before .loop-test .taken) (sym (g .goes-on .ensures) ∙ not-false _ (c .if1 .left))
+loop-again c = let g = c .before in let i = g .before .before .before in i .loop .inv ∙
+    run-on _ _ _ (g .before .before .loop-test .taken) (sym (g .goes-on .ensures) ∙ not-false _ (c .if1 .left))
 
 returns-2 : tie.Need-returns-2 Inv-loop μ-loop
 returns-2 c = sym (c .before .loop .inv ∙ run-past _ _ _ (c .loop-test .left))

@@ -31,7 +31,8 @@ shared-slice-read-if2-2 : tie.Need-shared-slice-read-if2-2 Inv-loop μ-loop
 shared-slice-read-if2-2 c = search needs
 
 returns-2 : tie.Need-returns-2 Inv-loop μ-loop
-returns-2 c = let k = c .before .before .before in let l = k .before .before in sym (text-missing _ _ _ (l .loop .inv .2 ∙ begins-other _ _ _ _ (k .before .loop-test .taken) (k .if1 .left) (c .if2 .taken)))
+returns-2 c = let k = c .before .before .before in let l =
+    k .before .before in sym (text-missing _ _ _ (l .loop .inv .2 ∙ begins-other _ _ _ _ (k .before .loop-test .taken) (k .if1 .left) (c .if2 .taken)))
 
 add-i : tie.Need-add-i Inv-loop μ-loop
 add-i c = search needs
@@ -43,10 +44,13 @@ loop-less : tie.Need-loop-less Inv-loop μ-loop
 loop-less c = search needs
 
 loop-again : tie.Need-loop-again Inv-loop μ-loop
-loop-again c = let k = c .before .before .before in let l = k .before .before in (omega arith, omega arith, l .loop .inv .2 ∙ begins-on _ _ _ _ (k .before .loop-test .taken) (k .if1 .left) (c .if2 .left))
+loop-again c = let k = c .before .before .before in let l =
+    k .before .before in (omega arith, omega arith, l .loop .inv .2 ∙ begins-on _ _ _ _ (k .before .loop-test .taken) (k .if1 .left) (c .if2 .left))
 
 returns-3 : tie.Need-returns-3 Inv-loop μ-loop
-returns-3 c = let l = c .before in let k : l .loop .j ≡ l .before .args .at + length (l .before .args .text .now) = omega arith in ap At k ∙ sym (text-found _ _ _ (l .loop .inv .2 ∙ begins-whole (l .before .args .text .now) (l .before .args .line .now) (l .loop .i) (l .loop .j) (c .loop-test .left)))
+returns-3 c = let l = c .before in let k : l .loop .j ≡ l .before .args .at + length (l .before .args .text .now) =
+    omega arith in ap At k ∙ sym
+    (text-found _ _ _ (l .loop .inv .2 ∙ begins-whole (l .before .args .text .now) (l .before .args .line .now) (l .loop .i) (l .loop .j) (c .loop-test .left)))
 
 pub text-at-spec : {M : Type 1} → statement M
 text-at-spec =

@@ -47,7 +47,8 @@ returns-2 c =
     let i = x .before .before in
     let j = i .before in
     let a = j .before .before .before .before .before .args in
-    both-done (a .settings) (a .absolute .now) (a .suppressed .now) (a .reading) (a .stale) (x .clean .last .0) (y .clean2 .last .0) (sym (j .judge-both .ensures) ∙ i .if1 .left) (x .clean .ensures) (y .clean2 .ensures)
+    both-done (a .settings) (a .absolute .now) (a .suppressed .now) (a .reading) (a .stale) (x .clean .last .0) (y .clean2 .last .0)
+    (sym (j .judge-both .ensures) ∙ i .if1 .left) (x .clean .ensures) (y .clean2 .ensures)
 
 pub cleanup-spec : {M : Type 1} → statement M
 cleanup-spec =

@@ -50,7 +50,8 @@ returns c =
     let k = c .before .before in
     let a = k .before .before .before .args in
     let w = a .room .now in
-    c .nth-or-none .ensures ∙ ap (λ (b : List ℕ). getD (buckets (ringOf w) b) (a .i) noBucket) (part-body w (k .start .result) (a .slot) (k .start .ensures .at))
+    c .nth-or-none .ensures ∙ ap (λ (b : List ℕ). getD (buckets (ringOf w) b) (a .i) noBucket)
+    (part-body w (k .start .result) (a .slot) (k .start .ensures .at))
 
 pub bucket-at-spec : {M : Type 1} → statement M
 bucket-at-spec =

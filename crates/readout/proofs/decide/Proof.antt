@@ -18,7 +18,8 @@ returns : tie.Need-returns
 returns c =
     let f = c .before .before .find-series in
     let a = c .before .before .before .before .before .args in
-    plan-is (a .kind) (a .settings) (a .room .now) (a .key .now) (f .result) (f .ensures) (c .before .answer .result) (c .before .answer .ensures) (a .places) (c .least .result) (c .least .ensures)
+    plan-is (a .kind) (a .settings) (a .room .now) (a .key .now) (f .result) (f .ensures) (c .before .answer .result) (c .before .answer .ensures) (a .places)
+    (c .least .result) (c .least .ensures)
 
 pub decide-spec : {M : Type 1} → statement M
 decide-spec = tie.close (tie.spec find-series-requires answer-requires least-requires returns)

@@ -15,7 +15,8 @@ returns : tie.Need-returns
 returns c =
     let k = c .before .before in
     let a = k .before .before .before .before .args in
-    found-is (a .kind) (a .settings) (a .room .now) (a .key .now) (k .before .last-reading .result) (k .before .last-reading .ensures) (k .judge .result) (k .judge .ensures)
+    found-is (a .kind) (a .settings) (a .room .now) (a .key .now) (k .before .last-reading .result) (k .before .last-reading .ensures) (k .judge .result)
+    (k .judge .ensures)
 
 pub find-series-spec : {M : Type 1} → statement M
 find-series-spec = tie.close (tie.spec last-reading-requires judge-requires returns)

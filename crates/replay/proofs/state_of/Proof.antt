@@ -1,4 +1,5 @@
 -- A slot is read where the room has it.
+use Rattle.room.specs.Laws.{room-directory}
 use Rattle.base.specs.Decides.{decided}
 use native.Mathlib.Omega.{arith}
 use borrow.Author.Needs.{needs}
@@ -27,10 +28,11 @@ key-of-requires : tie.Need-key-of-requires
 key-of-requires c κs = search needs
 
 find-requires : tie.Need-find-requires
-find-requires c κs = let k = c .before .before in decided (k .sized .result) (c .before .if1 .left) (k .sized .ensures)
+find-requires c κs = let k = c .before .before in room-directory (decided (k .sized .result) (c .before .if1 .left) (k .sized .ensures))
 
 shared-slice-read-slots : tie.Need-shared-slice-read-slots
-shared-slice-read-slots c = let k = c .before .before .before .before in omega (arith, decided (k .sized .result) (c .before .before .before .if1 .left) (k .sized .ensures) .long)
+shared-slice-read-slots c = let k = c .before .before .before .before in
+    omega (arith, decided (k .sized .result) (c .before .before .before .if1 .left) (k .sized .ensures) .long)
 
 nothing-requires-2 : tie.Need-nothing-requires-2
 nothing-requires-2 c κs = search needs
@@ -39,10 +41,12 @@ returns-2 : tie.Need-returns-2
 returns-2 c = search needs
 
 use-of-requires : tie.Need-use-of-requires
-use-of-requires c κs = let k = c .before .before .before .before .before in (decided (k .sized .result) (c .before .before .before .before .if1 .left) (k .sized .ensures), c .if2 .left)
+use-of-requires c κs = let k = c .before .before .before .before .before in
+    (room-directory (decided (k .sized .result) (c .before .before .before .before .if1 .left) (k .sized .ensures)), c .if2 .left)
 
 start-requires : tie.Need-start-requires
-start-requires c κs = let k = c .before .before .before .before .before .before in (decided (k .sized .result) (c .before .before .before .before .before .if1 .left) (k .sized .ensures), c .before .if2 .left)
+start-requires c κs = let k = c .before .before .before .before .before .before in
+    (decided (k .sized .result) (c .before .before .before .before .before .if1 .left) (k .sized .ensures), c .before .if2 .left)
 
 mul-body-state : tie.Need-mul-body-state
 mul-body-state c = search needs

@@ -23,7 +23,8 @@ unfolding freed
 loop-holds c = (omega arith, refl)
 
 set-use-requires : tie.Need-set-use-requires Inv-loop μ-loop
-set-use-requires c κs = let l = c .before .before in let o = l .before .before .before in freed-ready (o .args .w .now) (l .loop .w) (l .loop .s) (l .loop .inv .1) (o .pre) (c .before .loop-test .taken)
+set-use-requires c κs = let l = c .before .before in let o =
+    l .before .before .before in freed-ready (o .args .w .now) (l .loop .w) (l .loop .s) (l .loop .inv .1) (o .pre) (c .before .loop-test .taken)
 
 add-s : tie.Need-add-s Inv-loop μ-loop
 add-s c = omega arith
@@ -32,13 +33,18 @@ loop-less : tie.Need-loop-less Inv-loop μ-loop
 loop-less c = omega arith
 
 loop-again : tie.Need-loop-again Inv-loop μ-loop
-loop-again c = let l = c .before .before .before .before .before in (omega arith, freed-turn (l .before .before .before .args .w .now) (l .loop .w) (c .before .before .set-use .last .0) (l .loop .s) (l .loop .inv .1) (c .before .before .set-use .ensures))
+loop-again c = let l = c .before .before .before .before .before in (
+  omega arith,
+  freed-turn (l .before .before .before .args .w .now) (l .loop .w) (c .before .before .set-use .last .0) (l .loop .s) (l .loop .inv .1)
+      (c .before .before .set-use .ensures),
+)
 
 same-length : tie.Need-same-length Inv-loop μ-loop
 same-length c = let l = c .before in ap (λ y. length y) (l .loop .inv .1) ∙ freed-length (l .before .before .before .args .w .now) (l .loop .s)
 
 returns : tie.Need-returns Inv-loop μ-loop
-returns c = let l = c .before in let e : l .loop .s ≡ slotsOf (l .before .before .before .args .w .now) = omega arith in l .loop .inv .1 ∙ ap (λ k. freed (l .before .before .before .args .w .now) k) e
+returns c = let l = c .before in let e : l .loop .s ≡ slotsOf (l .before .before .before .args .w .now) =
+    omega arith in l .loop .inv .1 ∙ ap (λ k. freed (l .before .before .before .args .w .now) k) e
 
 pub clear-spec : {M : Type 1} → statement M
 clear-spec =

@@ -25,7 +25,8 @@ holds-requires : tie.Need-holds-requires Inv-loop μ-loop
 holds-requires c κs = search needs
 
 returns : tie.Need-returns Inv-loop μ-loop
-returns c = let l = c .before .before .before in sym (l .loop .inv .1 ∙ seek-here _ _ _ (c .before .before .loop-test .taken) (sym (c .before .holds .ensures) ∙ c .if1 .taken))
+returns c = let l = c .before .before .before in sym
+    (l .loop .inv .1 ∙ seek-here _ _ _ (c .before .before .loop-test .taken) (sym (c .before .holds .ensures) ∙ c .if1 .taken))
 
 add-slot : tie.Need-add-slot Inv-loop μ-loop
 add-slot c = omega arith
@@ -34,7 +35,8 @@ loop-less : tie.Need-loop-less Inv-loop μ-loop
 loop-less c = omega arith
 
 loop-again : tie.Need-loop-again Inv-loop μ-loop
-loop-again c = let l = c .before .before .before in (omega arith, l .loop .inv .1 ∙ seek-on _ _ _ (c .before .before .loop-test .taken) (sym (c .before .holds .ensures) ∙ c .if1 .left))
+loop-again c = let l = c .before .before .before in
+    (omega arith, l .loop .inv .1 ∙ seek-on _ _ _ (c .before .before .loop-test .taken) (sym (c .before .holds .ensures) ∙ c .if1 .left))
 
 returns-2 : tie.Need-returns-2 Inv-loop μ-loop
 returns-2 c = sym (c .before .loop .inv .1 ∙ seek-end _ _ _ (c .loop-test .left))

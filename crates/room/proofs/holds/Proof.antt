@@ -20,7 +20,8 @@ same-key-requires : tie.Need-same-key-requires
 same-key-requires c κs = search needs
 
 returns-2 : tie.Need-returns-2
-returns-2 c = let a = c .before .before .before .before .before .args in c .same-key .ensures ∙ ap (λ x. sameKey x (a .k)) (c .before .key-at .ensures) ∙ sym (has-used (a .w .now) (a .k) (a .s) (λ e. c .before .before .if1 .left (c .before .before .before .use-of .ensures ∙ e)))
+returns-2 c = let a = c .before .before .before .before .before .args in c .same-key .ensures ∙ ap (λ x. sameKey x (a .k)) (c .before .key-at .ensures) ∙
+    sym (has-used (a .w .now) (a .k) (a .s) (λ e. c .before .before .if1 .left (c .before .before .before .use-of .ensures ∙ e)))
 
 pub holds-spec : {M : Type 1} → statement M
 holds-spec =

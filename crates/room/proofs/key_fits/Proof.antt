@@ -13,35 +13,60 @@ key-at-requires c κs = search needs
 
 returns : tie.Need-returns
 unfolding keyFits
-returns c = let k = c .before .key-at .result in let e : keyFits k ≡ false = simp (lt-leb (k .len) 32 (c .if1 .taken)) in sym e ∙ ap keyFits (c .before .key-at .ensures)
+returns c = let k = c .before .key-at .result in let e : keyFits k ≡ false =
+    simp (lt-leb (k .len) 32 (c .if1 .taken)) in sym e ∙ ap keyFits (c .before .key-at .ensures)
 
-within-requires : tie.Need-within-requires
-within-requires c κs = search needs
+is-unused-zero-requires : tie.Need-is-unused-zero-requires
+is-unused-zero-requires c κs = search needs
 
 returns-2 : tie.Need-returns-2
 unfolding keyFits
-returns-2 c = let k = c .before .before .before .key-at .result in let e : keyFits k ≡ false = simp (le-leb (k .len) 32 (c .before .before .if1 .left), sym (c .before .within .ensures) ∙ not-true _ (c .if2 .taken)) in sym e ∙ ap keyFits (c .before .before .before .key-at .ensures)
+returns-2 c = let k = c .before .before .before .key-at .result in let e : keyFits k ≡ false =
+    simp (le-leb (k .len) 32 (c .before .before .if1 .left), sym (c .before .is-unused-zero .ensures) ∙ not-true _ (c .if2 .taken)) in sym e ∙
+    ap keyFits (c .before .before .before .key-at .ensures)
 
-within-requires-2 : tie.Need-within-requires-2
-within-requires-2 c κs = search needs
+is-unused-zero-requires-2 : tie.Need-is-unused-zero-requires-2
+is-unused-zero-requires-2 c κs = search needs
 
 returns-3 : tie.Need-returns-3
 unfolding keyFits
-returns-3 c = let k = c .before .before .before .before .before .key-at .result in let e : keyFits k ≡ false = simp (le-leb (k .len) 32 (c .before .before .before .before .if1 .left), sym (c .before .before .before .within .ensures) ∙ not-false _ (c .before .before .if2 .left), sym (c .before .within2 .ensures) ∙ not-true _ (c .if3 .taken)) in sym e ∙ ap keyFits (c .before .before .before .before .before .key-at .ensures)
+returns-3 c = let k = c .before .before .before .before .before .key-at .result in let e : keyFits k ≡ false =
+    simp (
+      le-leb (k .len) 32 (c .before .before .before .before .if1 .left),
+      sym (c .before .before .before .is-unused-zero .ensures) ∙
+          not-false _ (c .before .before .if2 .left),
+      sym (c .before .is-unused-zero2 .ensures) ∙ not-true _ (c .if3 .taken),
+    ) in sym e ∙
+    ap keyFits (c .before .before .before .before .before .key-at .ensures)
 
-within-requires-3 : tie.Need-within-requires-3
-within-requires-3 c κs = search needs
+is-unused-zero-requires-3 : tie.Need-is-unused-zero-requires-3
+is-unused-zero-requires-3 c κs = search needs
 
 returns-4 : tie.Need-returns-4
 unfolding keyFits
-returns-4 c = let k = c .before .before .before .before .before .before .before .key-at .result in let e : keyFits k ≡ false = simp (le-leb (k .len) 32 (c .before .before .before .before .before .before .if1 .left), sym (c .before .before .before .before .before .within .ensures) ∙ not-false _ (c .before .before .before .before .if2 .left), sym (c .before .before .before .within2 .ensures) ∙ not-false _ (c .before .before .if3 .left), sym (c .before .within3 .ensures) ∙ not-true _ (c .if4 .taken)) in sym e ∙ ap keyFits (c .before .before .before .before .before .before .before .key-at .ensures)
+returns-4 c = let k = c .before .before .before .before .before .before .before .key-at .result in let e : keyFits k ≡ false =
+    simp (
+      le-leb (k .len) 32 (c .before .before .before .before .before .before .if1 .left),
+      sym (c .before .before .before .before .before .is-unused-zero .ensures) ∙ not-false _ (c .before .before .before .before .if2 .left),
+      sym (c .before .before .before .is-unused-zero2 .ensures) ∙ not-false _ (c .before .before .if3 .left),
+      sym (c .before .is-unused-zero3 .ensures) ∙
+          not-true _ (c .if4 .taken),
+    ) in sym e ∙ ap keyFits (c .before .before .before .before .before .before .before .key-at .ensures)
 
-within-requires-4 : tie.Need-within-requires-4
-within-requires-4 c κs = search needs
+is-unused-zero-requires-4 : tie.Need-is-unused-zero-requires-4
+is-unused-zero-requires-4 c κs = search needs
 
 returns-5 : tie.Need-returns-5
 unfolding keyFits
-returns-5 c = let k = c .before .before .before .before .before .before .before .before .key-at .result in let e : keyFits k ≡ c .within4 .result = simp (le-leb (k .len) 32 (c .before .before .before .before .before .before .before .if1 .left), sym (c .before .before .before .before .before .before .within .ensures) ∙ not-false _ (c .before .before .before .before .before .if2 .left), sym (c .before .before .before .before .within2 .ensures) ∙ not-false _ (c .before .before .before .if3 .left), sym (c .before .before .within3 .ensures) ∙ not-false _ (c .before .if4 .left), sym (c .within4 .ensures)) in sym e ∙ ap keyFits (c .before .before .before .before .before .before .before .before .key-at .ensures)
+returns-5 c = let k = c .before .before .before .before .before .before .before .before .key-at .result in let e : keyFits k ≡ c .is-unused-zero4 .result =
+    simp (
+      le-leb (k .len) 32 (c .before .before .before .before .before .before .before .if1 .left),
+      sym (c .before .before .before .before .before .before .is-unused-zero .ensures) ∙ not-false _ (c .before .before .before .before .before .if2 .left),
+      sym (c .before .before .before .before .is-unused-zero2 .ensures) ∙ not-false _ (c .before .before .before .if3 .left),
+      sym (c .before .before .is-unused-zero3 .ensures) ∙ not-false _ (c .before .if4 .left),
+      sym (c .is-unused-zero4 .ensures),
+    ) in sym e ∙
+    ap keyFits (c .before .before .before .before .before .before .before .before .key-at .ensures)
 
 pub key-fits-spec : {M : Type 1} → statement M
 key-fits-spec =
@@ -49,11 +74,11 @@ key-fits-spec =
     (tie.spec
     key-at-requires
     returns
-    within-requires
+    is-unused-zero-requires
     returns-2
-    within-requires-2
+    is-unused-zero-requires-2
     returns-3
-    within-requires-3
+    is-unused-zero-requires-3
     returns-4
-    within-requires-4
+    is-unused-zero-requires-4
     returns-5)

@@ -26,10 +26,12 @@ add-result-2 : tie.Need-add-result-2
 add-result-2 c = omega arith
 
 mul-result-3 : tie.Need-mul-result-3
-mul-result-3 c = let o = c .before .before in omega (arith, slot-few (o .args .s) (slotsOf (o .args .w .now)) (ringOf (o .args .w .now)) (o .pre .1) (o .pre .0 .few) (o .pre .0 .small))
+mul-result-3 c = let o = c .before .before in
+    omega (arith, slot-few (o .args .s) (slotsOf (o .args .w .now)) (ringOf (o .args .w .now)) (o .pre .1) (o .pre .0 .few) (o .pre .0 .small))
 
 add-result-3 : tie.Need-add-result-3
-add-result-3 c = let o = c .before .before in omega (arith, slot-few (o .args .s) (slotsOf (o .args .w .now)) (ringOf (o .args .w .now)) (o .pre .1) (o .pre .0 .few) (o .pre .0 .small))
+add-result-3 c = let o = c .before .before in
+    omega (arith, slot-few (o .args .s) (slotsOf (o .args .w .now)) (ringOf (o .args .w .now)) (o .pre .1) (o .pre .0 .few) (o .pre .0 .small))
 
 returns : tie.Need-returns
 returns c = let o = c .before .before in record { at = refl; inside = body-end (o .args .w .now) (o .args .s) (o .pre .0) (o .pre .1) }

@@ -26,7 +26,8 @@ use-of-requires : tie.Need-use-of-requires Inv-loop μ-loop
 use-of-requires c κs = search needs
 
 returns : tie.Need-returns Inv-loop μ-loop
-returns c = let l = c .before .before .before in sym (l .loop .inv .1 ∙ seek-here _ _ _ (c .before .before .loop-test .taken) (free-yes _ _ (sym (c .before .use-of .ensures) ∙ c .if1 .taken)))
+returns c = let l = c .before .before .before in sym
+    (l .loop .inv .1 ∙ seek-here _ _ _ (c .before .before .loop-test .taken) (free-yes _ _ (sym (c .before .use-of .ensures) ∙ c .if1 .taken)))
 
 add-spare : tie.Need-add-spare Inv-loop μ-loop
 add-spare c = omega arith
@@ -35,7 +36,8 @@ loop-less : tie.Need-loop-less Inv-loop μ-loop
 loop-less c = omega arith
 
 loop-again : tie.Need-loop-again Inv-loop μ-loop
-loop-again c = let l = c .before .before .before in (omega arith, l .loop .inv .1 ∙ seek-on _ _ _ (c .before .before .loop-test .taken) (free-no _ _ (λ e. c .if1 .left (c .before .use-of .ensures ∙ e))))
+loop-again c = let l = c .before .before .before in
+    (omega arith, l .loop .inv .1 ∙ seek-on _ _ _ (c .before .before .loop-test .taken) (free-no _ _ (λ e. c .if1 .left (c .before .use-of .ensures ∙ e))))
 
 returns-2 : tie.Need-returns-2 Inv-loop μ-loop
 returns-2 c = sym (c .before .loop .inv .1 ∙ seek-end _ _ _ (c .loop-test .left))

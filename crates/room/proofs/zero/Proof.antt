@@ -33,7 +33,11 @@ loop-less : tie.Need-loop-less Inv-loop μ-loop
 loop-less c = omega arith
 
 loop-again : tie.Need-loop-again Inv-loop μ-loop
-loop-again c = let l = c .before in (ap (λ y. set y (l .loop .i) 0) (l .loop .inv .0) ∙ fill-more (l .loop .i) 0 (l .before .args .w .now) (omega arith), omega arith, length-set (l .loop .w) (l .loop .i) 0 ∙ l .loop .inv .2)
+loop-again c = let l = c .before in (
+  ap (λ y. set y (l .loop .i) 0) (l .loop .inv .0) ∙ fill-more (l .loop .i) 0 (l .before .args .w .now) (omega arith),
+  omega arith,
+  length-set (l .loop .w) (l .loop .i) 0 ∙ l .loop .inv .2,
+)
 
 same-length : tie.Need-same-length Inv-loop μ-loop
 same-length c = search needs

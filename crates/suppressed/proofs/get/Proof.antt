@@ -27,7 +27,10 @@ returns-2 c =
     let a = c .before .before .before .before .before .before .before .before .before .args in
     let j = c .before .before .before .before .before .judge in
     let z = c .before .before .before .if1 .left in
-    get-blind (a .settings) (a .room .now) (a .reading) (a .key .now) (not-early (a .settings) (a .room .now) (a .reading) (a .key .now) (j .result) (j .ensures) z) (j .result .slot) (slot-found (a .settings) (a .room .now) (a .reading) (a .key .now) (j .result) (j .ensures) z) (c .before .before .ask .result) (c .before .before .ask .ensures) (c .if2 .taken)
+    get-blind (a .settings) (a .room .now) (a .reading) (a .key .now)
+    (not-early (a .settings) (a .room .now) (a .reading) (a .key .now) (j .result) (j .ensures) z) (j .result .slot)
+    (slot-found (a .settings) (a .room .now) (a .reading) (a .key .now) (j .result) (j .ensures) z) (c .before .before .ask .result)
+    (c .before .before .ask .ensures) (c .if2 .taken)
 
 snapshot-of-requires : tie.Need-snapshot-of-requires
 snapshot-of-requires c κs = search needs
@@ -40,7 +43,10 @@ apply-requires c κs =
     let a = c .before .before .before .before .before .before .before .before .before .before .before .before .args in
     let j = c .before .before .before .before .before .before .before .before .judge in
     let z = c .before .before .before .before .before .before .if1 .left in
-    get-applies (a .settings) (a .room .now) (a .reading) (a .key .now) (not-early (a .settings) (a .room .now) (a .reading) (a .key .now) (j .result) (j .ensures) z) (j .result .slot) (slot-found (a .settings) (a .room .now) (a .reading) (a .key .now) (j .result) (j .ensures) z) (c .before .before .before .before .before .ask .result .caching) (c .get-change .result) (c .get-change .ensures)
+    get-applies (a .settings) (a .room .now) (a .reading) (a .key .now)
+    (not-early (a .settings) (a .room .now) (a .reading) (a .key .now) (j .result) (j .ensures) z) (j .result .slot)
+    (slot-found (a .settings) (a .room .now) (a .reading) (a .key .now) (j .result) (j .ensures) z)
+    (c .before .before .before .before .before .ask .result .caching) (c .get-change .result) (c .get-change .ensures)
 
 same-length-3 : tie.Need-same-length-3
 same-length-3 c = search needs
@@ -50,7 +56,13 @@ returns-3 c =
     let a = c .before .before .before .before .before .before .before .before .before .before .before .before .before .before .before .args in
     let j = c .before .before .before .before .before .before .before .before .before .before .before .judge in
     let z = c .before .before .before .before .before .before .before .before .before .if1 .left in
-    get-done (a .settings) (a .room .now) (a .reading) (a .key .now) (not-early (a .settings) (a .room .now) (a .reading) (a .key .now) (j .result) (j .ensures) z) (j .result .slot) (slot-found (a .settings) (a .room .now) (a .reading) (a .key .now) (j .result) (j .ensures) z) (c .before .before .before .before .before .before .before .before .ask .result) (c .before .before .before .before .before .before .before .before .ask .ensures) (c .before .before .before .before .before .before .if2 .left) (c .before .before .before .before .before .snapshot-of .result) (c .before .before .before .get-change .result) (c .before .before .apply .last .0) (c .before .before .before .before .before .snapshot-of .ensures) (c .before .before .before .get-change .ensures) (c .before .before .apply .ensures)
+    get-done (a .settings) (a .room .now) (a .reading) (a .key .now)
+    (not-early (a .settings) (a .room .now) (a .reading) (a .key .now) (j .result) (j .ensures) z) (j .result .slot)
+    (slot-found (a .settings) (a .room .now) (a .reading) (a .key .now) (j .result) (j .ensures) z)
+    (c .before .before .before .before .before .before .before .before .ask .result)
+    (c .before .before .before .before .before .before .before .before .ask .ensures) (c .before .before .before .before .before .before .if2 .left)
+    (c .before .before .before .before .before .snapshot-of .result) (c .before .before .before .get-change .result) (c .before .before .apply .last .0)
+    (c .before .before .before .before .before .snapshot-of .ensures) (c .before .before .before .get-change .ensures) (c .before .before .apply .ensures)
 
 pub get-spec : {M : Type 1} → statement M
 get-spec =

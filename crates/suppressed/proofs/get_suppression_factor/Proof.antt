@@ -16,15 +16,15 @@ returns c =
     let j = c .before .before .judge in
     factor-early (a .settings) (a .room .now) (a .reading) (a .key .now) (j .result) (j .ensures) (c .if1 .taken)
 
-place-of-requires : tie.Need-place-of-requires
-place-of-requires c κs =
+place-requires : tie.Need-place-requires
+place-requires c κs =
     let a = c .before .before .before .before .before .before .before .args in
     let j = c .before .before .before .judge in
     let z = c .before .if1 .left in
     room-found (a .settings) (a .room .now) (a .reading) (a .key .now) (j .result) (j .ensures) z
 
-is-full-requires : tie.Need-is-full-requires
-is-full-requires c κs =
+lacks-slot-requires : tie.Need-lacks-slot-requires
+lacks-slot-requires c κs =
     let a = c .before .before .before .before .before .before .before .before .before .args in
     let j = c .before .before .before .before .before .judge in
     let z = c .before .before .before .if1 .left in
@@ -38,9 +38,12 @@ returns-2 c =
     let a = c .before .before .before .before .before .before .before .before .before .before .before .args in
     let j = c .before .before .before .before .before .before .before .judge in
     let z = c .before .before .before .before .before .if1 .left in
-    let p = c .before .before .before .place-of in
-    let f = c .before .is-full in
-    factor-full (a .settings) (a .room .now) (a .reading) (a .key .now) (not-early (a .settings) (a .room .now) (a .reading) (a .key .now) (j .result) (j .ensures) z) (j .result .slot) (slot-found (a .settings) (a .room .now) (a .reading) (a .key .now) (j .result) (j .ensures) z) (p .result) (p .ensures) (f .result) (f .ensures) (c .if2 .taken)
+    let p = c .before .before .before .place in
+    let f = c .before .lacks-slot in
+    factor-full (a .settings) (a .room .now) (a .reading) (a .key .now)
+    (not-early (a .settings) (a .room .now) (a .reading) (a .key .now) (j .result) (j .ensures) z) (j .result .slot)
+    (slot-found (a .settings) (a .room .now) (a .reading) (a .key .now) (j .result) (j .ensures) z) (p .result) (p .ensures) (f .result) (f .ensures)
+    (c .if2 .taken)
 
 ask-requires : tie.Need-ask-requires
 ask-requires c κs = search needs
@@ -53,9 +56,12 @@ returns-3 c =
     let a = c .before .before .before .before .before .before .before .before .before .before .before .before .before .before .args in
     let j = c .before .before .before .before .before .before .before .before .before .before .judge in
     let z = c .before .before .before .before .before .before .before .before .if1 .left in
-    let p = c .before .before .before .before .before .before .place-of in
-    let f = c .before .before .before .before .is-full in
-    factor-blind (a .settings) (a .room .now) (a .reading) (a .key .now) (not-early (a .settings) (a .room .now) (a .reading) (a .key .now) (j .result) (j .ensures) z) (j .result .slot) (slot-found (a .settings) (a .room .now) (a .reading) (a .key .now) (j .result) (j .ensures) z) (p .result) (p .ensures) (f .result) (f .ensures) (c .before .before .before .if2 .left) (c .before .before .ask .result) (c .before .before .ask .ensures) (c .if3 .taken)
+    let p = c .before .before .before .before .before .before .place in
+    let f = c .before .before .before .before .lacks-slot in
+    factor-blind (a .settings) (a .room .now) (a .reading) (a .key .now)
+    (not-early (a .settings) (a .room .now) (a .reading) (a .key .now) (j .result) (j .ensures) z) (j .result .slot)
+    (slot-found (a .settings) (a .room .now) (a .reading) (a .key .now) (j .result) (j .ensures) z) (p .result) (p .ensures) (f .result) (f .ensures)
+    (c .before .before .before .if2 .left) (c .before .before .ask .result) (c .before .before .ask .ensures) (c .if3 .taken)
 
 factor-change-requires : tie.Need-factor-change-requires
 factor-change-requires c κs = search needs
@@ -65,21 +71,32 @@ apply-requires c κs =
     let a = c .before .before .before .before .before .before .before .before .before .before .before .before .before .before .before .before .args in
     let j = c .before .before .before .before .before .before .before .before .before .before .before .before .judge in
     let z = c .before .before .before .before .before .before .before .before .before .before .if1 .left in
-    let p = c .before .before .before .before .before .before .before .before .place-of in
-    let f = c .before .before .before .before .before .before .is-full in
-    factor-applies (a .settings) (a .room .now) (a .reading) (a .key .now) (not-early (a .settings) (a .room .now) (a .reading) (a .key .now) (j .result) (j .ensures) z) (j .result .slot) (slot-found (a .settings) (a .room .now) (a .reading) (a .key .now) (j .result) (j .ensures) z) (p .result) (p .ensures) (f .result) (f .ensures) (c .before .before .before .before .before .if2 .left) (c .before .before .before .before .ask .result .caching) (c .factor-change .result) (c .factor-change .ensures)
+    let p = c .before .before .before .before .before .before .before .before .place in
+    let f = c .before .before .before .before .before .before .lacks-slot in
+    factor-applies (a .settings) (a .room .now) (a .reading) (a .key .now)
+    (not-early (a .settings) (a .room .now) (a .reading) (a .key .now) (j .result) (j .ensures) z) (j .result .slot)
+    (slot-found (a .settings) (a .room .now) (a .reading) (a .key .now) (j .result) (j .ensures) z) (p .result) (p .ensures) (f .result) (f .ensures)
+    (c .before .before .before .before .before .if2 .left) (c .before .before .before .before .ask .result .caching) (c .factor-change .result)
+    (c .factor-change .ensures)
 
 same-length-4 : tie.Need-same-length-4
 same-length-4 c = search needs
 
 returns-4 : tie.Need-returns-4
 returns-4 c =
-    let a = c .before .before .before .before .before .before .before .before .before .before .before .before .before .before .before .before .before .before .before .args in
+    let a = c .before .before .before .before .before .before .before .before .before .before .before .before .before .before .before .before .before .before
+    .before .args in
     let j = c .before .before .before .before .before .before .before .before .before .before .before .before .before .before .before .judge in
     let z = c .before .before .before .before .before .before .before .before .before .before .before .before .before .if1 .left in
-    let p = c .before .before .before .before .before .before .before .before .before .before .before .place-of in
-    let f = c .before .before .before .before .before .before .before .before .before .is-full in
-    factor-done (a .settings) (a .room .now) (a .reading) (a .key .now) (not-early (a .settings) (a .room .now) (a .reading) (a .key .now) (j .result) (j .ensures) z) (j .result .slot) (slot-found (a .settings) (a .room .now) (a .reading) (a .key .now) (j .result) (j .ensures) z) (p .result) (p .ensures) (f .result) (f .ensures) (c .before .before .before .before .before .before .before .before .if2 .left) (c .before .before .before .before .before .before .before .ask .result) (c .before .before .before .before .before .before .before .ask .ensures) (c .before .before .before .before .before .if3 .left) (c .before .before .before .factor-change .result) (c .before .before .apply .last .0) (c .before .before .before .factor-change .ensures) (c .before .before .apply .ensures)
+    let p = c .before .before .before .before .before .before .before .before .before .before .before .place in
+    let f = c .before .before .before .before .before .before .before .before .before .lacks-slot in
+    factor-done (a .settings) (a .room .now) (a .reading) (a .key .now)
+    (not-early (a .settings) (a .room .now) (a .reading) (a .key .now) (j .result) (j .ensures) z) (j .result .slot)
+    (slot-found (a .settings) (a .room .now) (a .reading) (a .key .now) (j .result) (j .ensures) z) (p .result) (p .ensures) (f .result) (f .ensures)
+    (c .before .before .before .before .before .before .before .before .if2 .left)
+    (c .before .before .before .before .before .before .before .ask .result) (c .before .before .before .before .before .before .before .ask .ensures)
+    (c .before .before .before .before .before .if3 .left) (c .before .before .before .factor-change .result) (c .before .before .apply .last .0)
+    (c .before .before .before .factor-change .ensures) (c .before .before .apply .ensures)
 
 pub get-suppression-factor-spec : {M : Type 1} → statement M
 get-suppression-factor-spec =
@@ -88,8 +105,8 @@ get-suppression-factor-spec =
     judge-requires
     same-length
     returns
-    place-of-requires
-    is-full-requires
+    place-requires
+    lacks-slot-requires
     same-length-2
     returns-2
     ask-requires

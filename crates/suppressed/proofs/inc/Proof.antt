@@ -16,15 +16,15 @@ returns c =
     let j = c .before .before .judge in
     inc-early (a .settings) (a .room .now) (a .reading) (a .key .now) (j .result) (j .ensures) (a .rate) (a .count) (a .draw) (c .if1 .taken)
 
-place-of-requires : tie.Need-place-of-requires
-place-of-requires c κs =
+place-requires : tie.Need-place-requires
+place-requires c κs =
     let a = c .before .before .before .before .before .before .before .args in
     let j = c .before .before .before .judge in
     let z = c .before .if1 .left in
     room-found (a .settings) (a .room .now) (a .reading) (a .key .now) (j .result) (j .ensures) z
 
-is-full-requires : tie.Need-is-full-requires
-is-full-requires c κs =
+lacks-slot-requires : tie.Need-lacks-slot-requires
+lacks-slot-requires c κs =
     let a = c .before .before .before .before .before .before .before .before .before .args in
     let j = c .before .before .before .before .before .judge in
     let z = c .before .before .before .if1 .left in
@@ -48,11 +48,14 @@ returns-2 c =
     let a = c .before .before .before .before .before .before .before .before .before .before .before .before .before .before .args in
     let j = c .before .before .before .before .before .before .before .before .before .before .judge in
     let z = c .before .before .before .before .before .before .before .before .if1 .left in
-    let p = c .before .before .before .before .before .before .place-of in
-    let f = c .before .before .before .before .is-full in
+    let p = c .before .before .before .before .before .before .place in
+    let f = c .before .before .before .before .lacks-slot in
     let r = c .before .before .ring-of in
     let l = c .before .inc-late in
-    inc-late (a .settings) (a .room .now) (a .reading) (a .key .now) (not-early (a .settings) (a .room .now) (a .reading) (a .key .now) (j .result) (j .ensures) z) (j .result .slot) (slot-found (a .settings) (a .room .now) (a .reading) (a .key .now) (j .result) (j .ensures) z) (p .result) (p .ensures) (f .result) (f .ensures) (a .rate) (a .count) (a .draw) (r .result) (l .result) (r .ensures) (l .ensures) (c .if2 .taken)
+    inc-late (a .settings) (a .room .now) (a .reading) (a .key .now)
+    (not-early (a .settings) (a .room .now) (a .reading) (a .key .now) (j .result) (j .ensures) z) (j .result .slot)
+    (slot-found (a .settings) (a .room .now) (a .reading) (a .key .now) (j .result) (j .ensures) z) (p .result) (p .ensures) (f .result) (f .ensures)
+    (a .rate) (a .count) (a .draw) (r .result) (l .result) (r .ensures) (l .ensures) (c .if2 .taken)
 
 limit-for-requires : tie.Need-limit-for-requires
 limit-for-requires c κs = search needs
@@ -62,11 +65,14 @@ forecast-requires c κs =
     let a = c .before .before .before .before .before .before .before .before .before .before .before .before .before .before .before .args in
     let j = c .before .before .before .before .before .before .before .before .before .before .before .judge in
     let z = c .before .before .before .before .before .before .before .before .before .if1 .left in
-    let p = c .before .before .before .before .before .before .before .place-of in
-    let f = c .before .before .before .before .before .is-full in
+    let p = c .before .before .before .before .before .before .before .place in
+    let f = c .before .before .before .before .before .lacks-slot in
     let r = c .before .before .before .ring-of in
     let l = c .before .before .inc-late in
-    inc-total (a .settings) (a .room .now) (a .reading) (a .key .now) (not-early (a .settings) (a .room .now) (a .reading) (a .key .now) (j .result) (j .ensures) z) (j .result .slot) (slot-found (a .settings) (a .room .now) (a .reading) (a .key .now) (j .result) (j .ensures) z) (p .result) (p .ensures) (f .result) (f .ensures) (a .rate) (a .count) (a .draw) (r .result) (l .result) (r .ensures) (l .ensures) (c .before .if2 .left)
+    inc-total (a .settings) (a .room .now) (a .reading) (a .key .now)
+    (not-early (a .settings) (a .room .now) (a .reading) (a .key .now) (j .result) (j .ensures) z) (j .result .slot)
+    (slot-found (a .settings) (a .room .now) (a .reading) (a .key .now) (j .result) (j .ensures) z) (p .result) (p .ensures) (f .result) (f .ensures)
+    (a .rate) (a .count) (a .draw) (r .result) (l .result) (r .ensures) (l .ensures) (c .before .if2 .left)
 
 decide-requires : tie.Need-decide-requires
 decide-requires c κs = search needs
@@ -76,51 +82,71 @@ same-length-3 c = search needs
 
 returns-3 : tie.Need-returns-3
 returns-3 c =
-    let a = c .before .before .before .before .before .before .before .before .before .before .before .before .before .before .before .before .before .before .before .args in
+    let a = c .before .before .before .before .before .before .before .before .before .before .before .before .before .before .before .before .before .before
+    .before .args in
     let j = c .before .before .before .before .before .before .before .before .before .before .before .before .before .before .before .judge in
     let z = c .before .before .before .before .before .before .before .before .before .before .before .before .before .if1 .left in
-    let p = c .before .before .before .before .before .before .before .before .before .before .before .place-of in
-    let f = c .before .before .before .before .before .before .before .before .before .is-full in
+    let p = c .before .before .before .before .before .before .before .before .before .before .before .place in
+    let f = c .before .before .before .before .before .before .before .before .before .lacks-slot in
     let r = c .before .before .before .before .before .before .before .ring-of in
     let l = c .before .before .before .before .before .before .inc-late in
     let i = c .before .before .before .before .limit-for in
     let n = c .before .before .before .forecast in
     let o = c .before .before .decide in
-    inc-blind (a .settings) (a .room .now) (a .reading) (a .key .now) (not-early (a .settings) (a .room .now) (a .reading) (a .key .now) (j .result) (j .ensures) z) (j .result .slot) (slot-found (a .settings) (a .room .now) (a .reading) (a .key .now) (j .result) (j .ensures) z) (p .result) (p .ensures) (f .result) (f .ensures) (a .rate) (a .count) (a .draw) (r .result) (l .result) (r .ensures) (l .ensures) (c .before .before .before .before .before .if2 .left) (o .result) (i .result) (n .result) (i .ensures) (n .ensures) (o .ensures) (c .if3 .taken)
+    inc-blind (a .settings) (a .room .now) (a .reading) (a .key .now)
+    (not-early (a .settings) (a .room .now) (a .reading) (a .key .now) (j .result) (j .ensures) z) (j .result .slot)
+    (slot-found (a .settings) (a .room .now) (a .reading) (a .key .now) (j .result) (j .ensures) z) (p .result) (p .ensures) (f .result) (f .ensures)
+    (a .rate) (a .count) (a .draw) (r .result) (l .result) (r .ensures) (l .ensures) (c .before .before .before .before .before .if2 .left) (o .result)
+    (i .result) (n .result) (i .ensures) (n .ensures) (o .ensures) (c .if3 .taken)
 
 inc-change-requires : tie.Need-inc-change-requires
 inc-change-requires c κs = search needs
 
 apply-requires : tie.Need-apply-requires
 apply-requires c κs =
-    let a = c .before .before .before .before .before .before .before .before .before .before .before .before .before .before .before .before .before .before .before .before .before .args in
+    let a = c .before .before .before .before .before .before .before .before .before .before .before .before .before .before .before .before .before .before
+    .before .before .before .args in
     let j = c .before .before .before .before .before .before .before .before .before .before .before .before .before .before .before .before .before .judge in
     let z = c .before .before .before .before .before .before .before .before .before .before .before .before .before .before .before .if1 .left in
-    let p = c .before .before .before .before .before .before .before .before .before .before .before .before .before .place-of in
-    let f = c .before .before .before .before .before .before .before .before .before .before .before .is-full in
+    let p = c .before .before .before .before .before .before .before .before .before .before .before .before .before .place in
+    let f = c .before .before .before .before .before .before .before .before .before .before .before .lacks-slot in
     let r = c .before .before .before .before .before .before .before .before .before .ring-of in
     let l = c .before .before .before .before .before .before .before .before .inc-late in
     let i = c .before .before .before .before .before .before .limit-for in
     let n = c .before .before .before .before .before .forecast in
     let o = c .before .before .before .before .decide in
-    inc-applies (a .settings) (a .room .now) (a .reading) (a .key .now) (not-early (a .settings) (a .room .now) (a .reading) (a .key .now) (j .result) (j .ensures) z) (j .result .slot) (slot-found (a .settings) (a .room .now) (a .reading) (a .key .now) (j .result) (j .ensures) z) (p .result) (p .ensures) (f .result) (f .ensures) (a .rate) (a .count) (a .draw) (r .result) (l .result) (r .ensures) (l .ensures) (c .before .before .before .before .before .before .before .if2 .left) (o .result) (i .result) (n .result) (i .ensures) (n .ensures) (o .ensures) (c .before .inc-change .result) (c .before .inc-change .ensures)
+    inc-applies (a .settings) (a .room .now) (a .reading) (a .key .now)
+    (not-early (a .settings) (a .room .now) (a .reading) (a .key .now) (j .result) (j .ensures) z) (j .result .slot)
+    (slot-found (a .settings) (a .room .now) (a .reading) (a .key .now) (j .result) (j .ensures) z) (p .result) (p .ensures) (f .result) (f .ensures)
+    (a .rate) (a .count) (a .draw) (r .result) (l .result) (r .ensures) (l .ensures)
+    (c .before .before .before .before .before .before .before .if2 .left) (o .result) (i .result) (n .result) (i .ensures) (n .ensures) (o .ensures)
+    (c .before .inc-change .result) (c .before .inc-change .ensures)
 
 same-length-4 : tie.Need-same-length-4
 same-length-4 c = search needs
 
 returns-4 : tie.Need-returns-4
 returns-4 c =
-    let a = c .before .before .before .before .before .before .before .before .before .before .before .before .before .before .before .before .before .before .before .before .before .before .before .before .args in
-    let j = c .before .before .before .before .before .before .before .before .before .before .before .before .before .before .before .before .before .before .before .before .judge in
-    let z = c .before .before .before .before .before .before .before .before .before .before .before .before .before .before .before .before .before .before .if1 .left in
-    let p = c .before .before .before .before .before .before .before .before .before .before .before .before .before .before .before .before .place-of in
-    let f = c .before .before .before .before .before .before .before .before .before .before .before .before .before .before .is-full in
+    let a = c .before .before .before .before .before .before .before .before .before .before .before .before .before .before .before .before .before .before
+    .before .before .before .before .before .before .args in
+    let j = c .before .before .before .before .before .before .before .before .before .before .before .before .before .before .before .before .before .before
+    .before .before .judge in
+    let z = c .before .before .before .before .before .before .before .before .before .before .before .before .before .before .before .before .before .before
+    .if1 .left in
+    let p = c .before .before .before .before .before .before .before .before .before .before .before .before .before .before .before .before .place in
+    let f = c .before .before .before .before .before .before .before .before .before .before .before .before .before .before .lacks-slot in
     let r = c .before .before .before .before .before .before .before .before .before .before .before .before .ring-of in
     let l = c .before .before .before .before .before .before .before .before .before .before .before .inc-late in
     let i = c .before .before .before .before .before .before .before .before .before .limit-for in
     let n = c .before .before .before .before .before .before .before .before .forecast in
     let o = c .before .before .before .before .before .before .before .decide in
-    inc-done (a .settings) (a .room .now) (a .reading) (a .key .now) (not-early (a .settings) (a .room .now) (a .reading) (a .key .now) (j .result) (j .ensures) z) (j .result .slot) (slot-found (a .settings) (a .room .now) (a .reading) (a .key .now) (j .result) (j .ensures) z) (p .result) (p .ensures) (f .result) (f .ensures) (a .rate) (a .count) (a .draw) (r .result) (l .result) (r .ensures) (l .ensures) (c .before .before .before .before .before .before .before .before .before .before .if2 .left) (o .result) (i .result) (n .result) (i .ensures) (n .ensures) (o .ensures) (c .before .before .before .before .before .if3 .left) (c .before .before .before .before .inc-change .result) (c .before .before .apply .last .0) (c .before .before .before .before .inc-change .ensures) (c .before .before .apply .ensures)
+    inc-done (a .settings) (a .room .now) (a .reading) (a .key .now)
+    (not-early (a .settings) (a .room .now) (a .reading) (a .key .now) (j .result) (j .ensures) z) (j .result .slot)
+    (slot-found (a .settings) (a .room .now) (a .reading) (a .key .now) (j .result) (j .ensures) z) (p .result) (p .ensures) (f .result) (f .ensures)
+    (a .rate) (a .count) (a .draw) (r .result) (l .result) (r .ensures) (l .ensures)
+    (c .before .before .before .before .before .before .before .before .before .before .if2 .left) (o .result) (i .result) (n .result) (i .ensures)
+    (n .ensures) (o .ensures) (c .before .before .before .before .before .if3 .left) (c .before .before .before .before .inc-change .result)
+    (c .before .before .apply .last .0) (c .before .before .before .before .inc-change .ensures) (c .before .before .apply .ensures)
 
 pub inc-spec : {M : Type 1} → statement M
 inc-spec =
@@ -129,8 +155,8 @@ inc-spec =
     judge-requires
     same-length
     returns
-    place-of-requires
-    is-full-requires
+    place-requires
+    lacks-slot-requires
     ring-of-requires
     inc-late-requires
     same-length-2

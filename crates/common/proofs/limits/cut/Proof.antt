@@ -4,7 +4,7 @@ use mathlib.Core.Bool.{true}
 use lib.Dec.{T}
 use lib.Ieee.{Float, ofBits, le}
 use borrow.Author.Needs.{needs}
-use Rattle.common.specs.Floats.Cut.{twoTo64, over-minus-one, cut-small, cut-large}
+use Rattle.common.specs.Cut.{twoTo64, over-minus-one, cut-small, cut-large}
 use Rattle.common.proofs.limits.cut.Statement.{statement}
 use Rattle.common.proofs.limits.cut.Tie as tie
 

@@ -1,6 +1,6 @@
 -- The comparison is the definition's.
 use lib.Ieee.{ofBits}
-use Rattle.common.specs.LimitLaws.{tested-limit}
+use Rattle.common.specs.Tested.{tested-limit}
 use borrow.Author.Needs.{needs}
 use Rattle.common.proofs.limits.is_limit.Statement.{statement}
 use Rattle.common.proofs.limits.is_limit.Tie as tie

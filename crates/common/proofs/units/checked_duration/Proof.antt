@@ -17,7 +17,8 @@ returns-2 : tie.Need-returns-2
 returns-2 c = sym (period-over _ _ _ (c .before .before .pre) (c .if2 .taken))
 
 mul-t5 : tie.Need-mul-t5
-mul-t5 c = let a = c .before .before .args in let h : a .value * a .multiplier ≤ a .most = period-fits _ _ _ (c .before .before .pre) (c .if2 .left) in omega arith
+mul-t5 c = let a = c .before .before .args in let h : a .value * a .multiplier ≤ a .most =
+    period-fits _ _ _ (c .before .before .pre) (c .if2 .left) in omega arith
 
 returns-3 : tie.Need-returns-3
 returns-3 c = sym (period-within _ _ _ (omega arith) (period-fits _ _ _ (c .before .before .pre) (c .if2 .left)))

@@ -3,14 +3,14 @@ use borrow.Author.Needs.{needs}
 use Rattle.suppressed_edits.proofs.refusals.inc_late.Statement.{statement}
 use Rattle.suppressed_edits.proofs.refusals.inc_late.Tie as tie
 
-is-crowded-requires : tie.Need-is-crowded-requires
-is-crowded-requires c κs = search needs
+is-ring-full-requires : tie.Need-is-ring-full-requires
+is-ring-full-requires c κs = search needs
 
 is-in-range-requires : tie.Need-is-in-range-requires
 is-in-range-requires c κs = search needs
 
-is-over-requires : tie.Need-is-over-requires
-is-over-requires c κs = search needs
+passes-requires : tie.Need-passes-requires
+passes-requires c κs = search needs
 
 inc-number-requires : tie.Need-inc-number-requires
 inc-number-requires c κs = search needs
@@ -18,14 +18,14 @@ inc-number-requires c κs = search needs
 returns : tie.Need-returns
 returns c =
     let k = c .before .before in
-    rw (← c .before .is-over .ensures, ← k .is-in-range .ensures, ← k .before .is-crowded .ensures) (c .inc-number .ensures)
+    rw (← c .before .passes .ensures, ← k .is-in-range .ensures, ← k .before .is-ring-full .ensures) (c .inc-number .ensures)
 
 pub inc-late-spec : {M : Type 1} → statement M
 inc-late-spec =
     tie.close
     (tie.spec
-    is-crowded-requires
+    is-ring-full-requires
     is-in-range-requires
-    is-over-requires
+    passes-requires
     inc-number-requires
     returns)

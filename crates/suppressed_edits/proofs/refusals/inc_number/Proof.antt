@@ -21,11 +21,23 @@ returns-4 c = simp (c .before .before .before .if1 .left, c .before .before .if2
 
 returns-5 : tie.Need-returns-5
 unfolding first
-returns-5 c = simp (c .before .before .before .before .if1 .left, c .before .before .before .if2 .left, c .before .before .if3 .left, c .before .if4 .left, c .if5 .taken)
+returns-5 c = simp (
+  c .before .before .before .before .if1 .left,
+  c .before .before .before .if2 .left,
+  c .before .before .if3 .left,
+  c .before .if4 .left,
+  c .if5 .taken,
+)
 
 returns-6 : tie.Need-returns-6
 unfolding first
-returns-6 c = simp (c .before .before .before .before .if1 .left, c .before .before .before .if2 .left, c .before .before .if3 .left, c .before .if4 .left, c .if5 .left)
+returns-6 c = simp (
+  c .before .before .before .before .if1 .left,
+  c .before .before .before .if2 .left,
+  c .before .before .if3 .left,
+  c .before .if4 .left,
+  c .if5 .left,
+)
 
 pub inc-number-spec : {M : Type 1} → statement M
 inc-number-spec = tie.close (tie.spec returns returns-2 returns-3 returns-4 returns-5 returns-6)

@@ -1,6 +1,6 @@
 -- The three cases of the definition; 1 / 0 is the infinity.
 use lib.Ieee.{ofBits, div}
-use Rattle.common.specs.LimitLaws.{back-most, back-infinite, back-divided}
+use Rattle.common.specs.Tested.{back-most, back-infinite, back-divided}
 use borrow.Author.Needs.{needs}
 use Rattle.common.proofs.units.RateLimit.from_stored_window_limit.Statement.{statement}
 use Rattle.common.proofs.units.RateLimit.from_stored_window_limit.Tie as tie
@@ -21,7 +21,8 @@ nearest-u64-to-f64-requires c κs = search needs
 
 returns-3 : tie.Need-returns-3
 unfolding ofBits div
-returns-3 c = back-divided _ _ _ _ (c .before .before .before .double-of .ensures) _ (c .nearest-u64-to-f64 .ensures) (c .before .before .if1 .left) (c .before .if2 .left)
+returns-3 c = back-divided _ _ _ _ (c .before .before .before .double-of .ensures) _ (c .nearest-u64-to-f64 .ensures) (c .before .before .if1 .left)
+    (c .before .if2 .left)
 
 pub from-stored-window-limit-spec : {M : Type 1} → statement M
 from-stored-window-limit-spec =

@@ -1,0 +1,88 @@
+-- The absolute limiter's decisions as the code makes them, on a key's slot x that is opened at reading t; n is the key's limit cut to a whole number, r the
+-- ring, b the bucket size, c the count. They are the rules' (`Seen.antt`), and no contract of a call names them but for the edits.
+-- Assumes nothing.
+use mathlib.Core.Bool.{Bool, true, false, not, _&&_, _||_, cond}
+use mathlib.Core.List.{List, [], _∷_}
+use Prim.Native.Nat.{ℕ, _-_}
+use lib.Dec.{ltb}
+use Rattle.answers.specs.declared.RateLimitDecision.{RateLimitDecision}
+use Rattle.answers.specs.declared.RateLimitDecision.the-variants.{Allowed, Rejected}
+use Rattle.common.specs.declared.units.WindowSize.{WindowSize}
+use Rattle.rules.specs.Buckets.{windowTicks}
+use Rattle.rules.specs.Both.{passes}
+use Rattle.rules.specs.Absolute.{below, pickDecision}
+use Rattle.change.specs.declared.Change.{Change}
+use Rattle.change.specs.declared.Change.the-variants.{Keep, Update, Take}
+use Rattle.change.specs.declared.Edit.{Edit}
+use Rattle.change.specs.declared.Then.{Then}
+use Rattle.change.specs.declared.Then.the-variants.{Nothing, Increment}
+use Rattle.judge.specs.declared.Slot.{Slot}
+use Rattle.plan.specs.Plan.{fullAfter, keeping, evicting, opening}
+
+-- ---- with the expired buckets out, or not
+
+-- how many buckets are gone
+abbrev pub goneIf : Bool → Slot → ℕ
+goneIf out x = cond out (x .pass .expired) 0
+
+-- the total of those that stay
+abbrev pub totalIf : Bool → Slot → ℕ
+totalIf out x = cond out (x .pass .«live_total») (x .total)
+
+-- the slot with them, and then
+abbrev pub leaving : Bool → Slot → Then → Edit
+leaving true x then = evicting x then
+leaving false x then = keeping x then
+
+-- ---- who is allowed
+
+unfoldable pub evicts : ℕ → Slot → Bool
+evicts n x = not (below n (x .total))
+
+unfoldable pub allowedAt : ℕ → Slot → Bool
+allowedAt n x = not (x .series) || below n (totalIf (evicts n x) x)
+
+unfoldable pub rejectedAt : WindowSize → ℕ → Slot → RateLimitDecision
+rejectedAt window t x =
+    pickDecision (ltb (x .pass .expired) (x .pass .buckets))
+    (Rejected window (windowTicks (window .0) - (t - x .pass .oldest .time)) (x .pass .oldest .count))
+    (Rejected window 0 0)
+
+unfoldable pub decidedAt : WindowSize → ℕ → Bool → Slot → RateLimitDecision
+decidedAt window t may x = pickDecision may Allowed (rejectedAt window t x)
+
+-- ---- an increment; may says whether it is allowed, out whether the expired buckets are out
+
+abbrev pub crowdsAt : ℕ → ℕ → ℕ → ℕ → Slot → Bool
+crowdsAt r b t c x = passes c (x .total) || fullAfter r b t 0 x
+
+unfoldable pub clearsAt : ℕ → ℕ → ℕ → ℕ → ℕ → Slot → Bool
+clearsAt r b t c n x = evicts n x || crowdsAt r b t c x
+
+abbrev pub inOrder : Bool → Bool → Bool → Bool → List (ℕ × Bool)
+inOrder rated passes none crams = (8, not rated) ∷ (10, passes) ∷ (11, none) ∷ (12, crams) ∷ []
+
+unfoldable pub incRefusals : ℕ → ℕ → ℕ → ℕ → Bool → Bool → Bool → Bool → Slot → List (ℕ × Bool)
+incRefusals r b t c rated may none out x =
+    inOrder rated (may && passes c (totalIf out x)) none (may && fullAfter r b t (goneIf out x) x)
+
+-- ---- what each call changes: its edits
+
+abbrev pub pickChange : Bool → Change → Change → Change
+pickChange true a b = a
+pickChange false a b = b
+
+-- `get` takes the expired buckets out
+unfoldable pub getChange : Slot → Change
+getChange x = pickChange (x .series) (Update (evicting x Nothing)) Keep
+
+-- `is_allowed` does where it tests again
+abbrev pub askChange : Bool → Slot → Change
+askChange again x = pickChange again (getChange x) Keep
+
+-- `inc`: an unknown key's series begins ("Limit = rate * W, stored at the key's first increment"); a rejection leaves the live buckets
+unfoldable pub incChange : ℕ → ℕ → Bool → Bool → Slot → Change
+incChange limit c may out x =
+    pickChange (x .series)
+    (pickChange may (Update (leaving out x (Increment c 0))) (Update (evicting x Nothing)))
+    (Take (opening limit (Increment c 0) 0 0 1))

@@ -1,0 +1,233 @@
+// The absolute limiter's decisions on a key's slot that is opened: who is allowed, what a rejection carries, which refusals an increment meets, and
+// what each call changes. `limit` is the key's limit, cut to a whole number once by the caller. The calls stand above, in `absolute`.
+ghost use mathlib.Core.Path.{_≡_};
+ghost use mathlib.Core.Bool.{_&&_};
+ghost use Prim.Native.Nat.{_≤_};
+ghost use Rattle.common.specs.Limits.{absoluteWord};
+ghost use Rattle.common.specs.Ranges.{rateOk};
+ghost use Rattle.common.specs.Refusals.{first};
+ghost use Rattle.room.specs.Room.{Room, ringOf};
+ghost use Rattle.plan.specs.Plan.{lacksAt};
+ghost use Rattle.rules.specs.Absolute.{below};
+ghost use Rattle.absolute_opened.specs.Opened.{goneIf, totalIf, leaving, evicts, allowedAt, rejectedAt, decidedAt, crowdsAt, clearsAt};
+ghost use Rattle.absolute_opened.specs.Opened.{inOrder, incRefusals, getChange, askChange, incChange};
+use answers::RateLimitDecision;
+use change::Change;
+use change::Edit;
+use change::Then;
+use common::RateLimit;
+use common::WindowSize;
+use judge::Slot;
+
+// How many buckets are gone, where the expired ones are out or not.
+fn gone_if(out: bool, x: Slot) -> usize
+    ensures { λ r. ⌜ r ≡ goneIf out x ⌝ }
+{
+    let pass = x.pass;
+    if !out {
+        return 0;
+    }
+    pass.expired
+}
+
+// The total of those that stay.
+fn total_if(out: bool, x: Slot) -> u64
+    ensures { λ r. ⌜ r ≡ totalIf out x ⌝ }
+{
+    let pass = x.pass;
+    if !out {
+        return x.total;
+    }
+    pass.live_total
+}
+
+fn leaving(out: bool, x: Slot, then: Then) -> Edit
+    ensures { λ e. ⌜ e ≡ leaving out x then ⌝ }
+{
+    if out {
+        return plan::evicting(x, then);
+    }
+    plan::keeping(x, then)
+}
+
+fn is_below(limit: u64, total: u64) -> bool
+    ensures { λ r. ⌜ r ≡ below limit total ⌝ }
+{
+    total < limit
+}
+
+// Whether the test is made again, with the expired buckets out.
+pub fn evicts(limit: u64, x: Slot) -> bool
+    ensures { λ r. ⌜ r ≡ evicts limit x ⌝ }
+{
+    !is_below(limit, x.total)
+}
+
+pub fn allows(limit: u64, x: Slot) -> bool
+    ensures { λ r. ⌜ r ≡ allowedAt limit x ⌝ }
+{
+    let series = x.series;
+    if !series {
+        return true;
+    }
+    is_below(limit, total_if(evicts(limit, x), x))
+}
+
+// A rejection, with the wait for the oldest live bucket and its count.
+fn rejected(window: WindowSize, reading: u64, x: Slot) -> RateLimitDecision
+    requires { ⌜ window .0 ≤ 33554432 ⌝ }
+    ensures { λ r. ⌜ r ≡ rejectedAt window reading x ⌝ }
+{
+    let pass = x.pass;
+    let buckets = pass.buckets;
+    let expired = pass.expired;
+    let oldest = pass.oldest;
+    if buckets <= expired {
+        return RateLimitDecision::Rejected {
+            window_size: window,
+            retry_after: 0,
+            remaining_after_waiting: 0,
+        };
+    }
+    RateLimitDecision::Rejected {
+        window_size: window,
+        retry_after: ring::less(
+            sweep::TICKS_PER_SECOND * window.0,
+            ring::less(reading, oldest.time),
+        ),
+        remaining_after_waiting: oldest.count,
+    }
+}
+
+// The decision of a key that may or may not.
+pub fn decided(window: WindowSize, reading: u64, may: bool, x: Slot) -> RateLimitDecision
+    requires { ⌜ window .0 ≤ 33554432 ⌝ }
+    ensures { λ r. ⌜ r ≡ decidedAt window reading may x ⌝ }
+{
+    if may {
+        return RateLimitDecision::Allowed;
+    }
+    rejected(window, reading, x)
+}
+
+// Whether an increment of the buckets as they are stored would meet 10 or 12.
+fn is_crowded(r: usize, size: u64, reading: u64, count: u64, x: Slot) -> bool
+    ensures { λ y. ⌜ y ≡ crowdsAt r size reading count x ⌝ }
+{
+    if plan::passes(count, x.total) {
+        return true;
+    }
+    plan::is_ring_full(r, size, reading, 0, x)
+}
+
+// Whether an allowed increment takes the expired buckets out.
+pub fn clears(w: &[u64], limit: u64, size: u64, reading: u64, count: u64, x: Slot) -> bool
+    requires { ⌜ Room (now w) ⌝ }
+    ensures { λ y. ⌜ y ≡ clearsAt (ringOf (now (w .entry))) size reading count limit x ⌝ }
+{
+    let r = w[layout::RING] as usize;
+    if evicts(limit, x) {
+        return true;
+    }
+    is_crowded(r, size, reading, count, x)
+}
+
+fn both(a: bool, b: bool) -> bool
+    ensures { λ y. ⌜ y ≡ (a && b) ⌝ }
+{
+    if !a {
+        return false;
+    }
+    b
+}
+
+fn first_refusal(rated: bool, passes: bool, none: bool, crams: bool) -> u64
+    ensures { λ n. ⌜ n ≡ first (inOrder rated passes none crams) ⌝ }
+{
+    if !rated {
+        return 8;
+    }
+    if passes {
+        return 10;
+    }
+    if none {
+        return 11;
+    }
+    if crams {
+        return 12;
+    }
+    0
+}
+
+// The number of the first of an increment's own refusals, or 0: `may` says whether it is allowed, `out` whether the expired buckets are out.
+pub fn late(
+    w: &[u64],
+    size: u64,
+    reading: u64,
+    rate: RateLimit,
+    count: u64,
+    at: usize,
+    may: bool,
+    out: bool,
+    x: Slot,
+) -> u64
+    requires { ⌜ Room (now w) ⌝ }
+    ensures { λ n. ⌜ n ≡ first (incRefusals (ringOf (now (w .entry))) size reading count (rateOk (rate .0)) may (lacksAt (now (w .entry)) at x) out x) ⌝ }
+{
+    let r = w[layout::RING] as usize;
+    let passes = both(may, plan::passes(count, total_if(out, x)));
+    let crams = both(
+        may,
+        plan::is_ring_full(r, size, reading, gone_if(out, x), x),
+    );
+    first_refusal(
+        rate.is_in_range(),
+        passes,
+        plan::lacks_slot(w, at, x),
+        crams,
+    )
+}
+
+// What `get` changes: expired buckets go.
+pub fn get_change(x: Slot) -> Change
+    ensures { λ r. ⌜ r ≡ getChange x ⌝ }
+{
+    let series = x.series;
+    if !series {
+        return Change::Keep;
+    }
+    Change::Update(plan::evicting(x, Then::Nothing))
+}
+
+// What `is_allowed` changes: expired buckets go where it tests again.
+pub fn ask_change(again: bool, x: Slot) -> Change
+    ensures { λ r. ⌜ r ≡ askChange again x ⌝ }
+{
+    if !again {
+        return Change::Keep;
+    }
+    get_change(x)
+}
+
+// What `inc` changes: a series begins, or counts, or loses its expired buckets to a rejection.
+pub fn inc_change(
+    rate: RateLimit,
+    window: WindowSize,
+    count: u64,
+    may: bool,
+    out: bool,
+    x: Slot,
+) -> Change
+    ensures { λ r. ⌜ r ≡ incChange (absoluteWord (rate .0) (window .0)) count may out x ⌝ }
+{
+    let series = x.series;
+    let then = Then::Increment { count, declined: 0 };
+    if !series {
+        let limit = common::absolute_limit(rate, window);
+        return Change::Take(plan::opening(limit, then, 0, 0, layout::SERIES));
+    }
+    if !may {
+        return Change::Update(plan::evicting(x, Then::Nothing));
+    }
+    Change::Update(leaving(out, x, then))
+}

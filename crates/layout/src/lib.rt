@@ -1,0 +1,66 @@
+// Where each word of a room stands, and which numbers the words may be. A room is a header, an entry for each slot, and a
+// body for each slot.
+
+// The header's words, and how many.
+pub const SLOTS: usize = 0;
+
+pub const RING: usize = 1;
+
+pub const LAST: usize = 2;
+
+pub const HEADER: usize = 3;
+
+// A directory entry's words behind the use, which is its first, and how many with it.
+pub const KEY_LEN: usize = 1;
+
+pub const KEY_A: usize = 2;
+
+pub const KEY_B: usize = 3;
+
+pub const KEY_C: usize = 4;
+
+pub const KEY_D: usize = 5;
+
+pub const ENTRY: usize = 6;
+
+// A slot's use.
+pub const FREE: u64 = 0;
+
+pub const SERIES: u64 = 1;
+
+pub const CACHED: u64 = 2;
+
+pub const BOTH: u64 = 3;
+
+// A body's words before its cells, and how many.
+pub const LIMIT: usize = 0;
+
+pub const TOTAL: usize = 1;
+
+pub const DECLINED: usize = 2;
+
+pub const HEAD: usize = 3;
+
+pub const LEN: usize = 4;
+
+pub const FACTOR: usize = 5;
+
+pub const FACTOR_TIME: usize = 6;
+
+pub const FIXED: usize = 7;
+
+// A cell's words behind the count, which is its first, and how many with it.
+pub const CELL_DECLINED: usize = 1;
+
+pub const CELL_TIME: usize = 2;
+
+pub const CELL: usize = 3;
+
+// The most slots, the longest ring, the longest key, and the largest total, 2^53.
+pub const MOST_SLOTS: u64 = 64;
+
+pub const MOST_RING: u64 = 512;
+
+pub const LONGEST_KEY: u64 = 32;
+
+pub const MOST_TOTAL: u64 = 9007199254740992;

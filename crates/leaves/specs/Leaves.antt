@@ -1,0 +1,308 @@
+-- What a call of the suppressed limiter that is not refused leaves, in the rules' own terms (`Stands`): x is the key's slot, a the factor that is askedAt
+-- for, o what an
+-- increment decides. The cached factor's words and the use are those of `factorAfter`, `timeAfter` and `useAfter`.
+-- Assumes nothing.
+use mathlib.Core.Path.{_≡_, refl, sym, ap, ap₂, subst, _∙_}
+use mathlib.Core.Bool.{Bool, true, false, not, _&&_, _||_, cond}
+use mathlib.Core.List.{List, []}
+use Prim.Native.Nat.{ℕ, _-_, _<_}
+use native.Mathlib.Omega.{arith}
+use lib.Dec.{leb, ltb, eqb}
+use lib.Ieee.{binary64, ofBits}
+use lib.ListN.{length, drop}
+use borrow.Author.Tests.{not-false}
+use Rattle.common.specs.Limits.{cutWord, softWord, hardWord}
+use Rattle.common.specs.Ranges.{nil, rateOk}
+use Rattle.common.specs.Refusals.{first, all-false}
+use Rattle.settings.specs.Settings.{windowIn, bucketIn, factorIn, cacheIn}
+use Rattle.settings.specs.declared.Settings.{Settings}
+use Rattle.common.specs.declared.units.RateLimit.{RateLimit}
+use Rattle.rules.specs.Buckets.{ahead, live, joined}
+use Rattle.sweep.specs.declared.tally.Pass.{Pass}
+use Rattle.ring.specs.declared.Bucket.{Bucket}
+use Rattle.ring.specs.Ring.{buckets}
+use Rattle.room.specs.declared.Key.{Key}
+use Rattle.room.specs.Room.{slotsOf, ringOf, bodyOf, keyAt, keyOf, find, withReading}
+use Rattle.frame.specs.Distinct.{find-key}
+use Rattle.frame.specs.Frame.{Changed}
+use Rattle.frame.specs.Keys.{Bytes, key-fits}
+use Rattle.rules.specs.declared.RoomKind.the-variants as kind
+use Rattle.judge.specs.declared.Slot.{Slot}
+use Rattle.judge.specs.Judge.{early, Passed, hasSlot, slotIn}
+use Rattle.judge.specs.Laws.{passed}
+use Rattle.judge.specs.Right.{addressed-at}
+use Rattle.judge.specs.Sound.{addressed}
+use Rattle.change.specs.declared.Change.the-variants.{Keep, Update, Take}
+use Rattle.change.specs.declared.Edit.{Edit}
+use Rattle.change.specs.declared.Then.the-variants.{Nothing, Increment}
+use Rattle.change.specs.Words.{EditsAt, Applies, applied, edited, startedView, actedView, editedView}
+use Rattle.plan.specs.Plan.{evicting, opening}
+use Rattle.rules.specs.declared.Asked.{Asked}
+use Rattle.rules.specs.declared.Caching.{Caching}
+use Rattle.rules.specs.declared.Caching.the-variants.{Left, Cached}
+use Rattle.rules.specs.declared.FactorRule.{FactorRule}
+use Rattle.rules.specs.declared.FactorRule.the-variants.{Nil, One, Worked}
+use Rattle.rules.specs.declared.Outcome.{Outcome}
+use Rattle.suppressed_opened.specs.Opened.{left, acceptedAt, staysAt, usableAt, ruleAt, workedAt, askedAt}
+use Rattle.rules.specs.Suppressed.{cachedAt, freshBy, blindBy}
+use Rattle.suppressed_opened.specs.Opened.{forecastAt}
+use Rattle.suppressed_edits.specs.Edits.{factorAfter, timeAfter, useAfter, recached, getChange, get-series, loneEdit, loneBy, loneChange, factorChange}
+use Rattle.suppressed_edits.specs.Edits.{factor-series, factor-lone, incEdit, incChange}
+use Rattle.plan.specs.Plan.{placeOf, lacksAt}
+use Rattle.suppressed_edits.specs.Refusals.{incLate}
+use Rattle.suppressed.specs.Opened.{snapshotAt, limitAt, incOutcome}
+use Rattle.suppressed.specs.Calls.{get, getFactor, inc}
+use Rattle.suppressed.specs.Laws.{get-edits, get-done, factor-done, factor-applies, place-used, with-series, inc-done, inc-applies}
+use Rattle.suppressed.specs.Standing.{used, known, unknown, sums}
+use Rattle.leaves.specs.Calls.{Stands, keep-words, update-changed, take-changed}
+use Rattle.leaves.specs.Unit.{AskedOk, DecisionOk, CachingOk, asked-ok, outcome-ok}
+use Rattle.leaves.specs.Suppressed.{stood, cached-there, evicted-right, inc-right, lone-right}
+use Rattle.rules.specs.Both.{liveOf}
+use Rattle.judge.specs.Held.{heldIn}
+use Rattle.plan.specs.Seen.{seen, held-there}
+
+-- ---- the slot that a key addresses has the key
+
+addressed-has : (w key : List ℕ) → addressed w key < slotsOf w → keyAt w (addressed w key) ≡ keyOf key
+unfolding addressed
+addressed-has w key h = go (ltb 32 (length key)) h
+  where
+    go : (z : Bool) → cond z (slotsOf w) (find w (keyOf key)) < slotsOf w → keyAt w (cond z (slotsOf w) (find w (keyOf key))) ≡ keyOf key
+    go true l = absurd (omega arith)
+    go false l = find-key w (keyOf key) l
+
+-- ---- a lone cached factor, or none
+
+and-yes : (a b : Bool) → b ≡ true → a && b ≡ a
+and-yes true b e = e
+and-yes false b e = refl
+
+-- the fresh factor without a series is 0
+rule-lone : (S H : ℕ) (x : Slot) → x .series ≡ false → ruleAt S H x ≡ Nil
+unfolding ruleAt
+rule-lone S H x e =
+    ap (λ (z : Bool). cond (not z || eqb (left x) 0) Nil
+    (cond (leb H (x .pass .«live_total»)) One (cond (ltb (acceptedAt x) S) Nil (cond (eqb (acceptedAt x) S && eqb S H) One Worked)))) e
+
+abbrev anew : ℕ → Asked
+anew t = record { blind = false; factor = nil; caching = Cached (cachedAt nil t) }
+
+abbrev again : Slot → Asked
+again x = record { blind = false; factor = ofBits binary64 (x .factor); caching = Left }
+
+module _ (s : Settings) (t : ℕ) (x : Slot) (limit : ℕ) (z : Bool) where
+  pub asked-again : usableAt (cacheIn s) t x ≡ true → askedAt s t x limit z ≡ again x
+  unfolding askedAt
+  asked-again u = ap (λ (y : Bool). cond y (again x) (workedAt (factorIn s) (windowIn s) t x limit z)) u
+
+  pub asked-anew : x .series ≡ false → usableAt (cacheIn s) t x ≡ false → askedAt s t x limit z ≡ anew t
+  unfolding askedAt workedAt
+  asked-anew e u =
+      let S = softWord (factorIn s) limit in
+      ap (λ (y : Bool). cond y (again x) (workedAt (factorIn s) (windowIn s) t x limit z)) u ∙
+      ap (λ (r : FactorRule). record {
+        blind = blindBy r z;
+        factor = freshBy r S (x .pass .«live_total») (windowIn s) (x .pass .«last_second»);
+        caching = Cached (cachedAt (freshBy r S (x .pass .«live_total») (windowIn s) (x .pass .«last_second»)) t);
+      }) (rule-lone S (cutWord limit) x e)
+
+-- ---- the calls
+
+module _ (s : Settings) (w : List ℕ) (t : ℕ) (key : List ℕ) (e : early kind.Suppressed s w t key ≡ 0) (x : Slot) (p : x ≡ slotIn s w t key) where
+  q : Passed kind.Suppressed s w t key
+  q = passed kind.Suppressed s w t key e
+
+  -- the factor that `get` and `get_suppression_factor` answer with
+  pub factor-ok : askedAt s t x (x .limit) (eqb (x .pass .«live_total») 0) .blind ≡ false → AskedOk t (askedAt s t x (x .limit) (eqb (x .pass .«live_total») 0))
+  factor-ok b = asked-ok s (q .settings) t x (sums s w t key q x p) (λ c. cached-there s w t key q x p c .word) (x .limit) b
+
+  caching-ok : (a : Asked) → a ≡ askedAt s t x (x .limit) (eqb (x .pass .«live_total») 0) → a .blind ≡ false → CachingOk t (a .caching)
+  caching-ok a i b = subst (λ (y : Asked). AskedOk t y) (sym i) (factor-ok (sym (ap (λ (y : Asked). y .blind) i) ∙ b)) .caching
+
+  -- its slot has the key
+  key-has : hasSlot x ≡ true → keyAt w (x .at) ≡ keyOf key
+  key-has h =
+      let a : x .at ≡ addressed w key = addressed-at w key s x (record { room = q .room; reading = t; is = p }) in
+      ap (keyAt w) a ∙ addressed-has w key (omega (arith, used s w t key q x p h .inside))
+
+  pub stays-lone : x .series ≡ false → staysAt x ≡ x .cached
+  unfolding staysAt
+  stays-lone h = and-yes (x .cached) (eqb (x .pass .expired) 0) (ap (λ (y : Pass). eqb (y .expired) 0) (unknown s w t key q x p h))
+
+  either : (d : Edit) (z : Bool) → Applies w (placeOf w x) (bucketIn s) t (cond z (Update d) (Take d)) → EditsAt w (placeOf w x) (bucketIn s) t d
+  either d true o = o
+  either d false o = o
+
+  -- a change of the key's slot, which has a series or a lone cached factor, or is the one that is taken
+  changed-by : (d : Edit) (z : Bool) → hasSlot x ≡ z → EditsAt w (placeOf w x) (bucketIn s) t d →
+      Changed w (applied w (placeOf w x) key (bucketIn s) t (cond z (Update d) (Take d))) (placeOf w x) (d .used) (keyOf key)
+      (edited (ringOf w) (bucketIn s) t (bodyOf w (placeOf w x)) d) t
+  changed-by d true h o =
+      let at = placeOf w x in
+      subst (λ (k : Key). Changed w (applied w at key (bucketIn s) t (Update d)) at (d .used) k (edited (ringOf w) (bucketIn s) t (bodyOf w at) d) t)
+      (ap (keyAt w) (place-used s w t key e x p h) ∙ key-has h) (update-changed w at key (bucketIn s) t d o)
+  changed-by d false h o = take-changed w (placeOf w x) key (bucketIn s) t d o
+
+  -- ---- the live buckets of a known key, at its place
+  live-known : x .series ≡ true → drop (x .pass .expired) (buckets (ringOf w) (bodyOf w (x .at))) ≡ liveOf s t (heldIn w key)
+  live-known h =
+      ap (λ (y : Slot). drop (y .pass .expired) (buckets (ringOf w) (bodyOf w (y .at)))) p ∙
+      ap₂ (λ (n : ℕ) (ys : List Bucket). drop n ys) (seen kind.Suppressed s w t key q .gone-is)
+      (held-there kind.Suppressed s w t key q (sym (ap (λ (y : Slot). y .series) p) ∙ h))
+
+  live-unknown : x .series ≡ false → [] ≡ liveOf s t (heldIn w key)
+  unfolding ahead
+  live-unknown h =
+      let o = seen kind.Suppressed s w t key q in
+      sym (ap (λ (ys : List Bucket). live (windowIn s) t ys) (o .absent (sym (o .series-is) ∙ sym (ap (λ (y : Slot). y .series) p) ∙ h)))
+
+  evicted-stands : (k : Caching) → Bytes key → x .series ≡ true → CachingOk t k →
+      Stands kind.Suppressed s w (applied w (x .at) key (bucketIn s) t (Update (recached x k (evicting x Nothing)))) (x .at) t (keyOf key)
+      (x .limit) (factorAfter k (x .factor)) (timeAfter k (x .«factor_time»)) (useAfter k x) (liveOf s t (heldIn w key))
+  unfolding recached editedView actedView startedView
+  evicted-stands k y h o =
+      let at = x .at in
+      let d : Edit = recached x k (evicting x Nothing) in
+      let g : EditsAt w at (bucketIn s) t d = get-edits s w t at x (q .room) (known s w t key q x p h) k in
+      stood s w (applied w at key (bucketIn s) t (Update d)) at t (keyOf key) d (liveOf s t (heldIn w key)) g
+      (subst (λ (j : Key). Changed w (applied w at key (bucketIn s) t (Update d)) at (d .used) j (edited (ringOf w) (bucketIn s) t (bodyOf w at) d) t)
+      (key-has (with-series s w t key e x p h)) (update-changed w at key (bucketIn s) t d g))
+      (key-fits key y (q .short)) (evicted-right s w t key q x p k o h) (live-known h)
+
+  module _ (a : Asked) (i : a ≡ askedAt s t x (x .limit) (eqb (x .pass .«live_total») 0)) (b : a .blind ≡ false) where
+    -- ---- get
+    get-words : applied w (x .at) key (bucketIn s) t (getChange x (a .caching)) ≡ get s w t key .words
+    get-words = get-done s w t key e x p a i b (snapshotAt x (a .factor)) (getChange x (a .caching))
+        (applied w (x .at) key (bucketIn s) t (getChange x (a .caching))) refl refl refl .words
+
+    -- a known key is rid of its expired buckets
+    pub get-stands : Bytes key → x .series ≡ true →
+        Stands kind.Suppressed s w (get s w t key .words) (x .at) t (keyOf key) (x .limit) (factorAfter (a .caching) (x .factor))
+        (timeAfter (a .caching) (x .«factor_time»)) (useAfter (a .caching) x) (liveOf s t (heldIn w key))
+    get-stands y h =
+        subst (λ (v : List ℕ). Stands kind.Suppressed s w v (x .at) t (keyOf key) (x .limit) (factorAfter (a .caching) (x .factor))
+        (timeAfter (a .caching) (x .«factor_time»)) (useAfter (a .caching) x) (liveOf s t (heldIn w key)))
+        (ap (applied w (x .at) key (bucketIn s) t) (get-series x (a .caching) h) ∙ get-words) (evicted-stands (a .caching) y h (caching-ok a i b))
+
+    -- "`get` on an unknown key .. takes no slot": the reading alone is stored
+    pub get-keeps : x .series ≡ false → get s w t key .words ≡ withReading w t
+    unfolding getChange
+    get-keeps h =
+        sym get-words ∙ ap (λ (z : Bool). applied w (x .at) key (bucketIn s) t (cond z (Update (recached x (a .caching) (evicting x Nothing))) Keep)) h ∙
+        keep-words w (x .at) key (bucketIn s) t
+
+    -- ---- get_suppression_factor
+    module _ (f : lacksAt w (placeOf w x) x ≡ false) where
+      factor-words : applied w (placeOf w x) key (bucketIn s) t (factorChange x (a .caching) t) ≡ getFactor s w t key .words
+      factor-words =
+          factor-done s w t key e x p (placeOf w x) refl (lacksAt w (placeOf w x) x) refl f a i b (factorChange x (a .caching) t)
+          (applied w (placeOf w x) key (bucketIn s) t (factorChange x (a .caching) t)) refl refl .words
+
+      pub factor-stands : Bytes key → x .series ≡ true →
+          Stands kind.Suppressed s w (getFactor s w t key .words) (x .at) t (keyOf key) (x .limit) (factorAfter (a .caching) (x .factor))
+          (timeAfter (a .caching) (x .«factor_time»)) (useAfter (a .caching) x) (liveOf s t (heldIn w key))
+      factor-stands y h =
+          let n = place-used s w t key e x p (with-series s w t key e x p h) in
+          subst (λ (v : List ℕ). Stands kind.Suppressed s w v (x .at) t (keyOf key) (x .limit) (factorAfter (a .caching) (x .factor))
+          (timeAfter (a .caching) (x .«factor_time»)) (useAfter (a .caching) x) (liveOf s t (heldIn w key)))
+          (ap (λ (j : ℕ). applied w j key (bucketIn s) t (Update (recached x (a .caching) (evicting x Nothing)))) (sym n) ∙
+          ap (applied w (placeOf w x) key (bucketIn s) t) (get-series x (a .caching) h ∙ factor-series x (a .caching) t h) ∙ factor-words)
+          (evicted-stands (a .caching) y h (caching-ok a i b))
+
+      -- "but gives a lone cached factor at age below C": the reading alone is stored
+      pub factor-keeps : x .series ≡ false → usableAt (cacheIn s) t x ≡ true → getFactor s w t key .words ≡ withReading w t
+      factor-keeps h u =
+          let k : a .caching ≡ Left = ap (λ (y : Asked). y .caching) (i ∙ asked-again s t x (x .limit) (eqb (x .pass .«live_total») 0) u) in
+          sym factor-words ∙
+          ap (applied w (placeOf w x) key (bucketIn s) t) (sym (factor-lone x (a .caching) t h) ∙ ap (λ (j : Caching). loneChange (x .cached) j t) k) ∙
+          keep-words w (placeOf w x) key (bucketIn s) t
+
+      -- "does take one and caches 0": a lone cached factor 0, in the slot of the one that is too old, or in the lowest free one
+      pub factor-lone-stands : Bytes key → x .series ≡ false → usableAt (cacheIn s) t x ≡ false →
+          Stands kind.Suppressed s w (getFactor s w t key .words) (placeOf w x) t (keyOf key) 0 0 t 2 []
+      unfolding editedView actedView startedView
+      factor-lone-stands y h u =
+          let at = placeOf w x in
+          let k : a .caching ≡ Cached (cachedAt nil t) = ap (λ (j : Asked). j .caching) (i ∙ asked-anew s t x (x .limit) (eqb (x .pass .«live_total») 0) h u) in
+          let c : loneBy (x .cached) t ≡ factorChange x (a .caching) t =
+          sym (ap (λ (j : Caching). loneChange (x .cached) j t) k) ∙ factor-lone x (a .caching) t h in
+          let g : EditsAt w at (bucketIn s) t (loneEdit t) = either (loneEdit t) (x .cached)
+          (factor-applies s w t key e x p at refl (lacksAt w at x) refl f (a .caching) (loneBy (x .cached) t) c) in
+          let z : hasSlot x ≡ x .cached = ap (λ (j : Bool). j || x .cached) h in
+          stood s w (getFactor s w t key .words) at t (keyOf key) (loneEdit t) [] g
+          (subst (λ (v : List ℕ). Changed w v at 2 (keyOf key) (edited (ringOf w) (bucketIn s) t (bodyOf w at) (loneEdit t)) t)
+          (ap (applied w at key (bucketIn s) t) c ∙ factor-words) (changed-by (loneEdit t) (x .cached) z g))
+          (key-fits key y (q .short)) (lone-right s w t key q x p) refl
+
+  -- ---- inc
+  module _ (rate : RateLimit) (c draw : ℕ) (f : first (incLate s x (lacksAt w (placeOf w x) x) (ringOf w) t rate c draw) ≡ 0) (o : Outcome)
+      (i : o ≡ incOutcome s t rate c draw x (eqb (x .pass .«live_total») 0)) (b : o .blind ≡ false) where
+    -- the decision's factor, and what is cached
+    pub decision-ok : DecisionOk (o .decision) × CachingOk t (o .caching)
+    decision-ok =
+        subst (λ (y : Outcome). DecisionOk (y .decision) × CachingOk t (y .caching)) (sym i)
+        (outcome-ok s (q .settings) t x (sums s w t key q x p) (λ y. cached-there s w t key q x p y .word) (limitAt s x rate) (forecastAt x c) c draw
+        (sym (ap (λ (y : Outcome). y .blind) i) ∙ b))
+
+    rate-ok : rateOk (rate .0) ≡ true
+    rate-ok =
+        not-false (rateOk (rate .0)) (all-false (incLate s x (lacksAt w (placeOf w x) x) (ringOf w) t rate c draw) (omega arith) f .0)
+
+    -- of the live buckets, or of a series that begins
+    abbrev edit : Bool → Edit
+    edit z = recached x (o .caching)
+        (cond z (evicting x (Increment c (o .declined))) (opening (limitAt s x rate) (Increment c (o .declined)) (x .factor) (x .«factor_time») (x .used)))
+
+    inc-words : applied w (placeOf w x) key (bucketIn s) t (incChange x (limitAt s x rate) c (o .declined) (o .caching)) ≡ inc s w t key rate c draw .words
+    inc-words =
+        inc-done s w t key e x p (placeOf w x) refl (lacksAt w (placeOf w x) x) refl rate c draw (ringOf w)
+        (first (incLate s x (lacksAt w (placeOf w x) x) (ringOf w) t rate c draw)) refl refl f o
+        (limitAt s x rate) (forecastAt x c) refl refl i b (incChange x (limitAt s x rate) c (o .declined) (o .caching))
+        (applied w (placeOf w x) key (bucketIn s) t (incChange x (limitAt s x rate) c (o .declined) (o .caching))) refl refl .words
+
+    inc-edits : EditsAt w (placeOf w x) (bucketIn s) t (edit (x .series))
+    unfolding incChange incEdit
+    inc-edits =
+        either (edit (x .series)) (hasSlot x)
+        (inc-applies s w t key e x p (placeOf w x) refl (lacksAt w (placeOf w x) x) refl rate c draw (ringOf w)
+        (first (incLate s x (lacksAt w (placeOf w x) x) (ringOf w) t rate c draw)) refl refl f o
+        (limitAt s x rate) (forecastAt x c) refl refl i (incChange x (limitAt s x rate) c (o .declined) (o .caching)) refl)
+
+    inc-changed :
+        Changed w (applied w (placeOf w x) key (bucketIn s) t (incChange x (limitAt s x rate) c (o .declined) (o .caching))) (placeOf w x)
+        (useAfter (o .caching) x) (keyOf key)
+        (edited (ringOf w) (bucketIn s) t (bodyOf w (placeOf w x)) (edit (x .series))) t
+    unfolding incChange incEdit recached
+    inc-changed = changed-by (edit (x .series)) (hasSlot x) refl inc-edits
+
+    -- the count goes to the live buckets, or to a series that begins: in the slot of a lone cached factor, or in the lowest free one
+    by-series : (z : Bool) → x .series ≡ z → (v : List ℕ) → Bytes key → EditsAt w (placeOf w x) (bucketIn s) t (edit z) →
+        Changed w v (placeOf w x) (useAfter (o .caching) x) (keyOf key) (edited (ringOf w) (bucketIn s) t (bodyOf w (placeOf w x)) (edit z)) t →
+        Stands kind.Suppressed s w v (placeOf w x) t (keyOf key) (limitAt s x rate) (factorAfter (o .caching) (x .factor))
+        (timeAfter (o .caching) (x .«factor_time»)) (useAfter (o .caching) x)
+        (joined (bucketIn s) t c (o .declined) (liveOf s t (heldIn w key)))
+    unfolding recached editedView actedView startedView limitAt
+    by-series true h v y g d =
+        let at = placeOf w x in
+        let n = place-used s w t key e x p (with-series s w t key e x p h) in
+        subst (λ (l : ℕ). Stands kind.Suppressed s w v at t (keyOf key) l (factorAfter (o .caching) (x .factor)) (timeAfter (o .caching) (x .«factor_time»))
+        (useAfter (o .caching) x) (joined (bucketIn s) t c (o .declined) (liveOf s t (heldIn w key))))
+        (sym (ap (λ (z : Bool). cond z (x .limit) (hardWord (rate .0) (factorIn s) (windowIn s))) h))
+        (stood s w v at t (keyOf key) (edit true) (joined (bucketIn s) t c (o .declined) (liveOf s t (heldIn w key))) g d (key-fits key y (q .short))
+        (inc-right s w t key q x p rate c (o .declined) (o .caching) (decision-ok .1) rate-ok true h)
+        (ap (λ (j : ℕ). joined (bucketIn s) t c (o .declined) (drop (x .pass .expired) (buckets (ringOf w) (bodyOf w j)))) n ∙
+        ap (joined (bucketIn s) t c (o .declined)) (live-known h)))
+    by-series false h v y g d =
+        stood s w v (placeOf w x) t (keyOf key) (edit false) (joined (bucketIn s) t c (o .declined) (liveOf s t (heldIn w key))) g d (key-fits key y (q .short))
+        (inc-right s w t key q x p rate c (o .declined) (o .caching) (decision-ok .1) rate-ok false h)
+        (ap (joined (bucketIn s) t c (o .declined)) (live-unknown h))
+
+    pub inc-stands : Bytes key →
+        Stands kind.Suppressed s w (inc s w t key rate c draw .words) (placeOf w x) t (keyOf key) (limitAt s x rate) (factorAfter (o .caching) (x .factor))
+        (timeAfter (o .caching) (x .«factor_time»)) (useAfter (o .caching) x)
+        (joined (bucketIn s) t c (o .declined) (liveOf s t (heldIn w key)))
+    inc-stands y =
+        subst (λ (v : List ℕ). Stands kind.Suppressed s w v (placeOf w x) t (keyOf key) (limitAt s x rate) (factorAfter (o .caching) (x .factor))
+        (timeAfter (o .caching) (x .«factor_time»)) (useAfter (o .caching) x) (joined (bucketIn s) t c (o .declined) (liveOf s t (heldIn w key))))
+        inc-words (by-series (x .series) refl (applied w (placeOf w x) key (bucketIn s) t (incChange x (limitAt s x rate) c (o .declined) (o .caching))) y
+        inc-edits inc-changed)

@@ -1,0 +1,119 @@
+-- A slot of the suppressed room after an edit whose use, limit and factor are right: it stands as the rules say (`Stands`); and the calls' edits are right.
+-- Assumes nothing.
+use mathlib.Core.Path.{_≡_, refl, ap, _∙_}
+use mathlib.Core.Bool.{Bool, true, false, _||_, cond, false≢true}
+use mathlib.Core.List.{List}
+use Prim.Native.Nat.{ℕ, _≤_}
+use native.Mathlib.Omega.{arith}
+use lib.Dec.{eqb}
+use borrow.Author.Tests.{le-leb}
+use Rattle.base.specs.Decides.{and-true, true-and}
+use Rattle.suppression.specs.Factor.{factorWordOk}
+use Rattle.common_laws.specs.FactorLaws.{nil-ok}
+use Rattle.common.specs.Limits.{limitOk, hardWord}
+use Rattle.common_laws.specs.LimitLaws.{hard-ok}
+use Rattle.common.specs.Ranges.{rateOk}
+use Rattle.settings.specs.Settings.{windowIn, bucketIn, factorIn}
+use Rattle.settings.specs.declared.Settings.{Settings}
+use Rattle.common.specs.declared.units.RateLimit.{RateLimit}
+use Rattle.ring.specs.declared.Bucket.{Bucket}
+use Rattle.ring.specs.Ring.{buckets}
+use Rattle.room.specs.declared.Key.{Key}
+use Rattle.room.specs.Room.{ringOf, bodyOf, keyFits}
+use Rattle.frame.specs.Frame.{Changed}
+use Rattle.rules.specs.declared.RoomKind.the-variants as kind
+use Rattle.judge.specs.declared.Slot.{Slot}
+use Rattle.judge.specs.Judge.{Passed, slotIn}
+use Rattle.judge.specs.Sound.{hasSeries, hasCached, rightUse}
+use Rattle.change.specs.declared.Edit.{Edit}
+use Rattle.change.specs.declared.Then.the-variants.{Nothing, Increment}
+use Rattle.change.specs.Words.{edited, editedView, EditsAt}
+use Rattle.plan.specs.Known.{cached-known}
+use Rattle.plan.specs.Plan.{evicting, opening}
+use Rattle.rules.specs.declared.Caching.{Caching}
+use Rattle.rules.specs.declared.Caching.the-variants.{Left, Cached}
+use Rattle.suppressed.specs.Opened.{limitAt}
+use Rattle.suppressed_edits.specs.Edits.{useLeft, factorAfter, timeAfter, useAfter, recached, loneEdit}
+use Rattle.suppressed_opened.specs.Opened.{staysAt}
+use Rattle.suppressed.specs.Standing.{used, known}
+use Rattle.leaves.specs.Calls.{Stands, stands-so}
+use Rattle.leaves.specs.Unit.{CachingOk}
+
+-- a cached factor's words that are sound at reading t
+pub record FactorOk (n u t : ℕ) : Type 0 where
+  pub word : factorWordOk n ≡ true
+  pub earlier : u ≤ t
+
+-- an edit whose use, limit and factor are right
+pub record Right (s : Settings) (t : ℕ) (e : Edit) : Type 0 where
+  pub use-right : rightUse kind.Suppressed (e .used) ≡ true
+  pub limit-right : hasSeries (e .used) ≡ true → limitOk (windowIn s) (factorIn s) (e .limit) ≡ true
+  pub factor-right : hasCached (e .used) ≡ true → FactorOk (e .factor) (e .«factor_time») t
+
+-- a slot after a right edit, with key k: ys are the buckets that the rules say
+pub stood : (s : Settings) (w v : List ℕ) (at t : ℕ) (k : Key) (e : Edit) (ys : List Bucket) → EditsAt w at (bucketIn s) t e →
+    Changed w v at (e .used) k (edited (ringOf w) (bucketIn s) t (bodyOf w at) e) t →
+    keyFits k ≡ true → Right s t e → editedView (bucketIn s) t e (buckets (ringOf w) (bodyOf w at)) ≡ ys →
+    Stands kind.Suppressed s w v at t k (e .limit) (e .factor) (e .«factor_time») (e .used) ys
+stood s w v at t k e ys h c f r y =
+    stands-so kind.Suppressed s w v at (bucketIn s) t k e h c ys y f (r .use-right) refl (r .limit-right)
+    (λ z. true-and (factorWordOk (e .factor)) _ (r .factor-right z .word) (le-leb (e .«factor_time») t (r .factor-right z .earlier)))
+
+-- ---- the calls' edits are right
+
+left-use : (z : Bool) → rightUse kind.Suppressed (useLeft z) ≡ true
+unfolding rightUse
+left-use true = refl
+left-use false = refl
+
+use-after : (k : Caching) (x : Slot) → rightUse kind.Suppressed (useAfter k x) ≡ true
+unfolding rightUse
+use-after Left x = left-use (staysAt x)
+use-after (Cached k) x = refl
+
+left-cached : (z : Bool) → hasCached (useLeft z) ≡ true → z ≡ true
+left-cached true e = refl
+left-cached false e = absurd (false≢true e)
+
+stays-cached : (x : Slot) → staysAt x ≡ true → x .cached ≡ true
+unfolding staysAt
+stays-cached x e = and-true (x .cached) (eqb (x .pass .expired) 0) e .0
+
+factor-after : (t : ℕ) (x : Slot) (k : Caching) → CachingOk t k → (x .cached ≡ true → FactorOk (x .factor) (x .«factor_time») t) →
+    hasCached (useAfter k x) ≡ true →
+    FactorOk (factorAfter k (x .factor)) (timeAfter k (x .«factor_time»)) t
+factor-after t x Left o h y = h (stays-cached x (left-cached (staysAt x) y))
+factor-after t x (Cached k) o h y = record { word = o .0; earlier = o .1 }
+
+or-right : (a b : Bool) → b ≡ true → a || b ≡ true
+or-right true b e = refl
+or-right false b e = e
+
+module _ (s : Settings) (w : List ℕ) (t : ℕ) (key : List ℕ) (q : Passed kind.Suppressed s w t key) (x : Slot) (p : x ≡ slotIn s w t key) where
+  pub cached-there : x .cached ≡ true → FactorOk (x .factor) (x .«factor_time») t
+  cached-there e =
+      let c = cached-known kind.Suppressed s w t (x .at) x (used s w t key q x p (or-right (x .series) (x .cached) e)) e in
+      record { word = c .factor-ok; earlier = omega (arith, c .earlier, q .later) }
+
+  -- an increment's edit: of the live buckets, or of a series that begins
+  pub inc-right : (rate : RateLimit) (c d : ℕ) (k : Caching) → CachingOk t k → rateOk (rate .0) ≡ true → (z : Bool) → x .series ≡ z →
+      Right s t (recached x k (cond z (evicting x (Increment c d)) (opening (limitAt s x rate) (Increment c d) (x .factor) (x .«factor_time») (x .used))))
+  unfolding recached limitAt
+  inc-right rate c d k o r true e =
+      record { use-right = use-after k x; limit-right = λ y. known s w t key q x p e .limit-ok; factor-right = factor-after t x k o cached-there }
+  inc-right rate c d k o r false e = record {
+    use-right = use-after k x;
+    limit-right = λ y. ap (λ (z : Bool). limitOk (windowIn s) (factorIn s) (cond z (x .limit) (hardWord (rate .0) (factorIn s) (windowIn s)))) e ∙
+        hard-ok (rate .0) (factorIn s) (windowIn s) r (q .settings .factor) (q .settings .window-low) (q .settings .window-high);
+    factor-right = factor-after t x k o cached-there;
+  }
+
+  -- a series without its expired buckets
+  pub evicted-right : (k : Caching) → CachingOk t k → x .series ≡ true → Right s t (recached x k (evicting x Nothing))
+  unfolding recached
+  evicted-right k o e =
+      record { use-right = use-after k x; limit-right = λ y. known s w t key q x p e .limit-ok; factor-right = factor-after t x k o cached-there }
+
+  pub lone-right : Right s t (loneEdit t)
+  unfolding rightUse
+  lone-right = record { use-right = refl; limit-right = λ y. absurd (false≢true y); factor-right = λ y. record { word = nil-ok; earlier = omega arith } }

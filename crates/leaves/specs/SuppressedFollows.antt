@@ -1,0 +1,298 @@
+-- The suppressed limiter's own calls, whole: for every input the call is refused and every word is as it was, or answer and room are what the rules make of
+-- what the
+-- key holds. What an increment admits does not pass the hard limit, and what stays within the soft one is allowed. x is the key's slot, whose words are told.
+-- Assumes nothing.
+use mathlib.Core.Path.{_≡_, refl, sym, ap, ap₂, subst, _∙_}
+use mathlib.Core.Bool.{Bool, true, false, not, _&&_, cond, false≢true}
+use mathlib.Core.List.{List, []}
+use Prim.Native.Nat.{ℕ, _-_, _^_, _≤_, _<_}
+use native.Mathlib.Decide.{ℕ-discrete}
+use native.Mathlib.Omega.{arith}
+use lib.Dec.{ltb, eqb}
+use Rattle.answers.specs.HistoryMode.{noSnapshot}
+use Rattle.common_laws.specs.LimitLaws.{soft-le-hard}
+use Rattle.common.specs.Limits.{cutWord, softWord}
+use Rattle.common.specs.Ranges.{nil, one}
+use Rattle.common.specs.Refusals.{first, all-false, none-first}
+use Rattle.settings.specs.Settings.{windowIn, bucketIn, factorIn, cacheIn, Proper}
+use Rattle.answers.specs.declared.FactorAnswer.{FactorAnswer}
+use Rattle.answers.specs.declared.FactorAnswer.the-variants as factor
+use Rattle.answers.specs.declared.RateLimitDecision.{RateLimitDecision}
+use Rattle.answers.specs.declared.RateLimitDecision.the-variants as decision
+use Rattle.answers.specs.declared.SnapshotAnswer.{SnapshotAnswer}
+use Rattle.answers.specs.declared.SnapshotAnswer.the-variants as snapshot
+use Rattle.answers.specs.declared.SuppressedRateLimitSnapshot.{SuppressedRateLimitSnapshot}
+use Rattle.settings.specs.declared.Settings.{Settings}
+use Rattle.common.specs.declared.units.RateLimit.{RateLimit}
+use Rattle.rules.specs.Buckets.{joined, lastSecond}
+use Rattle.ring.specs.Ring.{counts, declineds}
+use Rattle.rules.specs.declared.Asked.{Asked}
+use Rattle.rules.specs.declared.Outcome.{Outcome}
+use Rattle.rules.specs.declared.RoomKind.the-variants as kind
+use Rattle.rules.specs.Held.{Held}
+use Rattle.rules.specs.Both.{liveOf}
+use Rattle.rules.specs.Suppressed.{limitFor, usable, asked, asking, forecast, reachOf, declinedBy, outcomeOf, outcome, admits, incTurns, getTurns, factorTurns}
+use Rattle.rules.specs.Laws.{unseen, blind-is, reach-admits, reach-soft, reach-hard, reach-over, declined-all}
+use Rattle.room.specs.Room.{ringOf, keyOf, withReading}
+use Rattle.frame.specs.Keys.{Bytes}
+use Rattle.judge.specs.declared.Slot.{Slot}
+use Rattle.judge.specs.Held.{heldIn, noneFree}
+use Rattle.judge.specs.Judge.{refusals, early, Passed, slotIn}
+use Rattle.judge.specs.Laws.{passed}
+use Rattle.judge.specs.Verdict.{Verdict}
+use Rattle.change.specs.Words.{applied}
+use Rattle.plan.specs.Plan.{placeOf, lacksAt}
+use Rattle.plan.specs.Seen.{Seen, seen, lacks-is}
+use Rattle.suppressed_opened.specs.Opened.{usableAt, askedAt, forecastAt}
+use Rattle.suppressed_edits.specs.Edits.{factorAfter, timeAfter, useAfter, getChange, factorChange, incChange}
+use Rattle.suppressed_edits.specs.Refusals.{incLate}
+use Rattle.suppressed.specs.Calls.{get, getFactor, inc}
+use Rattle.suppressed.specs.Opened.{unperceived, askingAt, snapshotAt, limitAt, incOutcome}
+use Rattle.suppressed.specs.Laws.{get-done, factor-done, inc-done}
+use Rattle.suppressed.specs.Seen.{usable-is, asking-is, limit-is, decides, late-is}
+use Rattle.suppressed.specs.Standing.{sums, unperceived-is}
+use Rattle.leaves.specs.Calls.{Stands}
+use Rattle.leaves.specs.Follows.{Follows, call-follows}
+use Rattle.leaves.specs.Unit.{DecisionOk}
+use Rattle.leaves.specs.Leaves.{stays-lone, asked-anew, get-stands, get-keeps, factor-stands, factor-keeps, factor-lone-stands, decision-ok, inc-stands}
+
+-- the number of a refusal, 0 where there is none
+abbrev pub getNumber : Settings → List ℕ → ℕ → List ℕ → ℕ
+getNumber s w t key = first (refusals kind.Suppressed s w t key (getTurns s t (heldIn w key)))
+
+abbrev pub factorNumber : Settings → List ℕ → ℕ → List ℕ → ℕ
+factorNumber s w t key = first (refusals kind.Suppressed s w t key (factorTurns s (noneFree w) t (heldIn w key)))
+
+abbrev pub incNumber : Settings → List ℕ → ℕ → List ℕ → RateLimit → ℕ → ℕ → ℕ
+incNumber s w t key rate c draw = first (refusals kind.Suppressed s w t key (incTurns s (ringOf w) (noneFree w) t rate c draw (heldIn w key)))
+
+-- the slot x of a known key, without its expired buckets, once factor a was asked for
+abbrev pub Evicted : Settings → List ℕ → List ℕ → ℕ → List ℕ → Slot → Asked → Type 0
+Evicted s w v t key x a =
+    Stands kind.Suppressed s w v (x .at) t (keyOf key) (x .limit) (factorAfter (a .caching) (x .factor)) (timeAfter (a .caching) (x .«factor_time»))
+    (useAfter (a .caching) x)
+    (liveOf s t (heldIn w key))
+
+-- `get`: a known key's live totals and factor; "on an unknown key gives zeros and takes no slot"
+pub record Gets (s : Settings) (w : List ℕ) (t : ℕ) (key : List ℕ) (v : Verdict SnapshotAnswer) : Type 0 where
+  pub known-answer : heldIn w key .known ≡ true → v .answer ≡ snapshot.Snapshot (record {
+    total = counts (liveOf s t (heldIn w key));
+    «total_declined» = declineds (liveOf s t (heldIn w key));
+    «suppression_factor» = asking s t (heldIn w key) .factor;
+  })
+  pub known : heldIn w key .known ≡ true → Evicted s w (v .words) t key (slotIn s w t key) (asking s t (heldIn w key))
+  pub unknown-answer : heldIn w key .known ≡ false → v .answer ≡ snapshot.Snapshot noSnapshot
+  pub unknown : heldIn w key .known ≡ false → v .words ≡ withReading w t
+
+-- `get_suppression_factor`: "gives a lone cached factor at age below C"; without one it "does take" a slot "and caches 0"
+pub record GivesFactor (s : Settings) (w : List ℕ) (t : ℕ) (key : List ℕ) (v : Verdict FactorAnswer) : Type 0 where
+  pub answer : v .answer ≡ factor.Factor (asking s t (heldIn w key) .factor)
+  pub known : heldIn w key .known ≡ true → Evicted s w (v .words) t key (slotIn s w t key) (asking s t (heldIn w key))
+  pub kept : heldIn w key .known ≡ false → usable s t (heldIn w key) ≡ true → v .words ≡ withReading w t
+  pub anew : heldIn w key .known ≡ false → usable s t (heldIn w key) ≡ false →
+      Stands kind.Suppressed s w (v .words) (placeOf w (slotIn s w t key)) t (keyOf key) 0 0 t 2 []
+  pub anew-zero : heldIn w key .known ≡ false → usable s t (heldIn w key) ≡ false → asking s t (heldIn w key) .factor ≡ nil
+
+-- `inc`: "Count, and declined if not admitted, go to totals and bucket", of a known key, in the slot of a lone cached factor, or in the lowest free one
+pub record Counts (s : Settings) (w : List ℕ) (t : ℕ) (key : List ℕ) (limit c : ℕ) (x : Slot) (o : Outcome) (v : Verdict RateLimitDecision) : Type 0 where
+  pub settings : Proper s
+  pub answer : v .answer ≡ o .decision
+  pub unit : DecisionOk (o .decision)
+  pub stands :
+      Stands kind.Suppressed s w (v .words) (placeOf w x) t (keyOf key) limit (factorAfter (o .caching) (x .factor))
+      (timeAfter (o .caching) (x .«factor_time»)) (useAfter (o .caching) x)
+      (joined (bucketIn s) t c (declinedBy (admits (v .answer)) c) (liveOf s t (heldIn w key)))
+
+-- ---- the calls
+
+module _ (s : Settings) (w : List ℕ) (t : ℕ) (key : List ℕ) where
+  -- what stands of the key's slot where the call is not refused early
+  module _ (e : early kind.Suppressed s w t key ≡ 0) where
+    abbrev x : Slot
+    x = slotIn s w t key
+
+    abbrev h : Held
+    h = heldIn w key
+
+    q : Passed kind.Suppressed s w t key
+    q = passed kind.Suppressed s w t key e
+
+    o : Seen (windowIn s) t (heldIn w key) (slotIn s w t key)
+    o = seen kind.Suppressed s w t key q
+
+    asks : askingAt s t (slotIn s w t key) ≡ asking s t (heldIn w key)
+    asks = asking-is s t h x o
+
+    asked-is : asking s t (heldIn w key) ≡ askedAt s t (slotIn s w t key) (slotIn s w t key .limit) (eqb (slotIn s w t key .pass .«live_total») 0)
+    asked-is = sym asks ∙ ap (askedAt s t x (x .limit)) (unperceived-is s w t key q x refl)
+
+    series-as : (z : Bool) → heldIn w key .known ≡ z → slotIn s w t key .series ≡ z
+    series-as z f = o .series-is ∙ f
+
+    -- "Refusal 13 is met exactly at S = 0, H at least 1, some bucket, total 0", where a fresh factor is asked for at this limit
+    pub thirteen : (limit : ℕ) →
+        asked s t limit (heldIn w key) .blind ≡ not (usable s t (heldIn w key)) &&
+        unseen (softWord (factorIn s) limit) (cutWord limit) (liveOf s t (heldIn w key))
+    thirteen limit =
+        let n = sums s w t key q x refl in
+        blind-is s t limit h (q .settings .window-low) (q .settings .window-high) (omega (arith, n .recent, o .recent-is, o .live-is))
+        (omega (arith, n .declined, o .declined-is, o .live-is)) (omega (arith, n .most, o .live-is))
+
+    -- ---- get
+    gets : Bytes key → first (getTurns s t (heldIn w key)) ≡ 0 → Gets s w t key (get s w t key)
+    gets y f =
+        let a = asking s t h in
+        let b : a .blind ≡ false = all-false (getTurns s t h) (omega arith) f .0 in
+        let r = get-done s w t key e x refl a asked-is b (snapshotAt x (a .factor)) (getChange x (a .caching))
+        (applied w (x .at) key (bucketIn s) t (getChange x (a .caching))) refl refl refl .answer in
+        let full : ℕ → ℕ → SuppressedRateLimitSnapshot = λ (m n : ℕ). record { total = m; «total_declined» = n; «suppression_factor» = a .factor } in
+        let by : Bool → SnapshotAnswer = λ (z : Bool). snapshot.Snapshot (cond z (full (x .pass .«live_total») (x .pass .«live_declined»)) noSnapshot) in
+        record {
+          known-answer = λ g. sym r ∙ ap by (series-as true g) ∙ ap₂ (λ (m n : ℕ). snapshot.Snapshot (full m n)) (o .live-is) (o .declined-is);
+          known = λ g. get-stands s w t key e x refl a asked-is b y (series-as true g);
+          unknown-answer = λ g. sym r ∙ ap by (series-as false g);
+          unknown = λ g. get-keeps s w t key e x refl a asked-is b (series-as false g);
+        }
+
+    -- ---- get_suppression_factor
+    usable-as : usableAt (cacheIn s) t (slotIn s w t key) ≡ usable s t (heldIn w key)
+    usable-as = usable-is s t h x o
+
+    factors : Bytes key → first (factorTurns s (noneFree w) t (heldIn w key)) ≡ 0 → GivesFactor s w t key (getFactor s w t key)
+    factors y f =
+        let a = asking s t h in
+        let n = all-false (factorTurns s (noneFree w) t h) (omega arith) f in
+        let b : a .blind ≡ false = n .1 .0 in
+        let l : lacksAt w (placeOf w x) x ≡ false = lacks-is (windowIn s) t h x o w ∙ n .0 in
+        let ch = factorChange x (a .caching) t in
+        record {
+          answer = sym (factor-done s w t key e x refl (placeOf w x) refl (lacksAt w (placeOf w x) x) refl l a asked-is b ch
+              (applied w (placeOf w x) key (bucketIn s) t ch) refl refl .answer);
+          known = λ g. factor-stands s w t key e x refl a asked-is b l y (series-as true g);
+          kept = λ g u. factor-keeps s w t key e x refl a asked-is b l (series-as false g) (usable-as ∙ u);
+          anew = λ g u. factor-lone-stands s w t key e x refl a asked-is b l y (series-as false g) (usable-as ∙ u);
+          anew-zero = λ g u. ap (λ (j : Asked). j .factor)
+              (asked-is ∙ asked-anew s t x (x .limit) (eqb (x .pass .«live_total») 0) (series-as false g) (usable-as ∙ u));
+        }
+
+    -- ---- inc
+    module _ (rate : RateLimit) (c draw : ℕ) where
+      abbrev limit : ℕ
+      limit = limitFor s rate (heldIn w key)
+
+      decided : Outcome
+      decided = outcome s t (limitFor s rate (heldIn w key)) c draw (heldIn w key)
+
+      outcome-told : outcome s t (limitFor s rate (heldIn w key)) c draw (heldIn w key) ≡
+          incOutcome s t rate c draw (slotIn s w t key) (eqb (slotIn s w t key .pass .«live_total») 0)
+      outcome-told = sym (decides s w t key rate c draw q) ∙ ap (incOutcome s t rate c draw x) (unperceived-is s w t key q x refl)
+
+      declined-is : outcome s t (limitFor s rate (heldIn w key)) c draw (heldIn w key) .declined ≡
+          declinedBy (admits (outcome s t (limitFor s rate (heldIn w key)) c draw (heldIn w key) .decision)) c
+      unfolding outcome
+      declined-is = declined-all (reachOf (forecast (liveOf s t h) c) (softWord (factorIn s) limit) (cutWord limit)) (asked s t limit h) t c draw
+
+      counted : Bytes key → first (incTurns s (ringOf w) (noneFree w) t rate c draw (heldIn w key)) ≡ 0 →
+          Counts s w t key (limitFor s rate (heldIn w key)) c (slotIn s w t key) (outcome s t (limitFor s rate (heldIn w key)) c draw (heldIn w key))
+          (inc s w t key rate c draw)
+      counted y f =
+          let at = placeOf w x in
+          let o = outcome s t limit c draw h in
+          let late = incLate s x (lacksAt w at x) (ringOf w) t rate c draw in
+          let n = all-false (incTurns s (ringOf w) (noneFree w) t rate c draw h) (omega arith) f in
+          let l : first late ≡ 0 = ap first (late-is s w t key rate c draw q) ∙
+          none-first _ (n .0, (n .1 .0, (n .1 .1 .0, (n .1 .1 .1 .0, (n .1 .1 .1 .1 .0, tt))))) in
+          let b : o .blind ≡ false = n .1 .1 .1 .1 .1 .0 in
+          let m = limit-is s t h x (seen kind.Suppressed s w t key q) rate in
+          let ch = incChange x (limitAt s x rate) c (o .declined) (o .caching) in
+          let r : inc s w t key rate c draw .answer ≡ o .decision =
+          sym (inc-done s w t key e x refl at refl (lacksAt w at x) refl rate c draw (ringOf w) (first late) refl refl l o (limitAt s x rate)
+          (forecastAt x c) refl refl outcome-told b ch (applied w at key (bucketIn s) t ch) refl refl .answer) in
+          record {
+            settings = q .settings;
+            answer = r;
+            unit = decision-ok s w t key e x refl rate c draw l o outcome-told b .0;
+            stands =
+                subst (λ (k : ℕ). Stands kind.Suppressed s w (inc s w t key rate c draw .words) at t (keyOf key) k (factorAfter (o .caching) (x .factor))
+                (timeAfter (o .caching) (x .«factor_time»)) (useAfter (o .caching) x)
+                (joined (bucketIn s) t c (declinedBy (admits (inc s w t key rate c draw .answer)) c) (liveOf s t h))) m
+                (subst (λ (d : ℕ). Stands kind.Suppressed s w (inc s w t key rate c draw .words) at t (keyOf key) (limitAt s x rate)
+                (factorAfter (o .caching) (x .factor)) (timeAfter (o .caching) (x .«factor_time»)) (useAfter (o .caching) x)
+                (joined (bucketIn s) t c d (liveOf s t h)))
+                (declined-is ∙ ap (λ (z : RateLimitDecision). declinedBy (admits z) c) (sym r))
+                (inc-stands s w t key e x refl rate c draw l o outcome-told b y));
+          }
+
+  -- ---- for every input
+
+  pub get-follows : Bytes key → Follows snapshot.Refused w (getNumber s w t key) (get s w t key) (Gets s w t key (get s w t key))
+  unfolding get
+  get-follows y = call-follows kind.Suppressed s w t key (getTurns s t (heldIn w key)) snapshot.Refused _ (Gets s w t key (get s w t key)) (λ e f. gets e y f)
+
+  pub factor-follows : Bytes key → Follows factor.Refused w (factorNumber s w t key) (getFactor s w t key) (GivesFactor s w t key (getFactor s w t key))
+  unfolding getFactor
+  factor-follows y = call-follows kind.Suppressed s w t key (factorTurns s (noneFree w) t (heldIn w key)) factor.Refused _
+      (GivesFactor s w t key (getFactor s w t key)) (λ e f. factors e y f)
+
+  -- what the rules decide of an increment
+  abbrev Counted : RateLimit → ℕ → ℕ → Type 0
+  Counted rate c draw =
+      Counts s w t key (limitFor s rate (heldIn w key)) c (slotIn s w t key) (outcome s t (limitFor s rate (heldIn w key)) c draw (heldIn w key))
+      (inc s w t key rate c draw)
+
+  pub inc-follows : (rate : RateLimit) (c draw : ℕ) → Bytes key →
+      Follows decision.Refused w (incNumber s w t key rate c draw) (inc s w t key rate c draw) (Counted rate c draw)
+  unfolding inc
+  inc-follows rate c draw y =
+      call-follows kind.Suppressed s w t key (incTurns s (ringOf w) (noneFree w) t rate c draw (heldIn w key)) decision.Refused _ (Counted rate c draw)
+      (λ e f. counted e rate c draw y f)
+
+-- ---- an increment that is not refused, by its forecast: "Forecast = total - declined + count" of the live buckets
+
+module _ (s : Settings) (w : List ℕ) (t : ℕ) (key : List ℕ) (rate : RateLimit) (c draw : ℕ) (x : Slot) (v : Verdict RateLimitDecision)
+    (k : Counts s w t key (limitFor s rate (heldIn w key)) c x (outcome s t (limitFor s rate (heldIn w key)) c draw (heldIn w key)) v) where
+  abbrev hard : ℕ
+  hard = cutWord (limitFor s rate (heldIn w key))
+
+  abbrev soft : ℕ
+  soft = softWord (factorIn s) (limitFor s rate (heldIn w key))
+
+  abbrev ahead : ℕ
+  ahead = forecast (liveOf s t (heldIn w key)) c
+
+  abbrev factorAsked : Asked
+  factorAsked = asked s t (limitFor s rate (heldIn w key)) (heldIn w key)
+
+  soft-below : softWord (factorIn s) (limitFor s rate (heldIn w key)) ≤ cutWord (limitFor s rate (heldIn w key))
+  soft-below = soft-le-hard (factorIn s) (limitFor s rate (heldIn w key)) (k .settings .factor)
+
+  decided-is : v .answer ≡ outcomeOf
+      (reachOf (forecast (liveOf s t (heldIn w key)) c) (softWord (factorIn s) (limitFor s rate (heldIn w key))) (cutWord (limitFor s rate (heldIn w key))))
+      (asked s t (limitFor s rate (heldIn w key)) (heldIn w key)) t c draw .decision
+  unfolding outcome
+  decided-is = k .answer
+
+  -- what is admitted does not pass the hard limit
+  pub admitted-below : admits (v .answer) ≡ true → forecast (liveOf s t (heldIn w key)) c ≤ cutWord (limitFor s rate (heldIn w key))
+  admitted-below h = reach-admits ahead soft hard factorAsked t c draw soft-below (sym (ap (λ (z : RateLimitDecision). admits z) decided-is) ∙ h)
+
+  -- "At most S, or equal to H: Allowed"
+  pub soft-allowed : forecast (liveOf s t (heldIn w key)) c ≤ softWord (factorIn s) (limitFor s rate (heldIn w key)) → v .answer ≡ decision.Allowed
+  soft-allowed h = decided-is ∙ reach-soft ahead soft hard factorAsked t c draw h
+
+  pub hard-allowed : forecast (liveOf s t (heldIn w key)) c ≡ cutWord (limitFor s rate (heldIn w key)) → v .answer ≡ decision.Allowed
+  hard-allowed h = decided-is ∙ reach-hard ahead soft hard factorAsked t c draw h
+
+  -- "Over H: .. not admitted"
+  pub over-declined : cutWord (limitFor s rate (heldIn w key)) < forecast (liveOf s t (heldIn w key)) c → v .answer ≡ decision.Suppressed one false
+  over-declined h = decided-is ∙ reach-over ahead soft hard factorAsked t c draw soft-below h
+
+-- ---- so for every input
+
+module _ (s : Settings) (w : List ℕ) (t : ℕ) (key : List ℕ) (rate : RateLimit) (c draw : ℕ) (y : Bytes key) where
+  pub inc-admitted : admits (inc s w t key rate c draw .answer) ≡ true → forecast (liveOf s t (heldIn w key)) c ≤ cutWord (limitFor s rate (heldIn w key))
+  inc-admitted h = go (ℕ-discrete (incNumber s w t key rate c draw) 0)
+    where
+      go : Dec (incNumber s w t key rate c draw ≡ 0) → forecast (liveOf s t (heldIn w key)) c ≤ cutWord (limitFor s rate (heldIn w key))
+      go (yes e) = admitted-below s w t key rate c draw (slotIn s w t key) (inc s w t key rate c draw) (inc-follows s w t key rate c draw y .done e) h
+      go (no z) = absurd (false≢true (ap (λ (d : RateLimitDecision). admits d) (inc-follows s w t key rate c draw y .refused z .answer) ∙ h))

@@ -1,0 +1,150 @@
+-- The factor of every decision and snapshot that is not refused lies in 0 to 1, and so does every factor that is cached.
+-- Assumes nothing.
+use mathlib.Core.Path.{_≡_, refl, subst}
+use mathlib.Core.Bool.{Bool, true, false, not, _&&_, _||_, cond}
+use Prim.Native.Nat.{ℕ, _-_, _≤_}
+use native.Mathlib.Omega.{arith}
+use lib.Dec.{leb, ltb, eqb}
+use lib.Ieee.{Float, binary64, ofBits, toBits}
+use borrow.Author.Tests.{ltb-false, eqb-false}
+use Rattle.base.specs.Decides.{and-true}
+use Rattle.suppression.specs.Factor.{Unit01, factorWordOk}
+use Rattle.common_laws.specs.FactorLaws.{Counted, fresh-unit, fresh-ok, factor-unit, nilWord, oneWord, nil-ok, one-ok, nil-word, one-word}
+use Rattle.common.specs.Ranges.{nil, one}
+use Rattle.common.specs.Limits.{cutWord, softWord}
+use Rattle.settings.specs.Settings.{windowIn, factorIn, cacheIn, Proper}
+use Rattle.settings.specs.declared.Settings.{Settings}
+use Rattle.answers.specs.declared.RateLimitDecision.{RateLimitDecision}
+use Rattle.answers.specs.declared.RateLimitDecision.the-variants.{Allowed, Rejected, Suppressed, Refused}
+use Rattle.judge.specs.declared.Slot.{Slot}
+use Rattle.rules.specs.declared.FactorRule.{FactorRule}
+use Rattle.rules.specs.declared.FactorRule.the-variants.{Nil, One, Worked}
+use Rattle.rules.specs.declared.Caching.{Caching}
+use Rattle.rules.specs.declared.Caching.the-variants.{Left, Cached}
+use Rattle.rules.specs.declared.Asked.{Asked}
+use Rattle.rules.specs.declared.Reach.{Reach}
+use Rattle.rules.specs.declared.Reach.the-variants.{Hard, Soft, Over, Between}
+use Rattle.suppressed_opened.specs.Opened.{acceptedAt, left, staysAt, usableAt, ruleAt, workedAt, askedAt}
+use Rattle.rules.specs.Suppressed.{freshBy, blindBy}
+use Rattle.rules.specs.Suppressed.{reachOf, drawn, outcomeOf}
+use Rattle.suppressed_opened.specs.Opened.{outcomeAt}
+use Rattle.suppressed.specs.Standing.{Sums}
+
+-- ---- 0 and 1
+
+unit-nil : Unit01 nil
+unit-nil = subst (λ (f : Float). Unit01 f) nil-word (factor-unit nilWord nil-ok)
+
+unit-one : Unit01 one
+unit-one = subst (λ (f : Float). Unit01 f) one-word (factor-unit oneWord one-ok)
+
+word-nil : factorWordOk (toBits binary64 nil) ≡ true
+unfolding toBits
+word-nil = nil-ok
+
+word-one : factorWordOk (toBits binary64 one) ≡ true
+unfolding toBits
+word-one = one-ok
+
+-- ---- a factor that is workedAt out
+
+nil-worked : {A : Type 0} → Nil ≡ Worked → A
+nil-worked e = let z : _≡_ {A = ℕ} 0 1 = cc in absurd (omega arith)
+
+one-worked : {A : Type 0} → One ≡ Worked → A
+one-worked e = let z : _≡_ {A = ℕ} 0 1 = cc in absurd (omega arith)
+
+third : (a b d e : Bool) → cond a Nil (cond b One (cond d Nil (cond e One Worked))) ≡ Worked → d ≡ false
+third true b d e h = nil-worked h
+third false true d e h = one-worked h
+third false false true e h = nil-worked h
+third false false false e h = refl
+
+worked-soft : (S H : ℕ) (x : Slot) → ruleAt S H x ≡ Worked → S ≤ acceptedAt x
+unfolding ruleAt
+worked-soft S H x h = ltb-false (acceptedAt x) S
+    (third (not (x .series) || eqb (left x) 0) (leb H (x .pass .«live_total»)) (ltb (acceptedAt x) S) (eqb (acceptedAt x) S && eqb S H) h)
+
+-- the factor f that is given lies in 0 to 1, and so does what is cached
+pub record Within01 (f : Float) : Type 0 where
+  pub unit : Unit01 f
+  pub word : factorWordOk (toBits binary64 f) ≡ true
+
+module _ (x : Slot) (o : Sums x) (W : ℕ) (p : 1 ≤ W) (q : W ≤ 33554432) where
+  by-rule : (S H : ℕ) (r : FactorRule) → ruleAt S H x ≡ r → blindBy r (eqb (x .pass .«live_total») 0) ≡ false →
+      Within01 (freshBy r S (x .pass .«live_total») W (x .pass .«last_second»))
+  by-rule S H Nil e b = record { unit = unit-nil; word = word-nil }
+  by-rule S H One e b = record { unit = unit-one; word = word-one }
+  by-rule S H Worked e b =
+      let l = worked-soft S H x e in
+      let n = eqb-false (x .pass .«live_total») 0 b in
+      let k : Counted S (x .pass .«live_total») W (x .pass .«last_second») =
+      record { soft = omega arith; some = omega arith; few = o .most; from = p; to = q; newest = omega (arith, o .recent, o .most) } in
+      record {
+        unit = fresh-unit S (x .pass .«live_total») W (x .pass .«last_second») k;
+        word = fresh-ok S (x .pass .«live_total») W (x .pass .«last_second») k;
+      }
+
+-- ---- the factor that is askedAt for
+
+-- what is cached is sound at reading t
+abbrev pub CachingOk : ℕ → Caching → Type 0
+CachingOk t Left = Unit {0}
+CachingOk t (Cached k) = (factorWordOk (toBits binary64 (k .«suppression_factor»)) ≡ true) × (k .time ≤ t)
+
+pub record AskedOk (t : ℕ) (a : Asked) : Type 0 where
+  pub unit : Unit01 (a .factor)
+  pub caching : CachingOk t (a .caching)
+
+usable-cached : (C t : ℕ) (x : Slot) → usableAt C t x ≡ true → x .cached ≡ true
+unfolding usableAt staysAt
+usable-cached C t x e = and-true (x .cached) (eqb (x .pass .expired) 0)
+    (and-true (x .cached && eqb (x .pass .expired) 0) (ltb (t - x .«factor_time») C) e .0) .0
+
+module _ (s : Settings) (p : Proper s) (t : ℕ) (x : Slot) (o : Sums x) (h : x .cached ≡ true → factorWordOk (x .factor) ≡ true) where
+  worked-ok : (limit : ℕ) → workedAt (factorIn s) (windowIn s) t x limit (eqb (x .pass .«live_total») 0) .blind ≡ false →
+      AskedOk t (workedAt (factorIn s) (windowIn s) t x limit (eqb (x .pass .«live_total») 0))
+  unfolding workedAt
+  worked-ok limit b =
+      let S = softWord (factorIn s) limit in
+      let H = cutWord limit in
+      let r = by-rule x o (windowIn s) (p .window-low) (p .window-high) S H (ruleAt S H x) refl b in
+      record { unit = r .unit; caching = (r .word, omega arith) }
+
+  by-use : (limit : ℕ) (z : Bool) → usableAt (cacheIn s) t x ≡ z →
+      cond z (record { blind = false; factor = ofBits binary64 (x .factor); caching = Left })
+      (workedAt (factorIn s) (windowIn s) t x limit (eqb (x .pass .«live_total») 0)) .blind ≡ false →
+      AskedOk t (cond z (record { blind = false; factor = ofBits binary64 (x .factor); caching = Left })
+      (workedAt (factorIn s) (windowIn s) t x limit (eqb (x .pass .«live_total») 0)))
+  by-use limit true e b = record { unit = factor-unit (x .factor) (h (usable-cached (cacheIn s) t x e)); caching = tt }
+  by-use limit false e b = worked-ok limit b
+
+  pub asked-ok : (limit : ℕ) → askedAt s t x limit (eqb (x .pass .«live_total») 0) .blind ≡ false →
+      AskedOk t (askedAt s t x limit (eqb (x .pass .«live_total») 0))
+  unfolding askedAt
+  asked-ok limit b = by-use limit (usableAt (cacheIn s) t x) refl b
+
+-- ---- the decision
+
+abbrev pub DecisionOk : RateLimitDecision → Type 0
+DecisionOk Allowed = Unit {0}
+DecisionOk (Rejected window wait rest) = Unit {0}
+DecisionOk (Suppressed f is) = Unit01 f
+DecisionOk (Refused n) = Unit {0}
+
+by-reach : (r : Reach) (a : Asked) (t c draw : ℕ) → (a .blind ≡ false → AskedOk t a) → outcomeOf r a t c draw .blind ≡ false →
+    DecisionOk (outcomeOf r a t c draw .decision) × CachingOk t (outcomeOf r a t c draw .caching)
+unfolding drawn
+by-reach Hard a t c draw g b = (tt, (word-one, omega arith))
+by-reach Soft a t c draw g b = (tt, tt)
+by-reach Over a t c draw g b = (unit-one, (word-one, omega arith))
+by-reach Between a t c draw g b = (g b .unit, g b .caching)
+
+module _ (s : Settings) (p : Proper s) (t : ℕ) (x : Slot) (o : Sums x) (h : x .cached ≡ true → factorWordOk (x .factor) ≡ true) where
+  pub outcome-ok : (limit n c draw : ℕ) → outcomeAt s t x limit (eqb (x .pass .«live_total») 0) n c draw .blind ≡ false →
+      DecisionOk (outcomeAt s t x limit (eqb (x .pass .«live_total») 0) n c draw .decision) × CachingOk t
+      (outcomeAt s t x limit (eqb (x .pass .«live_total») 0) n c draw .caching)
+  unfolding outcomeAt
+  outcome-ok limit n c draw b =
+      by-reach (reachOf n (softWord (factorIn s) limit) (cutWord limit)) (askedAt s t x limit (eqb (x .pass .«live_total») 0)) t c draw
+      (asked-ok s p t x o h limit) b

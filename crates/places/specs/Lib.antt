@@ -1,0 +1,3 @@
+pub mod Has
+pub mod Placed
+pub mod SoundRoom

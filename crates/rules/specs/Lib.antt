@@ -1,0 +1,9 @@
+pub mod Buckets
+pub mod Held
+pub mod Both
+pub mod Absolute
+pub mod Suppressed
+pub mod Sets
+pub mod Stale
+pub mod Laws
+pub mod Cases

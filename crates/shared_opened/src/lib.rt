@@ -1,0 +1,292 @@
+// The decisions of the calls that both limiters have, on a key's slot that is opened: delete, setting a rate and setting a total. The room's kind says whose
+// limit is meant. The calls stand above, in `calls`.
+ghost use mathlib.Core.Path.{_≡_};
+ghost use mathlib.Core.Bool.{not, _&&_};
+ghost use Prim.Native.Nat.{_-_};
+ghost use Rattle.common.specs.Refusals.{first};
+ghost use Rattle.rules.specs.Both.{limitIn};
+ghost use Rattle.rules.specs.Sets.{preserves, rateTurns};
+ghost use Rattle.shared_opened.specs.Opened.{deletedAt, deleting, oldRateAt, usedWith, relimited, limiting, setOwn};
+ghost use Rattle.shared_opened.specs.Opened.{alreadyAt, vain, idleAt, totalAfter, outcomeAt, reset, begins, stored, setting};
+use answers::ConditionalSetOutcome;
+use answers::DeleteAnswer;
+use answers::HistoryUpdateMode;
+use answers::OldRateAnswer;
+use change::Change;
+use change::Edit;
+use change::Then;
+use common::RateLimit;
+use common::RateLimitComparator;
+use judge::Slot;
+use rules::RoomKind;
+use settings::Settings;
+
+// a less b, or 0 where b is more.
+fn less(a: u64, b: u64) -> u64
+    ensures { λ n. ⌜ n ≡ a - b ⌝ }
+{
+    if b <= a { a - b } else { 0 }
+}
+
+pub fn deleted(x: Slot) -> DeleteAnswer
+    ensures { λ r. ⌜ r ≡ deletedAt x ⌝ }
+{
+    let series = x.series;
+    let cached = x.cached;
+    let pass = x.pass;
+    if series {
+        return DeleteAnswer::Deleted(less(pass.live_total, pass.live_declined));
+    }
+    if cached {
+        return DeleteAnswer::Deleted(0);
+    }
+    DeleteAnswer::Unknown
+}
+
+pub fn deleting(x: Slot) -> Change
+    ensures { λ r. ⌜ r ≡ deleting x ⌝ }
+{
+    if judge::has_slot(x) {
+        return Change::Free;
+    }
+    Change::Keep
+}
+
+// The word that is stored of a rate.
+pub fn limit_of(kind: RoomKind, settings: Settings, rate: RateLimit) -> u64
+    ensures { λ n. ⌜ n ≡ limitIn kind settings rate ⌝ }
+{
+    let window = settings.window_size;
+    let factor = settings.hard_limit_factor;
+    match kind {
+        RoomKind::Absolute => common::absolute_limit(rate, window),
+        RoomKind::Suppressed => common::hard_limit(rate, factor, window),
+    }
+}
+
+pub fn old_rate(kind: RoomKind, settings: Settings, x: Slot) -> OldRateAnswer
+    ensures { λ r. ⌜ r ≡ oldRateAt kind settings x ⌝ }
+{
+    let series = x.series;
+    let window = settings.window_size;
+    let factor = settings.hard_limit_factor;
+    if series {
+        let rate = RateLimit::from_stored_window_limit(
+            x.limit,
+            window,
+            judge::divisor(kind, factor),
+        );
+        return OldRateAnswer::Was(rate);
+    }
+    OldRateAnswer::Unknown
+}
+
+// The use after a limit is stored: a new one forgets the cached factor.
+fn used_with(x: Slot, limit: u64) -> u64
+    ensures { λ u. ⌜ u ≡ usedWith x limit ⌝ }
+{
+    let old = x.limit;
+    let used = x.used;
+    if limit == old {
+        return used;
+    }
+    if used == layout::BOTH {
+        return layout::SERIES;
+    }
+    used
+}
+
+// An edit with another limit and use.
+fn relimited(e: Edit, limit: u64, used: u64) -> Edit
+    ensures { λ r. ⌜ r ≡ relimited e limit used ⌝ }
+{
+    plan::restored(e, limit, e.factor, e.factor_time, used)
+}
+
+pub fn limiting(x: Slot, limit: u64) -> Change
+    ensures { λ r. ⌜ r ≡ limiting x limit ⌝ }
+{
+    let series = x.series;
+    if series {
+        let used = used_with(x, limit);
+        return Change::Update(relimited(plan::keeping(x, Then::Nothing), limit, used));
+    }
+    Change::Keep
+}
+
+pub fn rate_refusal(rate: RateLimit) -> u64
+    ensures { λ n. ⌜ n ≡ first (rateTurns rate) ⌝ }
+{
+    if !rate.is_in_range() {
+        return 8;
+    }
+    0
+}
+
+fn preserves(mode: HistoryUpdateMode) -> bool
+    ensures { λ y. ⌜ y ≡ preserves mode ⌝ }
+{
+    match mode {
+        HistoryUpdateMode::Replace => false,
+        HistoryUpdateMode::Preserve(_) => true,
+    }
+}
+
+// Whether a history that is preserved is already what is asked for.
+fn already(x: Slot, limit: u64, count: u64, mode: HistoryUpdateMode) -> bool
+    ensures { λ y. ⌜ y ≡ alreadyAt x limit count mode ⌝ }
+{
+    let pass = x.pass;
+    let live = pass.live_total;
+    let expired = pass.expired;
+    let old = x.limit;
+    if !preserves(mode) {
+        return false;
+    }
+    if count == 0 {
+        return false;
+    }
+    if live != count {
+        return false;
+    }
+    if expired != 0 {
+        return false;
+    }
+    old == limit
+}
+
+// Whether a key is unknown and stays so.
+fn vain(series: bool, count: u64) -> bool
+    ensures { λ y. ⌜ y ≡ vain series count ⌝ }
+{
+    if series {
+        return false;
+    }
+    count == 0
+}
+
+// Whether nothing changes.
+pub fn idle(
+    x: Slot,
+    limit: u64,
+    comparator: RateLimitComparator,
+    count: u64,
+    mode: HistoryUpdateMode,
+) -> bool
+    ensures { λ y. ⌜ y ≡ idleAt x limit comparator count mode ⌝ }
+{
+    let series = x.series;
+    let pass = x.pass;
+    if !comparator.matches(pass.live_total) {
+        return true;
+    }
+    if vain(series, count) {
+        return true;
+    }
+    already(x, limit, count, mode)
+}
+
+// The total after: the live one where nothing changes.
+fn total_after(still: bool, live: u64, count: u64) -> u64
+    ensures { λ n. ⌜ n ≡ totalAfter still live count ⌝ }
+{
+    if still {
+        return live;
+    }
+    count
+}
+
+pub fn outcome(
+    x: Slot,
+    still: bool,
+    comparator: RateLimitComparator,
+    count: u64,
+) -> ConditionalSetOutcome
+    ensures { λ r. ⌜ r ≡ outcomeAt x still comparator count ⌝ }
+{
+    let pass = x.pass;
+    let live = pass.live_total;
+    ConditionalSetOutcome {
+        matched: comparator.matches(live),
+        previous_total: live,
+        current_total: total_after(still, live, count),
+    }
+}
+
+fn reset(x: Slot, limit: u64, count: u64, mode: HistoryUpdateMode) -> Edit
+    ensures { λ r. ⌜ r ≡ reset x limit count mode ⌝ }
+{
+    match mode {
+        HistoryUpdateMode::Replace => relimited(
+            plan::keeping(x, Then::Replace { count }),
+            limit,
+            layout::SERIES,
+        ),
+        HistoryUpdateMode::Preserve(preservation) => {
+            let then = Then::Preserve {
+                preservation,
+                count,
+            };
+            relimited(plan::evicting(x, then), limit, layout::SERIES)
+        }
+    }
+}
+
+// A series that begins with one bucket, and no cached factor.
+fn begins(limit: u64, count: u64, factor: u64, factor_time: u64) -> Edit
+    ensures { λ r. ⌜ r ≡ begins limit count factor «factor_time» ⌝ }
+{
+    let then = Then::Increment { count, declined: 0 };
+    plan::opening(limit, then, factor, factor_time, layout::SERIES)
+}
+
+fn stored(x: Slot, limit: u64, count: u64, mode: HistoryUpdateMode) -> Change
+    ensures { λ r. ⌜ r ≡ stored x limit count mode ⌝ }
+{
+    let series = x.series;
+    let cached = x.cached;
+    if series {
+        return Change::Update(reset(x, limit, count, mode));
+    }
+    if cached {
+        return Change::Update(begins(limit, count, x.factor, x.factor_time));
+    }
+    Change::Take(begins(limit, count, 0, 0))
+}
+
+pub fn setting(x: Slot, still: bool, limit: u64, count: u64, mode: HistoryUpdateMode) -> Change
+    ensures { λ r. ⌜ r ≡ setting x still limit count mode ⌝ }
+{
+    if still {
+        return Change::Keep;
+    }
+    if count == 0 {
+        return Change::Free;
+    }
+    stored(x, limit, count, mode)
+}
+
+pub fn set_refusal(rate: RateLimit, count: u64, none: bool) -> u64
+    ensures { λ n. ⌜ n ≡ first (setOwn rate count none) ⌝ }
+{
+    if !rate.is_in_range() {
+        return 8;
+    }
+    if count > layout::MOST_TOTAL {
+        return 10;
+    }
+    if none {
+        return 11;
+    }
+    0
+}
+
+// A slot is lacking only where something changes.
+pub fn lacks_unless(still: bool, lacks: bool) -> bool
+    ensures { λ y. ⌜ y ≡ (not still && lacks) ⌝ }
+{
+    if still {
+        return false;
+    }
+    lacks
+}

@@ -1,0 +1,13 @@
+pub mod Ops
+pub mod Moves
+pub mod Places
+pub mod Rights
+pub mod Step
+pub mod Each
+pub mod Leaves
+pub mod Sound
+pub mod History
+pub mod Keys
+pub mod Lowest
+pub mod Runs
+pub mod Table

@@ -1,0 +1,166 @@
+-- The calls of both limiters as one type, over the room's kind; what each is to answer and to leave, by the verdicts that the calls' contracts name;
+-- and histories of them, newest first.
+-- Assumes nothing.
+use mathlib.Core.List.{List, [], _∷_}
+use Prim.Native.Nat.{ℕ}
+use lib.ListN.{getD}
+use Rattle.answers.specs.Rows.{decisionRow, totalRow, snapshotRow, factorRow, oldRateRow, deleteRow, setRow, doneRow}
+use Rattle.answers.specs.declared.DeleteAnswer.{DeleteAnswer}
+use Rattle.answers.specs.declared.DoneAnswer.{DoneAnswer}
+use Rattle.answers.specs.declared.FactorAnswer.{FactorAnswer}
+use Rattle.answers.specs.declared.OldRateAnswer.{OldRateAnswer}
+use Rattle.answers.specs.declared.RateLimitDecision.{RateLimitDecision}
+use Rattle.answers.specs.declared.SetAnswer.{SetAnswer}
+use Rattle.answers.specs.declared.SnapshotAnswer.{SnapshotAnswer}
+use Rattle.answers.specs.declared.TotalAnswer.{TotalAnswer}
+use Rattle.common.specs.declared.comparator.RateLimitComparator.{RateLimitComparator}
+use Rattle.answers.specs.declared.HistoryUpdateMode.{HistoryUpdateMode}
+use Rattle.settings.specs.declared.Settings.{Settings}
+use Rattle.common.specs.declared.units.RateLimit.{RateLimit}
+use Rattle.frame.specs.Keys.{Bytes}
+use Rattle.rules.specs.declared.RoomKind.{RoomKind}
+use Rattle.rules.specs.declared.RoomKind.the-variants.{Absolute, Suppressed}
+use Rattle.judge.specs.Verdict.{Verdict, verdict}
+use Rattle.calls.specs.Clear as Clear
+use Rattle.calls.specs.Delete as Delete
+use Rattle.calls.specs.Rate as Rate
+use Rattle.calls.specs.Set as Set
+use Rattle.cleanup.specs.Cleanup as Cleanup
+use Rattle.absolute.specs.Calls as OnAbsolute
+use Rattle.suppressed.specs.Calls as OnSuppressed
+use Rattle.provider.specs.Provider as Provider
+
+pub data Op : RoomKind → Type 0 where
+  -- key, rate, count
+  inc : List ℕ → RateLimit → ℕ → Op Absolute
+  isAllowed : List ℕ → Op Absolute
+  get : List ℕ → Op Absolute
+  -- key, rate, count, draw
+  draws : List ℕ → RateLimit → ℕ → ℕ → Op Suppressed
+  snapshot : List ℕ → Op Suppressed
+  getFactor : List ℕ → Op Suppressed
+  -- of either kind
+  setRate : {kind : RoomKind} → List ℕ → RateLimit → Op kind
+  set : {kind : RoomKind} → List ℕ → RateLimit → RateLimitComparator → ℕ → HistoryUpdateMode → Op kind
+  delete : {kind : RoomKind} → List ℕ → Op kind
+  -- the stale time; and the provider's cleanup, which the words of the other room come with
+  cleanup : {kind : RoomKind} → ℕ → Op kind
+  cleanupBoth : {kind : RoomKind} → List ℕ → ℕ → Op kind
+  clear : {kind : RoomKind} → Op kind
+
+-- ---- the answer, and its row of five numbers: the first is the refusal's number, or 0
+
+abbrev pub Answer : {kind : RoomKind} → Op kind → Type 0
+Answer (inc key rate count) = RateLimitDecision
+Answer (isAllowed key) = RateLimitDecision
+Answer (get key) = TotalAnswer
+Answer (draws key rate count draw) = RateLimitDecision
+Answer (snapshot key) = SnapshotAnswer
+Answer (getFactor key) = FactorAnswer
+Answer (setRate key rate) = OldRateAnswer
+Answer (set key rate comparator count mode) = SetAnswer
+Answer (delete key) = DeleteAnswer
+Answer (cleanup stale) = DoneAnswer
+Answer (cleanupBoth other stale) = DoneAnswer
+Answer clear = DoneAnswer
+
+abbrev pub rowOf : {kind : RoomKind} → (op : Op kind) → Answer op → List ℕ
+rowOf (inc key rate count) = decisionRow
+rowOf (isAllowed key) = decisionRow
+rowOf (get key) = totalRow
+rowOf (draws key rate count draw) = decisionRow
+rowOf (snapshot key) = snapshotRow
+rowOf (getFactor key) = factorRow
+rowOf (setRate key rate) = oldRateRow
+rowOf (set key rate comparator count mode) = setRow
+rowOf (delete key) = deleteRow
+rowOf (cleanup stale) = doneRow
+rowOf (cleanupBoth other stale) = doneRow
+rowOf clear = doneRow
+
+-- ---- the verdict that the call's contract names
+
+-- the provider's cleanup, as a room of this kind sees it
+abbrev pub cleanedBoth : RoomKind → Settings → List ℕ → List ℕ → ℕ → ℕ → Verdict DoneAnswer
+cleanedBoth Absolute s w other t stale = let v = Provider.cleanup s w other t stale in verdict (v .answer) (v .absolute)
+cleanedBoth Suppressed s w other t stale = let v = Provider.cleanup s other w t stale in verdict (v .answer) (v .suppressed)
+
+abbrev pub verdictOf : (kind : RoomKind) → Settings → List ℕ → ℕ → (op : Op kind) → Verdict (Answer op)
+verdictOf kind s w t (inc key rate count) = OnAbsolute.inc s w t key rate count
+verdictOf kind s w t (isAllowed key) = OnAbsolute.isAllowed s w t key
+verdictOf kind s w t (get key) = OnAbsolute.get s w t key
+verdictOf kind s w t (draws key rate count draw) = OnSuppressed.inc s w t key rate count draw
+verdictOf kind s w t (snapshot key) = OnSuppressed.get s w t key
+verdictOf kind s w t (getFactor key) = OnSuppressed.getFactor s w t key
+verdictOf kind s w t (setRate key rate) = Rate.setRateLimit kind s w t key rate
+verdictOf kind s w t (set key rate comparator count mode) = Set.set kind s w t key rate comparator count mode
+verdictOf kind s w t (delete key) = Delete.delete kind s w t key
+verdictOf kind s w t (cleanup stale) = Cleanup.cleanup kind s w t stale
+verdictOf kind s w t (cleanupBoth other stale) = cleanedBoth kind s w other t stale
+verdictOf kind s w t clear = Clear.clear s w t
+
+abbrev pub after : (kind : RoomKind) → Settings → List ℕ → ℕ → Op kind → List ℕ
+after kind s w t op = verdictOf kind s w t op .words
+
+abbrev pub answerRow : (kind : RoomKind) → Settings → List ℕ → ℕ → Op kind → List ℕ
+answerRow kind s w t op = rowOf op (verdictOf kind s w t op .answer)
+
+abbrev pub answerNumber : (kind : RoomKind) → Settings → List ℕ → ℕ → Op kind → ℕ
+answerNumber kind s w t op = getD (answerRow kind s w t op) 0 0
+
+-- ---- a key that may enter the room is one of bytes, of any number
+
+abbrev pub Keyed : {kind : RoomKind} → Op kind → Type 0
+Keyed (inc key rate count) = Bytes key
+Keyed (isAllowed key) = Unit {0}
+Keyed (get key) = Unit {0}
+Keyed (draws key rate count draw) = Bytes key
+Keyed (snapshot key) = Unit {0}
+Keyed (getFactor key) = Bytes key
+Keyed (setRate key rate) = Unit {0}
+Keyed (set key rate comparator count mode) = Bytes key
+Keyed (delete key) = Unit {0}
+Keyed (cleanup stale) = Unit {0}
+Keyed (cleanupBoth other stale) = Unit {0}
+Keyed clear = Unit {0}
+
+-- ---- what a call may touch: the slot of the key that it names, what is stale, or the whole room
+
+pub data Touch : Type 0 where
+  slotOf : List ℕ → Touch
+  staleBy : ℕ → Touch
+  whole : Touch
+
+abbrev pub touches : {kind : RoomKind} → Op kind → Touch
+touches (inc key rate count) = slotOf key
+touches (isAllowed key) = slotOf key
+touches (get key) = slotOf key
+touches (draws key rate count draw) = slotOf key
+touches (snapshot key) = slotOf key
+touches (getFactor key) = slotOf key
+touches (setRate key rate) = slotOf key
+touches (set key rate comparator count mode) = slotOf key
+touches (delete key) = slotOf key
+touches (cleanup stale) = staleBy stale
+touches (cleanupBoth other stale) = staleBy stale
+touches clear = whole
+
+-- ---- histories
+
+pub record Call (kind : RoomKind) : Type 0 where
+  pub reading : ℕ
+  pub op : Op kind
+
+-- the words after a history, from the words w
+abbrev pub words : (kind : RoomKind) → Settings → List ℕ → List (Call kind) → List ℕ
+words kind s w [] = w
+words kind s w (c ∷ cs) = after kind s (words kind s w cs) (c .reading) (c .op)
+
+-- the rows that it was answered
+abbrev pub rows : (kind : RoomKind) → Settings → List ℕ → List (Call kind) → List (List ℕ)
+rows kind s w [] = []
+rows kind s w (c ∷ cs) = answerRow kind s (words kind s w cs) (c .reading) (c .op) ∷ rows kind s w cs
+
+abbrev pub AllKeyed : {kind : RoomKind} → List (Call kind) → Type 0
+AllKeyed [] = Unit {0}
+AllKeyed (c ∷ cs) = Keyed (c .op) × AllKeyed cs

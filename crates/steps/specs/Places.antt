@@ -1,0 +1,303 @@
+-- Each call with a key changes a room where it should, and starts from the buckets that it should (`Moves`). x is the key's slot.
+-- Assumes nothing.
+use mathlib.Core.Path.{_≡_, refl, sym, ap, ap₂, subst, _∙_}
+use mathlib.Core.Bool.{Bool, true, false, _&&_, _||_, cond, true≢false}
+use mathlib.Core.List.{List}
+use Prim.Native.Nat.{ℕ, _≤_, _<_}
+use native.Mathlib.Decide.{decLt}
+use native.Mathlib.Omega.{arith}
+use lib.Dec.{eqb}
+use lib.ListN.{length}
+use borrow.Author.Tests.{le-ltb, eqb-true}
+use Rattle.base.specs.Decides.{and-true}
+use Rattle.settings.specs.Settings.{bucketIn}
+use Rattle.common.specs.declared.comparator.RateLimitComparator.{RateLimitComparator}
+use Rattle.answers.specs.declared.HistoryUpdateMode.{HistoryUpdateMode}
+use Rattle.answers.specs.declared.HistoryUpdateMode.the-variants as mode
+use Rattle.settings.specs.declared.Settings.{Settings}
+use Rattle.room.specs.Room.{slotsOf, useOf, keyOf, find, vacant}
+use Rattle.frame.specs.Distinct.{Distinct, find-use, find-key, find-where, vacant-free}
+use Rattle.frame.specs.Keys.{Bytes, key-fits}
+use Rattle.change.specs.declared.Change.{Change}
+use Rattle.change.specs.declared.Change.the-variants.{Keep, Free, Update, Take}
+use Rattle.change.specs.declared.Edit.{Edit}
+use Rattle.change.specs.declared.Then.the-variants as then
+use Rattle.change.specs.Words.{Applies}
+use Rattle.rules.specs.declared.RoomKind.{RoomKind}
+use Rattle.rules.specs.declared.RoomKind.the-variants as kind
+use Rattle.judge.specs.declared.Slot.{Slot}
+use Rattle.judge.specs.Judge.{Passed, hasSlot, slotIn}
+use Rattle.judge.specs.Right.{addressed-at}
+use Rattle.judge.specs.Sound.{hasSeries, rightUse, addressed}
+use Rattle.plan.specs.Known.{Found, found, series-is, cached-is, use-right}
+use Rattle.plan.specs.Plan.{keeping, evicting, opening}
+use Rattle.calls.specs.Calls.{found-at, slot-within, true-or}
+use Rattle.shared_opened.specs.Opened.{deleting}
+use Rattle.shared_opened.specs.Opened.{usedWith, relimited, limiting}
+use Rattle.shared_opened.specs.Opened.{idleAt, reset, begins, stored, setting}
+use Rattle.plan.specs.Plan.{placeOf}
+use Rattle.calls.specs.Applies.{busy-known, known-has, cached-has}
+use Rattle.absolute_opened.specs.Opened as absolute
+use Rattle.rules.specs.declared.Caching.{Caching}
+use Rattle.rules.specs.declared.Caching.the-variants.{Left, Cached}
+use Rattle.suppressed_edits.specs.Edits.{recached, getChange, loneBy, loneChange, factorChange, incEdit, incChange}
+use Rattle.plan.specs.Plan.{placeOf}
+use Rattle.places.specs.Has.{Has, free-has}
+use Rattle.places.specs.Placed.{Owns, Lacks}
+use Rattle.steps.specs.Moves.{Plain, From, opens, keeps, evicts, Updates, Takes, Moves}
+
+-- ---- what calls choose from
+
+-- a set that changes something: with count 0; of a known series; of a lone cached factor
+abbrev pub setTo : Slot → ℕ → ℕ → HistoryUpdateMode → Bool → Bool → Bool → Change
+setTo x limit count m none known lone =
+    cond none Free
+    (cond known (Update (reset x limit count m)) (cond lone (Update (begins limit count (x .factor) (x .«factor_time»))) (Take (begins limit count 0 0))))
+
+-- an absolute increment: of a known series, which is allowed
+abbrev pub incTo : Slot → ℕ → ℕ → Bool → Bool → Bool → Change
+incTo x limit c out known allowed =
+    absolute.pickChange known (absolute.pickChange allowed (Update (absolute.leaving out x (then.Increment c 0))) (Update (evicting x then.Nothing)))
+    (Take (opening limit (then.Increment c 0) 0 0 1))
+
+-- where neither is there
+neither : (x : Slot) → x .series ≡ false → x .cached ≡ false → hasSlot x ≡ false
+neither x e f = ap₂ (λ (a b : Bool). a || b) e f
+
+-- a use that is right has a series or a cached factor; in an absolute room a series
+right-has : (k : RoomKind) (u : ℕ) → rightUse k u ≡ true → hasSeries u || (eqb u 2 || eqb u 3) ≡ true
+unfolding rightUse
+right-has kind.Absolute u e = let p : u ≡ 1 = eqb-true u 1 e in subst (λ (n : ℕ). hasSeries n || (eqb n 2 || eqb n 3) ≡ true) (sym p) refl
+right-has kind.Suppressed u e = e
+
+right-series : (u : ℕ) → rightUse kind.Absolute u ≡ true → hasSeries u ≡ true
+unfolding rightUse
+right-series u e = let p : u ≡ 1 = eqb-true u 1 e in subst (λ (n : ℕ). hasSeries n ≡ true) (sym p) refl
+
+-- the edits' buckets
+inc-from : (x : Slot) (k : Caching) (limit c d : ℕ) → From x (recached x k (incEdit x limit c d))
+unfolding recached incEdit
+inc-from x k limit c d = go (x .series) refl
+  where
+    go : (z : Bool) → x .series ≡ z →
+        From x (recached x k (cond z (evicting x (then.Increment c d)) (opening limit (then.Increment c d) (x .factor) (x .«factor_time») (x .used))))
+    go true e = evicts e refl refl
+    go false e = opens refl tt
+
+inc-begins : (x : Slot) (k : Caching) (limit c d : ℕ) → x .series ≡ false → recached x k (incEdit x limit c d) .begins ≡ true
+unfolding recached incEdit
+inc-begins x k limit c d e =
+    ap (λ (z : Bool). cond z (evicting x (then.Increment c d)) (opening limit (then.Increment c d) (x .factor) (x .«factor_time») (x .used)) .begins) e
+
+inc-plain : (x : Slot) (k : Caching) (limit c d : ℕ) → Plain (recached x k (incEdit x limit c d) .then)
+unfolding recached incEdit
+inc-plain x k limit c d = go (x .series)
+  where
+    go : (z : Bool) → Plain (cond z (evicting x (then.Increment c d)) (opening limit (then.Increment c d) (x .factor) (x .«factor_time») (x .used)) .then)
+    go true = tt
+    go false = tt
+
+recached-from : (x : Slot) (k : Caching) → x .series ≡ true → From x (recached x k (evicting x then.Nothing))
+unfolding recached
+recached-from x k e = evicts e refl refl
+
+reset-from : (x : Slot) (limit count : ℕ) (m : HistoryUpdateMode) → x .series ≡ true → From x (reset x limit count m)
+reset-from x limit count mode.Replace e = keeps e refl refl tt
+reset-from x limit count (mode.Preserve p) e = evicts e refl refl
+
+leaving-from : (x : Slot) (out : Bool) (c : ℕ) → x .series ≡ true → From x (absolute.leaving out x (then.Increment c 0))
+leaving-from x true c e = evicts e refl refl
+leaving-from x false c e = keeps e refl refl tt
+
+or-false : (a b : Bool) → a || b ≡ false → a ≡ false
+or-false true b e = e
+or-false false b e = refl
+
+module _ (k : RoomKind) (s : Settings) (w : List ℕ) (t : ℕ) (key : List ℕ) (p : Passed k s w t key) where
+  abbrev x : Slot
+  x = slotIn s w t key
+
+  -- ---- where the key's slot is
+
+  at-find : x .at ≡ find w (keyOf key)
+  unfolding addressed
+  at-find = addressed-at w key s x (record { room = p .room; reading = t; is = refl }) ∙ rw (le-ltb 32 (length key) (p .short))
+
+  -- a slot in use that has the key is the one that is opened
+  found-find : find w (keyOf key) < slotsOf w → Found k s w t (find w (keyOf key)) x
+  unfolding addressed
+  found-find l =
+      let e : addressed w key ≡ find w (keyOf key) = rw (le-ltb 32 (length key) (p .short)) in
+      subst (λ (i : ℕ). Found k s w t i x) e (found k s w t key p (omega arith))
+
+  pub owns : hasSlot x ≡ true → Owns w (x .at) (keyOf key)
+  owns e =
+      let l : find w (keyOf key) < slotsOf w = omega (arith, slot-within k s w t key p e, at-find) in
+      subst (λ (i : ℕ). Owns w i (keyOf key)) (sym at-find) (record { used = find-use w (keyOf key) l; key = find-key w (keyOf key) l })
+
+  opened-slot : find w (keyOf key) < slotsOf w → hasSlot x ≡ true
+  opened-slot l =
+      let f = found-find l in
+      let i = find w (keyOf key) in
+      ap₂ (λ (a b : Bool). a || b) (series-is k s w t i x f) (cached-is k s w t i x f) ∙ right-has k (useOf w i) (use-right k s w t i x f)
+
+  lacks : hasSlot x ≡ false → slotsOf w ≤ find w (keyOf key)
+  lacks e = go (decLt (find w (keyOf key)) (slotsOf w))
+    where
+      go : Dec (find w (keyOf key) < slotsOf w) → slotsOf w ≤ find w (keyOf key)
+      go (yes l) = absurd (true≢false (sym (opened-slot l) ∙ e))
+      go (no n) = omega arith
+
+  -- ---- its series
+
+  pub series-has : x .series ≡ true → Has w (keyOf key) (x .at)
+  series-has e =
+      let h = true-or (x .series) (x .cached) e in
+      let f = found-at k s w t key p h in
+      record { inside = f .inside; key = owns h .key; series = sym (series-is k s w t (x .at) x f) ∙ e }
+
+  pub has-series : Distinct w → (i : ℕ) → Has w (keyOf key) i → x .series ≡ true
+  has-series d i h =
+      let e : find w (keyOf key) ≡ i = find-where w (keyOf key) i d (h .inside) (λ z. free-has z h) (h .key) in
+      series-is k s w t (find w (keyOf key)) x (found-find (omega (arith, h .inside))) ∙ ap (λ (j : ℕ). hasSeries (useOf w j)) e ∙ h .series
+
+  -- ---- the slot that it has, or the lowest free one
+
+  abbrev place : ℕ
+  place = cond (hasSlot (slotIn s w t key)) (slotIn s w t key .at) (vacant w)
+
+  here : hasSlot x ≡ true → x .at ≡ place
+  here e = sym (ap (λ (z : Bool). cond z (slotIn s w t key .at) (vacant w)) e)
+
+  updates-at : hasSlot x ≡ true → (e : Edit) → From x e → Updates x w (keyOf key) (x .at) e
+  updates-at h e f = record { owns = owns h; place = refl; from = f }
+
+  updates : hasSlot x ≡ true → (e : Edit) → From x e → Updates x w (keyOf key) place e
+  updates h e f = record { owns = subst (λ (i : ℕ). Owns w i (keyOf key)) (here h) (owns h); place = here h; from = f }
+
+  free-at : (at : ℕ) → at ≡ vacant w → hasSlot x ≡ false → at < slotsOf w → Lacks w at (keyOf key)
+  free-at at q e l = subst (λ (i : ℕ). Lacks w i (keyOf key)) (sym q) (record { free = vacant-free w (omega arith); none = lacks e })
+
+  takes : Bytes key → hasSlot x ≡ false → place < slotsOf w → (e : Edit) → e .begins ≡ true → Plain (e .then) → Takes w (keyOf key) place e
+  takes by h l e b n =
+      let q : place ≡ vacant w = ap (λ (z : Bool). cond z (slotIn s w t key .at) (vacant w)) h in
+      record { lacks = free-at place q h l; begins = b; plain = n; fits = key-fits key by (p .short) }
+
+  -- ---- the calls of both kinds
+
+  pub delete-moves : Moves x w (keyOf key) (x .at) (deleting x)
+  unfolding deleting
+  delete-moves = go (hasSlot x) refl
+    where
+      go : (z : Bool) → hasSlot x ≡ z → Moves x w (keyOf key) (x .at) (cond z Free Keep)
+      go true e = owns e
+      go false e = tt
+
+  pub rate-moves : (limit : ℕ) → Moves x w (keyOf key) (x .at) (limiting x limit)
+  unfolding limiting
+  rate-moves limit = go (x .series) refl
+    where
+      go : (z : Bool) → x .series ≡ z → Moves x w (keyOf key) (x .at) (cond z (Update (relimited (keeping x then.Nothing) limit (usedWith x limit))) Keep)
+      go true e = updates-at (known-has x e) _ (keeps e refl refl tt)
+      go false e = tt
+
+  pub set-moves : Bytes key → (still : Bool) (limit count : ℕ) (comparator : RateLimitComparator) (mode : HistoryUpdateMode) →
+      still ≡ idleAt x limit comparator count mode →
+      Applies w (placeOf w x) (bucketIn s) t (setting x still limit count mode) → Moves x w (keyOf key) (placeOf w x) (setting x still limit count mode)
+  unfolding setting stored placeOf
+  set-moves by true limit count comparator mode i a = tt
+  set-moves by false limit count comparator mode i a = go (eqb count 0) refl (x .series) refl (x .cached) refl a
+    where
+      go : (z : Bool) → eqb count 0 ≡ z → (r : Bool) → x .series ≡ r → (c : Bool) → x .cached ≡ c →
+          Applies w place (bucketIn s) t (setTo x limit count mode z r c) →
+          Moves x w (keyOf key) place (setTo x limit count mode z r c)
+      go true z r e c f o = let h = known-has x (busy-known x limit count comparator mode z i) in subst (λ (i : ℕ). Owns w i (keyOf key)) (here h) (owns h)
+      go false z true e c f o = updates (known-has x e) _ (reset-from x limit count mode e)
+      go false z false e true f o = updates (cached-has x e f) _ (opens refl tt)
+      go false z false e false f o = takes by (neither x e f) (o .inside) _ refl tt
+
+-- ---- absolute
+
+module _ (s : Settings) (w : List ℕ) (t : ℕ) (key : List ℕ) (p : Passed kind.Absolute s w t key) where
+  abbrev slot : Slot
+  slot = slotIn s w t key
+
+  -- without a series there is no slot
+  none : slot .series ≡ false → hasSlot slot ≡ false
+  none e = go (hasSlot slot) refl
+    where
+      go : (z : Bool) → hasSlot slot ≡ z → hasSlot slot ≡ false
+      go false h = h
+      go true h =
+          let l : find w (keyOf key) < slotsOf w = omega (arith, slot-within kind.Absolute s w t key p h, at-find kind.Absolute s w t key p) in
+          let f = found-find kind.Absolute s w t key p l in
+          let i = find w (keyOf key) in
+          absurd (true≢false (sym (series-is kind.Absolute s w t i slot f ∙ right-series (useOf w i) (use-right kind.Absolute s w t i slot f)) ∙ e))
+
+  picked : (z : Bool) → (z ≡ true → slot .series ≡ true) →
+      Moves slot w (keyOf key) (slot .at) (absolute.pickChange z (Update (evicting slot then.Nothing)) Keep)
+  picked true f = updates-at kind.Absolute s w t key p (known-has slot (f refl)) _ (evicts (f refl) refl refl)
+  picked false f = tt
+
+  pub get-moves : Moves slot w (keyOf key) (slot .at) (absolute.getChange slot)
+  unfolding absolute.getChange
+  get-moves = picked (slot .series) (λ e. e)
+
+  pub ask-moves : (again : Bool) → Moves slot w (keyOf key) (slot .at) (absolute.askChange again slot)
+  ask-moves true = get-moves
+  ask-moves false = tt
+
+  pub inc-moves : Bytes key → (limit c : ℕ) (may out : Bool) → Applies w (placeOf w slot) (bucketIn s) t (absolute.incChange limit c may out slot) →
+      Moves slot w (keyOf key) (placeOf w slot) (absolute.incChange limit c may out slot)
+  unfolding absolute.incChange placeOf
+  inc-moves by limit c may out a = go (slot .series) refl may a
+    where
+      go : (z : Bool) → slot .series ≡ z → (y : Bool) →
+          Applies w (place kind.Absolute s w t key p) (bucketIn s) t (incTo slot limit c out z y) →
+          Moves slot w (keyOf key) (place kind.Absolute s w t key p) (incTo slot limit c out z y)
+      go true e true o = updates kind.Absolute s w t key p (known-has slot e) _ (leaving-from slot out c e)
+      go true e false o = updates kind.Absolute s w t key p (known-has slot e) _ (evicts e refl refl)
+      go false e y o = takes kind.Absolute s w t key p by (none e) (o .inside) _ refl tt
+
+-- ---- suppressed
+
+module _ (s : Settings) (w : List ℕ) (t : ℕ) (key : List ℕ) (p : Passed kind.Suppressed s w t key) where
+  abbrev y : Slot
+  y = slotIn s w t key
+
+  abbrev site : ℕ
+  site = cond (hasSlot (slotIn s w t key)) (slotIn s w t key .at) (vacant w)
+
+  pub snapshot-moves : (k : Caching) → Moves y w (keyOf key) (y .at) (getChange y k)
+  unfolding getChange
+  snapshot-moves k = go (y .series) refl
+    where
+      go : (z : Bool) → y .series ≡ z → Moves y w (keyOf key) (y .at) (cond z (Update (recached y k (evicting y then.Nothing))) Keep)
+      go true e = updates-at kind.Suppressed s w t key p (known-has y e) _ (recached-from y k e)
+      go false e = tt
+
+  lone-by : Bytes key → (z : Bool) → y .series ≡ false → y .cached ≡ z → site < slotsOf w → Moves y w (keyOf key) site (loneBy z t)
+  lone-by by true e f l = updates kind.Suppressed s w t key p (cached-has y e f) _ (opens refl tt)
+  lone-by by false e f l = takes kind.Suppressed s w t key p by (neither y e f) l _ refl tt
+
+  lone-moves : Bytes key → (k : Caching) → y .series ≡ false → site < slotsOf w → Moves y w (keyOf key) site (loneChange (y .cached) k t)
+  lone-moves by Left e l = tt
+  lone-moves by (Cached k) e l = lone-by by (y .cached) e refl l
+
+  pub factor-moves : Bytes key → (k : Caching) → placeOf w y < slotsOf w → Moves y w (keyOf key) (placeOf w y) (factorChange y k t)
+  unfolding factorChange getChange placeOf
+  factor-moves by k l = go (y .series) refl
+    where
+      go : (z : Bool) → y .series ≡ z →
+          Moves y w (keyOf key) site (cond z (cond z (Update (recached y k (evicting y then.Nothing))) Keep) (loneChange (y .cached) k t))
+      go true e = updates kind.Suppressed s w t key p (known-has y e) _ (recached-from y k e)
+      go false e = lone-moves by k e l
+
+  pub draws-moves : Bytes key → (limit c d : ℕ) (k : Caching) → placeOf w y < slotsOf w → Moves y w (keyOf key) (placeOf w y) (incChange y limit c d k)
+  unfolding incChange placeOf
+  draws-moves by limit c d k l = go (hasSlot y) refl
+    where
+      go : (z : Bool) → hasSlot y ≡ z →
+          Moves y w (keyOf key) site (cond z (Update (recached y k (incEdit y limit c d))) (Take (recached y k (incEdit y limit c d))))
+      go true e = updates kind.Suppressed s w t key p e _ (inc-from y k limit c d)
+      go false e = takes kind.Suppressed s w t key p by e l _ (inc-begins y k limit c d (or-false (y .series) (y .cached) e)) (inc-plain y k limit c d)

@@ -1,0 +1,138 @@
+-- (b) A sound room stays sound, whatever the step.
+-- Assumes nothing.
+use mathlib.Core.Path.{_≡_, refl, sym, ap, subst, _∙_}
+use mathlib.Core.Bool.{Bool, true, false, cond}
+use mathlib.Core.List.{List, []}
+use mathlib.Core.Logic.{_≢_}
+use Prim.Native.Nat.{ℕ, _≤_, _<_}
+use native.Mathlib.Decide.{ℕ-discrete}
+use native.Mathlib.Omega.{arith}
+use lib.ListN.{drop}
+use borrow.Author.Tests.{eq-eqb, eqb-true}
+use Rattle.settings.specs.Settings.{bucketIn}
+use Rattle.settings.specs.declared.Settings.{Settings}
+use Rattle.history.specs.Changes.{joined-declineds}
+use Rattle.history.specs.Preserves.{preserved-comes}
+use Rattle.rules.specs.Buckets.{joined}
+use Rattle.ring.specs.declared.Bucket.{Bucket}
+use Rattle.ring.specs.Ring.{bucket, deniedOf, declineds, buckets}
+use Rattle.ring.specs.Sums.{sum-one, sum-none, sum-split}
+use Rattle.room.specs.declared.Key.{Key}
+use Rattle.room.specs.Room.{slotsOf, ringOf, useOf, keyAt, keyFits, keyOf, bodyOf}
+use Rattle.frame.specs.Frame.{Changed}
+use Rattle.frame.specs.Whole.{clear-read-run}
+use Rattle.change.specs.declared.Change.{Change}
+use Rattle.change.specs.declared.Change.the-variants.{Keep, Free, Update, Take}
+use Rattle.change.specs.declared.Edit.{Edit}
+use Rattle.change.specs.declared.Then.{Then}
+use Rattle.change.specs.declared.Then.the-variants as then
+use Rattle.change.specs.Words.{applied, edited, startedView, actedView, editedView, EditsAt}
+use Rattle.rules.specs.declared.RoomKind.{RoomKind}
+use Rattle.rules.specs.declared.RoomKind.the-variants.{Absolute, Suppressed}
+use Rattle.judge.specs.declared.Slot.{Slot}
+use Rattle.judge.specs.Judge.{Passed, slotIn}
+use Rattle.judge.specs.Sound.{declinedRight, soundSlot}
+use Rattle.calls.specs.Calls.{known-at}
+use Rattle.cleanup.specs.Laws.{sound-parts}
+use Rattle.leaves.specs.Calls.{none-right, stands-so, free-changed, update-changed, take-changed}
+use Rattle.leaves.specs.Cleanup.{clean-run, clean-sound}
+use Rattle.places.specs.SoundRoom.{SoundRoom, slot-later}
+use Rattle.steps.specs.Moves.{From, opens, keeps, evicts, Quiet, Right, Does}
+use Rattle.steps.specs.Ops.{Op}
+use Rattle.steps.specs.Step.{Step, refused, changed, cleaned, cleared}
+use Rattle.steps.specs.Leaves.{keep-untouched, others, around}
+
+-- ---- what is declined
+
+fewer : (kind : RoomKind) (d n : ℕ) → n ≤ d → declinedRight kind d ≡ true → declinedRight kind n ≡ true
+fewer Absolute d n h e = eq-eqb n 0 (omega (arith, eqb-true d 0 e))
+fewer Suppressed d n h e = refl
+
+quiet-acts : (kind : RoomKind) (b t : ℕ) (then : Then) (zs : List Bucket) → Quiet kind then → declinedRight kind (declineds zs) ≡ true →
+    declinedRight kind (declineds (actedView b t then zs)) ≡ true
+unfolding actedView
+quiet-acts Suppressed b t then zs q e = refl
+quiet-acts Absolute b t then.Nothing zs q e = e
+quiet-acts Absolute b t (then.Increment c d) zs q e =
+    fewer Absolute (declineds zs) (declineds (joined b t c d zs)) (omega (arith, joined-declineds b t c d zs, q)) e
+quiet-acts Absolute b t (then.Replace n) zs q e = none-right Absolute _ (sum-one deniedOf (bucket n 0 t))
+quiet-acts Absolute b t (then.Preserve p n) zs q e = fewer Absolute (declineds zs) _ (preserved-comes p t n zs .fewer) e
+
+module _ (kind : RoomKind) (s : Settings) (w : List ℕ) (t : ℕ) (key : List ℕ) (at : ℕ) where
+  abbrev x : Slot
+  x = slotIn s w t key
+
+  abbrev b : ℕ
+  b = bucketIn s
+
+  abbrev view : List Bucket
+  view = buckets (ringOf w) (bodyOf w at)
+
+  abbrev after : Change → List ℕ
+  after change = applied w at key (bucketIn s) t change
+
+  none-declined : (e : Edit) → e .begins ≡ true → declinedRight kind (declineds (startedView e view)) ≡ true
+  unfolding startedView
+  none-declined e z = none-right kind _ (ap (λ (y : Bool). declineds (cond y [] (drop (e .gone) view))) z ∙ sum-none deniedOf)
+
+  some-declined : Passed kind s w t key → (e : Edit) → x .series ≡ true → x .at ≡ at → e .begins ≡ false →
+      declinedRight kind (declineds (startedView e view)) ≡ true
+  unfolding startedView
+  some-declined p e h q z =
+      let k = known-at kind s w t key p h in
+      let f : x .declined ≡ declineds view =
+      subst (λ (i : ℕ). x .declined ≡ declineds (buckets (ringOf w) (bodyOf w i))) q (k .declined-is ∙ k .now .declined) in
+      fewer kind (x .declined) (declineds (cond (e .begins) [] (drop (e .gone) view)))
+      (omega (arith, f, sum-split deniedOf (e .gone) view, ap (λ (y : Bool). declineds (cond y [] (drop (e .gone) view))) z)) (k .right)
+
+  from-declined : Passed kind s w t key → (e : Edit) → x .at ≡ at → From x e → declinedRight kind (declineds (startedView e view)) ≡ true
+  from-declined p e q (opens z n) = none-declined e z
+  from-declined p e q (keeps h z g n) = some-declined p e h q z
+  from-declined p e q (evicts h z g) = some-declined p e h q z
+
+  edit-sound : (v : List ℕ) (k : Key) (e : Edit) → EditsAt w at b t e → Changed w v at (e .used) k (edited (ringOf w) b t (bodyOf w at) e) t →
+      Right kind s t e → keyFits k ≡ true →
+      declinedRight kind (declineds (startedView e view)) ≡ true → soundSlot kind s v at ≡ true
+  unfolding editedView
+  edit-sound v k e o c r f d =
+      stands-so kind s w v at b t k e o c _ refl f (r .uses) (quiet-acts kind b t (e .then) (startedView e view) (r .quiet) d) (r .limit) (r .factor) .sound
+
+  -- the addressed slot
+  module _ (o : SoundRoom kind s w) where
+    here : (change : Change) → Does kind s w t key at change → at < slotsOf w → useOf (after change) at ≢ 0 → soundSlot kind s (after change) at ≡ true
+    here Keep d h n =
+        let a = around kind s w t key at Keep d in
+        let u = keep-untouched kind s w t key at (d .applies) at h in
+        slot-later kind s w (after Keep) (a .ring) (omega (arith, a .last, d .passed .later)) at u (o .slots at h (λ z. n (u .used ∙ z)))
+    here Free d h n = absurd (n (free-changed w at key b t (d .applies .room) (d .applies .inside) .used))
+    here (Update e) d h n =
+        edit-sound (after (Update e)) (keyAt w at) e (d .applies) (update-changed w at key b t e (d .applies)) (d .stores)
+        (sound-parts kind s w at (o .slots at h (d .moves .owns .used)) .key)
+        (from-declined (d .passed) e (d .moves .place) (d .moves .from))
+    here (Take e) d h n =
+        edit-sound (after (Take e)) (keyOf key) e (d .applies) (take-changed w at key b t e (d .applies)) (d .stores) (d .moves .fits)
+        (none-declined e (d .moves .begins))
+
+    pub change-sound : (change : Change) → Does kind s w t key at change → SoundRoom kind s (after change)
+    change-sound change d = record { room = around kind s w t key at change d .room; slots = λ i h n. go i h n (ℕ-discrete i at) }
+      where
+        go : (i : ℕ) → i < slotsOf (after change) → useOf (after change) i ≢ 0 → Dec (i ≡ at) → soundSlot kind s (after change) i ≡ true
+        go i h n (yes q) =
+            subst (λ (j : ℕ). soundSlot kind s (after change) j ≡ true) (sym q)
+            (here change d (omega (arith, around kind s w t key at change d .slots)) (subst (λ (j : ℕ). useOf (after change) j ≢ 0) q n))
+        go i h n (no q) =
+            let a = around kind s w t key at change d in
+            let l : i < slotsOf w = omega (arith, h, a .slots) in
+            let u = others kind s w t key at change d i l q in
+            slot-later kind s w (after change) (a .ring) (omega (arith, a .last, d .passed .later)) i u (o .slots i l (λ z. n (u .used ∙ z)))
+
+pub step-sound : (kind : RoomKind) (s : Settings) (w : List ℕ) (t : ℕ) (op : Op kind) (v : List ℕ) → SoundRoom kind s w → Step kind s w t op v →
+    SoundRoom kind s v
+step-sound kind s w t op v o (refused e) = subst (SoundRoom kind s) (sym e) o
+step-sound kind s w t op v o (changed key who at change d e) = subst (SoundRoom kind s) (sym e) (change-sound kind s w t key at o change d)
+step-sound kind s w t op v o (cleaned stale z p e) =
+    let c = clean-run w t stale (p .room) in
+    subst (SoundRoom kind s) (sym e) (record { room = c .room; slots = λ i h n. clean-sound kind s w _ t stale c p i (omega (arith, h, c .slots)) n })
+step-sound kind s w t op v o (cleared z r l e) =
+    let c = clear-read-run w r t in
+    subst (SoundRoom kind s) (sym e) (record { room = c .room; slots = λ i h n. absurd (n (c .free i (omega (arith, h, c .slots)))) })

@@ -1,2 +1,0 @@
-pub mod Factor
-pub mod Forecast

@@ -1,0 +1,4 @@
+pub mod Sweep
+pub mod Turns
+pub mod Found
+pub mod Measured

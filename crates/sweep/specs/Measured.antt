@@ -1,0 +1,81 @@
+-- What a caller learns from a pass.
+-- Assumes nothing.
+use mathlib.Core.Path.{_≡_, refl, sym, ap, _∙_}
+use mathlib.Core.Bool.{Bool, true, false, cond}
+use mathlib.Core.List.{List, [], _∷_}
+use Prim.Native.Nat.{ℕ, suc, _+_, _-_, _≤_, _<_}
+use native.Mathlib.Omega.{arith}
+use lib.ListN.{length, getD, drop, length-drop}
+use lib.Seq.{getD-drop}
+use Rattle.ring.specs.declared.Bucket.{Bucket}
+use Rattle.ring.specs.Ring.{noBucket, counts, declineds, lenOf, buckets}
+use Rattle.ring.specs.Order.{Fine}
+use Rattle.ring.specs.View.{view-length}
+use Rattle.ring.specs.Sound.{soundBuckets, Sound, sound-true}
+use Rattle.sweep.specs.declared.tally.Pass.{Pass}
+use Rattle.rules.specs.Buckets.{windowTicks, older, ahead, evicted, live, lastSecond, newest}
+use Rattle.sweep.specs.Sweep.{found, unsound, pick, passOf}
+use Rattle.sweep.specs.Found.{ahead-le, within-drop}
+
+-- w is the window in ticks: at `windowTicks W` these are `gone W t`, `live W t` and the rest
+pub record Measured (r : ℕ) (b : List ℕ) (last t w : ℕ) (x : Pass) : Type 0 where
+  pub sound : Sound r b last
+  pub buckets-are : x .buckets ≡ lenOf b
+  pub expired-are : x .expired ≡ ahead w t (buckets r b)
+  pub some : x .expired ≤ lenOf b
+  pub total : x .«live_total» ≡ counts (drop (x .expired) (buckets r b))
+  pub declined : x .«live_declined» ≡ declineds (drop (x .expired) (buckets r b))
+  pub recent : x .«last_second» ≡ lastSecond t (buckets r b)
+  pub oldest-is : x .oldest ≡ getD (buckets r b) (x .expired) noBucket
+  pub newest-is : x .newest ≡ newest (buckets r b)
+
+-- the pass says whether the buckets are sound
+pub pass-judges : (r : ℕ) (b : List ℕ) (last t w : ℕ) (x : Pass) → x ≡ passOf r b last t w → x .sound ≡ soundBuckets r b last
+unfolding passOf
+pass-judges r b last t w x e = ap (λ (y : Pass). y .sound) e ∙ go (soundBuckets r b last)
+  where
+    go : (s : Bool) → pick s (found (lenOf b) (buckets r b) t w) unsound .sound ≡ s
+    go true = refl
+    go false = refl
+
+-- and where they are, what the rules say of them
+pub pass-measures : (r : ℕ) (b : List ℕ) (last t w : ℕ) (x : Pass) → x ≡ passOf r b last t w → x .sound ≡ true → Measured r b last t w x
+unfolding passOf
+pass-measures r b last t w x e s =
+    let q : soundBuckets r b last ≡ true = sym (pass-judges r b last t w x e) ∙ s in
+    let xs = buckets r b in
+    let f : x ≡ found (lenOf b) xs t w = e ∙ ap (λ (s : Bool). pick s (found (lenOf b) xs t w) unsound) q in
+    let k : x .expired ≡ ahead w t xs = ap (λ (y : Pass). y .expired) f in
+    record {
+      sound = sound-true r b last q;
+      buckets-are = ap (λ (y : Pass). y .buckets) f;
+      expired-are = k;
+      some = omega (arith, k, ahead-le w t xs, view-length r b);
+      total = ap (λ (y : Pass). y .«live_total») f ∙ ap (λ (i : ℕ). counts (drop i xs)) (sym k);
+      declined = ap (λ (y : Pass). y .«live_declined») f ∙ ap (λ (i : ℕ). declineds (drop i xs)) (sym k);
+      recent = ap (λ (y : Pass). y .«last_second») f;
+      oldest-is = ap (λ (y : Pass). y .oldest) f ∙ ap (λ (i : ℕ). getD xs i noBucket) (sym k);
+      newest-is = ap (λ (y : Pass). y .newest) f ∙ ap (λ (n : ℕ). getD xs (n - 1) noBucket) (sym (view-length r b));
+    }
+
+-- ---- what a caller asks and gets when it evicts what the pass found expired
+
+-- taking the expired out wherever they stand is taking the oldest ones out
+pub evicted-live : (W t lo hi : ℕ) (xs : List Bucket) → Fine lo xs hi → evicted W t xs ≡ live W t xs
+evicted-live W t lo hi xs f = within-drop (windowTicks W) t lo hi xs f
+
+-- and none that is left at the front is expired
+pub ahead-after : (w t : ℕ) (xs : List Bucket) → ahead w t (drop (ahead w t xs) xs) ≡ 0
+unfolding ahead
+ahead-after w t [] = refl
+ahead-after w t (x ∷ xs) = go (older w t x) refl (ahead-after w t xs)
+  where
+    go : (o : Bool) → older w t x ≡ o → ahead w t (drop (ahead w t xs) xs) ≡ 0 → ahead w t (drop (cond o (suc (ahead w t xs)) 0) (x ∷ xs)) ≡ 0
+    go true e i = i
+    go false e i = ap (λ (o : Bool). cond o (suc (ahead w t xs)) 0) e
+
+-- the newest stays the newest
+pub newest-drop : (k : ℕ) (xs : List Bucket) → k < length xs → newest (drop k xs) ≡ newest xs
+newest-drop k xs h =
+    let e : k + (length (drop k xs) - 1) ≡ length xs - 1 = omega (arith, length-drop k xs) in
+    getD-drop k xs (length (drop k xs) - 1) noBucket ∙ ap (λ (i : ℕ). getD xs i noBucket) e
