@@ -34,13 +34,13 @@ mass-total lo (x ∷ xs) hi f = go (decLe 0 (x .time)) (mass-total (x .time) xs 
 -- ---- eviction
 
 module _ (w t : ℕ) where
-  over-past : (x : Bucket) → older w t x ≡ true → w < t - x .time
+  older-past : (x : Bucket) → older w t x ≡ true → w < t - x .time
   unfolding older
-  over-past x e = ltb-true w (t - x .time) e
+  older-past x e = ltb-true w (t - x .time) e
 
-  over-not : (x : Bucket) → older w t x ≡ false → t - x .time ≤ w
+  older-not : (x : Bucket) → older w t x ≡ false → t - x .time ≤ w
   unfolding older
-  over-not x e = ltb-false w (t - x .time) e
+  older-not x e = ltb-false w (t - x .time) e
 
   pub evict-less : (x : ℕ) (xs : List Bucket) → since x (mass (recent w t xs)) ≤ since x (mass xs)
   unfolding recent
@@ -64,7 +64,7 @@ module _ (w t : ℕ) where
     where
       go : (o : Bool) → older w t y ≡ o → since x (mass ys) ≤ since x (mass (recent w t ys)) →
           since x (mass (y ∷ ys)) ≤ since x (mass (cond o (recent w t ys) (y ∷ recent w t ys)))
-      go true e g = omega (arith, none-of x (y .count - y .declined) y f (over-past y e) (decLe x (y .time)))
+      go true e g = omega (arith, none-of x (y .count - y .declined) y f (older-past y e) (decLe x (y .time)))
       go false e g = omega arith
 
   -- all that stays is live
@@ -77,7 +77,7 @@ module _ (w t : ℕ) where
           since 0 (mass (cond o (recent w t ys) (y ∷ recent w t ys))) ≤ since (t - w) (mass (y ∷ ys))
       go true e g = omega arith
       go false e g =
-          omega (arith, pick-mono (decLe 0 (y .time)) (decLe (t - w) (y .time)) (y .count - y .declined) (λ z. omega (arith, over-not y e)))
+          omega (arith, pick-mono (decLe 0 (y .time)) (decLe (t - w) (y .time)) (y .count - y .declined) (λ z. omega (arith, older-not y e)))
 
 -- ---- an increment, bucket by bucket
 

@@ -1,4 +1,4 @@
-// `desk` on inputs that a file has each: after a heading, what it prints for it.
+// `desk` on inputs that a file has each, the lessons' among them: after a heading, what it prints for it.
 use libc::STDOUT_FILENO;
 
 fn run(name: &[u8]) {
@@ -33,4 +33,7 @@ fn main() {
     run(b"refusals");
     run(b"thirteen");
     run(b"no-last-newline");
+    run(b"lesson-1");
+    run(b"lesson-2");
+    run(b"lesson-3");
 }

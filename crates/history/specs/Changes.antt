@@ -13,7 +13,7 @@ use Rattle.answers.specs.declared.HistoryPreservation.{HistoryPreservation}
 use Rattle.answers.specs.declared.HistoryPreservation.the-variants.{PreserveNewest, PreserveOldest}
 use Rattle.ring.specs.declared.Bucket.{Bucket}
 use Rattle.layout.specs.Layout.{mostTotal}
-use Rattle.ring.specs.Ring.{bucket, noBucket, sumOf, countOf, deniedOf, counts, declineds, totalOf, declinedOf, lenOf, buckets, Free, Within, pushed, without}
+use Rattle.ring.specs.Ring.{bucket, noBucket, sumOf, countOf, deniedOf, counts, declineds, totalOf, declinedOf, lenOf, buckets, Free, Rewrites, pushed, without}
 use Rattle.ring.specs.Sums.{sum-append, sum-one, sum-none, sum-set, sum-at, sum-split}
 use Rattle.base.specs.Decides.{and-true}
 use Rattle.ring.specs.Order.{Fine, fine-more, fine-drop, fine-set, fine-at, fine-sums}
@@ -43,7 +43,7 @@ evict-became r b t k s h =
 
 -- ---- a bucket that counts more
 
-pub raise-within : {r : ℕ} {b : List ℕ} {i c d : ℕ} → Raises r b i c d → Within r b i (bucketOf r b i .count + c) (bucketOf r b i .declined + d)
+pub raise-within : {r : ℕ} {b : List ℕ} {i c d : ℕ} → Raises r b i c d → Rewrites r b i (bucketOf r b i .count + c) (bucketOf r b i .declined + d)
 raise-within h = record {
   shape = h .shape;
   some = h .some;

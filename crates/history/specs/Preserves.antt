@@ -12,7 +12,7 @@ use borrow.Author.Tests.{ltb-true, ltb-false, eqb-true, eqb-false}
 use Rattle.answers.specs.declared.HistoryPreservation.{HistoryPreservation}
 use Rattle.answers.specs.declared.HistoryPreservation.the-variants.{PreserveNewest, PreserveOldest}
 use Rattle.ring.specs.declared.Bucket.{Bucket}
-use Rattle.ring.specs.Ring.{bucket, noBucket, sumOf, countOf, deniedOf, counts, declineds, totalOf, declinedOf, lenOf, buckets, Within}
+use Rattle.ring.specs.Ring.{bucket, noBucket, sumOf, countOf, deniedOf, counts, declineds, totalOf, declinedOf, lenOf, buckets, Rewrites}
 use Rattle.ring.specs.Ring as ring
 use Rattle.ring.specs.Sums.{sum-one, sum-set, sum-split}
 use Rattle.ring.specs.Order.{fine-take}
@@ -41,7 +41,7 @@ out-became PreserveOldest r b t k s h =
 -- ---- the partial one
 
 pub part-within : {p : HistoryPreservation} {r : ℕ} {b : List ℕ} {t q : ℕ} → Parts p r b t q → let i = lostAt p (lenOf b) 0 in let y =
-    partial q (bucketOf r b i) in Within r b i (y .count) (y .declined)
+    partial q (bucketOf r b i) in Rewrites r b i (y .count) (y .declined)
 part-within {p} {r} {b} {t} {q} h =
     let i = lostAt p (lenOf b) 0 in
     let x = bucketOf r b i in

@@ -12,7 +12,7 @@ use borrow.Author.Tests.{eq-eqb, ne-eqb}
 use Rattle.share.specs.Share.{mulDiv}
 use Rattle.answers.specs.declared.HistoryPreservation.{HistoryPreservation}
 use Rattle.ring.specs.declared.Bucket.{Bucket}
-use Rattle.ring.specs.Ring.{noBucket, countOf, deniedOf, counts, declineds, lenOf, buckets, Free, Within, Leaves, rewritten, without}
+use Rattle.ring.specs.Ring.{noBucket, countOf, deniedOf, counts, declineds, lenOf, buckets, Free, Rewrites, Leaves, rewritten, without}
 use Rattle.ring.specs.Sums.{sum-none}
 use Rattle.ring.specs.View.{view-length, view-at}
 use Rattle.history.specs.declared.Cut.{Cut}
@@ -85,7 +85,7 @@ module _ (p : HistoryPreservation) (r : ℕ) (b : List ℕ) (t q i : ℕ) (x : B
   pub part-some : q ≤ x .count
   part-some = omega (arith, h .less, ap countOf there)
 
-  pub part-stores : Within r b i (x .count - q) kept
+  pub part-stores : Rewrites r b i (x .count - q) kept
   part-stores = rw (e, parted-as .0, parted-as .1) (part-within h)
 
   pub part-words : rewritten r b i (x .count - q) kept ≡ partWords p r b q

@@ -48,18 +48,18 @@ pub record Seen (W t : ℕ) (h : Held) (x : Slot) : Type 0 where
 
 -- ---- the last second is within what is live
 
-over-more : (v w t : ℕ) (x : Bucket) → v ≤ w → older w t x ≡ true → older v t x ≡ true
+older-more : (v w t : ℕ) (x : Bucket) → v ≤ w → older w t x ≡ true → older v t x ≡ true
 unfolding older
-over-more v w t x h e = lt-ltb v (t - x .time) (omega (arith, ltb-true w (t - x .time) e))
+older-more v w t x h e = lt-ltb v (t - x .time) (omega (arith, ltb-true w (t - x .time) e))
 
-pub within-live : (v w t : ℕ) → v ≤ w → (xs : List Bucket) → recent v t xs ≡ recent v t (drop (ahead w t xs) xs)
+pub recent-live : (v w t : ℕ) → v ≤ w → (xs : List Bucket) → recent v t xs ≡ recent v t (drop (ahead w t xs) xs)
 unfolding recent ahead
-within-live v w t h [] = refl
-within-live v w t h (x ∷ xs) = go (older w t x) refl (within-live v w t h xs)
+recent-live v w t h [] = refl
+recent-live v w t h (x ∷ xs) = go (older w t x) refl (recent-live v w t h xs)
   where
     go : (o : Bool) → older w t x ≡ o → recent v t xs ≡ recent v t (drop (ahead w t xs) xs) →
         cond (older v t x) (recent v t xs) (x ∷ recent v t xs) ≡ recent v t (drop (cond o (suc (ahead w t xs)) 0) (x ∷ xs))
-    go true e i = ap (λ (z : Bool). cond z (recent v t xs) (x ∷ recent v t xs)) (over-more v w t x h e) ∙ i
+    go true e i = ap (λ (z : Bool). cond z (recent v t xs) (x ∷ recent v t xs)) (older-more v w t x h e) ∙ i
     go false e i = refl
 
 -- ---- a slot that is there, and none
@@ -126,7 +126,7 @@ module _ (kind : RoomKind) (s : Settings) (w : List ℕ) (t at : ℕ) (x : Slot)
         gone-is = m .expired-are;
         live-is = m .total ∙ ap (λ (i : ℕ). counts (drop i xs)) (m .expired-are);
         declined-is = m .declined ∙ ap (λ (i : ℕ). declineds (drop i xs)) (m .expired-are);
-        recent-is = m .recent ∙ ap counts (within-live 1000 W t long xs);
+        recent-is = m .recent ∙ ap counts (recent-live 1000 W t long xs);
         oldest-is = m .oldest-is ∙ ap (λ (i : ℕ). getD xs i noBucket) (m .expired-are);
         newest-is = m .newest-is;
       }

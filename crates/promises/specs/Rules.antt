@@ -39,7 +39,7 @@ use Rattle.provider.specs.Provider as Provider
 use Rattle.provider.specs.Laws.{lowest-none, both-by-table}
 use Rattle.readout.specs.ReadOut as ReadOut
 use Rattle.readout.specs.ReadOut.{bucketsOf}
-use Rattle.readout.specs.Row.{over}
+use Rattle.readout.specs.Row.{laid}
 use Rattle.readout.specs.declared.ReadOutAnswer.the-variants as readOut
 use Rattle.steps.specs.Table.{absoluteInc, plain, suppressedInc, suppressedGet, suppressedFactor, setRate, sets, clears, cleans, cleansBoth}
 use Rattle.promises.specs.Refusals.{reads, reads-number}
@@ -61,7 +61,7 @@ pub record CleansBoth (s : Settings) (a b : List ℕ) (t stale : ℕ) : Type 0 w
 -- unknown key"
 pub record ReadsOut (kind : RoomKind) (s : Settings) (w key : List ℕ) (row : List Bucket) : Type 0 where
   pub answer : ReadOut.readOut kind s w key row .answer ≡ readOut.Buckets (length (bucketsOf w key))
-  pub fills : ReadOut.readOut kind s w key row .row ≡ over (bucketsOf w key) row
+  pub fills : ReadOut.readOut kind s w key row .row ≡ laid (bucketsOf w key) row
 
 pub record Demand2 : Type 0 where
   -- the absolute limiter; an increment's key is one of bytes

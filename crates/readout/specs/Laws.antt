@@ -29,7 +29,7 @@ use Rattle.room.specs.Room.{slotsOf, ringOf, lastOf, useOf, bodyOf, keySound}
 use Rattle.readout.specs.declared.Found.{Found}
 use Rattle.readout.specs.declared.Plan.{Plan}
 use Rattle.readout.specs.declared.ReadOutAnswer.{ReadOutAnswer}
-use Rattle.readout.specs.Row.{over, over-nothing, upTo-length, upTo-more}
+use Rattle.readout.specs.Row.{laid, laid-nothing, upTo-length, upTo-more}
 use Rattle.readout.specs.ReadOut.{refusal, bucketsOf, readOut, Shown, shown, found, answerOf, planOf, rowAt, Readable, Reads}
 
 found-path : {x y : Found} → x .code ≡ y .code → x .slot ≡ y .slot → x .count ≡ y .count → x ≡ y
@@ -145,10 +145,10 @@ module _ (kind : RoomKind) (s : Settings) (w key : List ℕ) where
         (omega arith)
 
     -- all that fit are the row to leave
-    shown-as : (b : Bool) → eqb (refusal kind s w key) 0 ≡ b → Shown (readOut kind s w key row) (answerOf (found kind s w key)) (over (shown kind s w key) row)
+    shown-as : (b : Bool) → eqb (refusal kind s w key) 0 ≡ b → Shown (readOut kind s w key row) (answerOf (found kind s w key)) (laid (shown kind s w key) row)
     unfolding readOut found shown
     shown-as true e = rw e (record { answer = refl; row = refl })
-    shown-as false e = rw e (record { answer = refl; row = over-nothing row })
+    shown-as false e = rw e (record { answer = refl; row = laid-nothing row })
 
     pub row-shown : (i : ℕ) → i ≡ fitting → Shown (readOut kind s w key row) (answerOf (found kind s w key)) (rowAt kind s w key row i)
     row-shown i e =

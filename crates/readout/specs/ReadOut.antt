@@ -18,7 +18,7 @@ use Rattle.readout.specs.declared.Found.{Found}
 use Rattle.readout.specs.declared.Plan.{Plan}
 use Rattle.readout.specs.declared.ReadOutAnswer.{ReadOutAnswer}
 use Rattle.readout.specs.declared.ReadOutAnswer.the-variants.{Buckets, Refused}
-use Rattle.readout.specs.Row.{upTo, over}
+use Rattle.readout.specs.Row.{upTo, laid}
 
 -- "It takes settings, no reading; its refusals are 1 to 5 and 7": the first that holds, or 0
 unfoldable pub refusal : RoomKind → Settings → List ℕ → List ℕ → ℕ
@@ -42,7 +42,7 @@ readOut kind s w key row =
     let n = refusal kind s w key in
     record {
       answer = cond (eqb n 0) (Buckets (length (bucketsOf w key))) (Refused n);
-      row = cond (eqb n 0) (over (bucketsOf w key) row) row;
+      row = cond (eqb n 0) (laid (bucketsOf w key) row) row;
     }
 
 -- the answer given and the row left are these

@@ -13,8 +13,8 @@ abbrev pub upTo : {A : Type 0} → ℕ → List A → List A → List A
 upTo k xs ys = take k xs ++ drop k ys
 
 -- xs from the start of ys on, as many as fit
-abbrev pub over : {A : Type 0} → List A → List A → List A
-over xs ys = upTo (min (length xs) (length ys)) xs ys
+abbrev pub laid : {A : Type 0} → List A → List A → List A
+laid xs ys = upTo (min (length xs) (length ys)) xs ys
 
 module _ {A : Type 0} (xs ys : List A) (k : ℕ) where
   pub upTo-length : k ≤ length xs → k ≤ length ys → length (upTo k xs ys) ≡ length ys
@@ -31,5 +31,5 @@ module _ {A : Type 0} (xs ys : List A) (k : ℕ) where
       ∙ ap (λ (j : ℕ). upTo j xs ys) (sym (add-one k))
 
 -- nothing, written over a row
-pub over-nothing : {A : Type 0} (ys : List A) → over [] ys ≡ ys
-over-nothing ys = let e : min 0 (length ys) ≡ 0 = omega arith in rw e
+pub laid-nothing : {A : Type 0} (ys : List A) → laid [] ys ≡ ys
+laid-nothing ys = let e : min 0 (length ys) ≡ 0 = omega arith in rw e

@@ -2,7 +2,6 @@
 // limit is meant. The calls stand above, in `calls`.
 ghost use mathlib.Core.Path.{_≡_};
 ghost use mathlib.Core.Bool.{not, _&&_};
-ghost use Prim.Native.Nat.{_-_};
 ghost use Rattle.common.specs.Refusals.{first};
 ghost use Rattle.rules.specs.Both.{limitIn};
 ghost use Rattle.rules.specs.Sets.{preserves, rateTurns};
@@ -21,13 +20,6 @@ use judge::Slot;
 use rules::RoomKind;
 use settings::Settings;
 
-// a less b, or 0 where b is more.
-fn less(a: u64, b: u64) -> u64
-    ensures { λ n. ⌜ n ≡ a - b ⌝ }
-{
-    if b <= a { a - b } else { 0 }
-}
-
 pub fn deleted(x: Slot) -> DeleteAnswer
     ensures { λ r. ⌜ r ≡ deletedAt x ⌝ }
 {
@@ -35,7 +27,7 @@ pub fn deleted(x: Slot) -> DeleteAnswer
     let cached = x.cached;
     let pass = x.pass;
     if series {
-        return DeleteAnswer::Deleted(less(pass.live_total, pass.live_declined));
+        return DeleteAnswer::Deleted(ring::less(pass.live_total, pass.live_declined));
     }
     if cached {
         return DeleteAnswer::Deleted(0);

@@ -8,7 +8,7 @@ use native.Mathlib.Decide.{decLt}
 use native.Mathlib.Omega.{arith}
 use lib.Dec.{ltb, leb, eqb}
 use lib.ListN.{length, drop, length-drop}
-use borrow.Author.Tests.{lt-ltb, ltb-true, leb-false}
+use borrow.Author.Tests.{leb-false}
 use Rattle.common_laws.specs.FactorLaws.{nothing-is}
 use Rattle.settings.specs.Settings.{windowIn}
 use Rattle.settings.specs.declared.Settings.{Settings}
@@ -31,31 +31,21 @@ use Rattle.plan.specs.Known.{Found, Known, found, none, series-known, series-is
 use Rattle.suppressed.specs.Opened.{unperceived}
 use Rattle.suppressed_opened.specs.Opened.{left}
 use Rattle.plan.specs.Plan.{placeOf, lacksAt}
+use Rattle.plan.specs.Seen.{recent-live}
 
 -- ---- the counts of the last second are among the live ones
 
-within-le : (w t : ℕ) (xs : List Bucket) → counts (recent w t xs) ≤ counts xs
+recent-among : (w t : ℕ) (xs : List Bucket) → counts (recent w t xs) ≤ counts xs
 unfolding recent sumOf
-within-le w t [] = omega arith
-within-le w t (x ∷ xs) = go (older w t x) (within-le w t xs)
+recent-among w t [] = omega arith
+recent-among w t (x ∷ xs) = go (older w t x) (recent-among w t xs)
   where
     go : (o : Bool) → counts (recent w t xs) ≤ counts xs → counts (cond o (recent w t xs) (x ∷ recent w t xs)) ≤ x .count + counts xs
     go true h = omega arith
     go false h = omega arith
 
-pub over-more : (v w t : ℕ) (x : Bucket) → v ≤ w → older w t x ≡ true → older v t x ≡ true
-unfolding older
-over-more v w t x h e = lt-ltb v (t - x .time) (omega (arith, ltb-true w (t - x .time) e))
-
 pub recent-le : (v w t : ℕ) (xs : List Bucket) → v ≤ w → counts (recent v t xs) ≤ counts (drop (ahead w t xs) xs)
-unfolding recent ahead
-recent-le v w t [] h = omega arith
-recent-le v w t (x ∷ xs) h = go (older w t x) refl (recent-le v w t xs h)
-  where
-    go : (o : Bool) → older w t x ≡ o → counts (recent v t xs) ≤ counts (drop (ahead w t xs) xs) →
-        counts (cond (older v t x) (recent v t xs) (x ∷ recent v t xs)) ≤ counts (drop (cond o (suc (ahead w t xs)) 0) (x ∷ xs))
-    go true e i = rw (over-more v w t x h e) i
-    go false e i = within-le v t (x ∷ xs)
+recent-le v w t xs h = rw (recent-live v w t h xs) (recent-among v t (drop (ahead w t xs) xs))
 
 -- ---- the sums of the live buckets
 

@@ -31,10 +31,10 @@ young-all w t lo hi (x ∷ xs) f h =
     let y : t - x .time ≤ w = omega arith in
     simp (le-ltb _ _ y) (ap (λ (ys : List Bucket). x ∷ ys) (young-all w t (x .time) hi xs (f .3) y))
 
-pub within-drop : (w t lo hi : ℕ) (xs : List Bucket) → Fine lo xs hi → recent w t xs ≡ drop (ahead w t xs) xs
+pub recent-drop : (w t lo hi : ℕ) (xs : List Bucket) → Fine lo xs hi → recent w t xs ≡ drop (ahead w t xs) xs
 unfolding recent ahead older
-within-drop w t lo hi [] f = refl
-within-drop w t lo hi (x ∷ xs) f = go (older w t x) refl (within-drop w t (x .time) hi xs (f .3))
+recent-drop w t lo hi [] f = refl
+recent-drop w t lo hi (x ∷ xs) f = go (older w t x) refl (recent-drop w t (x .time) hi xs (f .3))
   where
     go : (o : Bool) → older w t x ≡ o → recent w t xs ≡ drop (ahead w t xs) xs →
         cond o (recent w t xs) (x ∷ recent w t xs) ≡ drop (cond o (suc (ahead w t xs)) 0) (x ∷ xs)

@@ -15,7 +15,7 @@ use Rattle.ring.specs.Sound.{soundBuckets, Sound, sound-true}
 use Rattle.sweep.specs.declared.tally.Pass.{Pass}
 use Rattle.rules.specs.Buckets.{windowTicks, older, ahead, evicted, live, lastSecond, newest}
 use Rattle.sweep.specs.Sweep.{found, unsound, pick, passOf}
-use Rattle.sweep.specs.Found.{ahead-le, within-drop}
+use Rattle.sweep.specs.Found.{ahead-le, recent-drop}
 
 -- w is the window in ticks: at `windowTicks W` these are `gone W t`, `live W t` and the rest
 pub record Measured (r : ℕ) (b : List ℕ) (last t w : ℕ) (x : Pass) : Type 0 where
@@ -62,7 +62,7 @@ pass-measures r b last t w x e s =
 
 -- taking the expired out wherever they stand is taking the oldest ones out
 pub evicted-live : (W t lo hi : ℕ) (xs : List Bucket) → Fine lo xs hi → evicted W t xs ≡ live W t xs
-evicted-live W t lo hi xs f = within-drop (windowTicks W) t lo hi xs f
+evicted-live W t lo hi xs f = recent-drop (windowTicks W) t lo hi xs f
 
 -- and none that is left at the front is expired
 pub ahead-after : (w t : ℕ) (xs : List Bucket) → ahead w t (drop (ahead w t xs) xs) ≡ 0

@@ -1,7 +1,7 @@
 -- `history::raise` meets its contract: the bucket's counts and what is added are within the totals' room.
 -- Assumes nothing.
 use Rattle.history.specs.Changes.{raise-within}
-use Rattle.ring.specs.Ring.{countOf, deniedOf, Within, rewritten}
+use Rattle.ring.specs.Ring.{countOf, deniedOf, Rewrites, rewritten}
 use Rattle.ring.specs.declared.Bucket.{Bucket}
 use Prim.Native.Nat.{_+_, _-_}
 use mathlib.Core.Path.{sym, ap, subst, _∙_}
@@ -21,7 +21,7 @@ add-d c = omega (arith, ap deniedOf (c .before .before .nth .ensures))
 
 rewrite-requires : tie.Need-rewrite-requires
 rewrite-requires c κs = let a = c .before .before .before .before .before .before .args in
-    subst (λ (x : Bucket). Within (a .r) (a .b .now) (a .i) (x .count + a .count) (x .declined + a .declined)) (sym (c .before .before .before .nth .ensures))
+    subst (λ (x : Bucket). Rewrites (a .r) (a .b .now) (a .i) (x .count + a .count) (x .declined + a .declined)) (sym (c .before .before .before .nth .ensures))
     (raise-within (c .before .before .before .before .before .before .pre))
 
 same-length : tie.Need-same-length
