@@ -1,6 +1,6 @@
--- The laws of the factor and the draw that the limiters cite: a factor that is worked out lies in 0 to 1, so its word is sound; the scaled chance is a whole
--- number and the
--- comparison with a draw is exact; the perceived rate is zero exactly where nothing was counted. Assumes nothing.
+-- The laws of the factor and the draw that the limiters cite: a factor that is worked out lies in 0 to 1, so its word is sound; the scaled chance is a
+-- whole number and the comparison with a draw is exact; the perceived rate is zero exactly where nothing was counted.
+-- Assumes nothing.
 use mathlib.Core.Path.{_≡_, refl, sym, ap, subst, _∙_}
 use mathlib.Core.Bool.{Bool, true, false, _&&_, cond}
 use Prim.Native.Nat.{ℕ, zero, suc, _+_, _*_, _/_, _%_, _^_, _≤_, _<_, zero-le}

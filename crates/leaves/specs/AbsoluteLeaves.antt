@@ -1,6 +1,5 @@
 -- What the absolute limiter's calls leave, by document 01's rules on what the key holds: `Stands` says of a slot its buckets, limit and use, that it is
--- sound again, and
--- that every other slot is word for word as it was.
+-- sound again, and that every other slot is word for word as it was.
 -- Assumes nothing.
 use mathlib.Core.Path.{_≡_}
 use mathlib.Core.Bool.{true, false}

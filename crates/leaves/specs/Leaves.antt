@@ -1,6 +1,5 @@
--- What a call of the suppressed limiter that is not refused leaves, in the rules' own terms (`Stands`): x is the key's slot, a the factor that is askedAt
--- for, o what an
--- increment decides. The cached factor's words and the use are those of `factorAfter`, `timeAfter` and `useAfter`.
+-- What a call of the suppressed limiter that is not refused leaves, in the rules' own terms (`Stands`): x is the key's slot, a the factor that is asked
+-- for, o what an increment decides. The cached factor's words and the use are those of `factorAfter`, `timeAfter` and `useAfter`.
 -- Assumes nothing.
 use mathlib.Core.Path.{_≡_, refl, sym, ap, ap₂, subst, _∙_}
 use mathlib.Core.Bool.{Bool, true, false, not, _&&_, _||_, cond}

@@ -1,6 +1,6 @@
--- The suppressed limiter's own calls, whole: for every input the call is refused and every word is as it was, or answer and room are what the rules make of
--- what the
--- key holds. What an increment admits does not pass the hard limit, and what stays within the soft one is allowed. x is the key's slot, whose words are told.
+-- The suppressed limiter's own calls, whole: for every input the call is refused and every word is as it was, or answer and room are what the rules make
+-- of what the key holds. What an increment admits does not pass the hard limit, and what stays within the soft one is allowed. x is the key's slot,
+-- whose words are told.
 -- Assumes nothing.
 use mathlib.Core.Path.{_≡_, refl, sym, ap, ap₂, subst, _∙_}
 use mathlib.Core.Bool.{Bool, true, false, not, _&&_, cond, false≢true}

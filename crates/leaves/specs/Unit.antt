@@ -46,7 +46,7 @@ word-one : factorWordOk (toBits binary64 one) ≡ true
 unfolding toBits
 word-one = one-ok
 
--- ---- a factor that is workedAt out
+-- ---- a factor that is worked out
 
 nil-worked : {A : Type 0} → Nil ≡ Worked → A
 nil-worked e = let z : _≡_ {A = ℕ} 0 1 = cc in absurd (omega arith)
@@ -85,7 +85,7 @@ module _ (x : Slot) (o : Sums x) (W : ℕ) (p : 1 ≤ W) (q : W ≤ 33554432) wh
         word = fresh-ok S (x .pass .«live_total») W (x .pass .«last_second») k;
       }
 
--- ---- the factor that is askedAt for
+-- ---- the factor that is asked for
 
 -- what is cached is sound at reading t
 abbrev pub CachingOk : ℕ → Caching → Type 0

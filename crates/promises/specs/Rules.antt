@@ -1,6 +1,6 @@
--- Demand 2, on the side of the proofs: what each call that is not turned away answers and leaves is what document 01's rules make of what it finds. A field
--- for each call;
--- what the rules are stands in the records that the fields name. (On the other side the original Rust is run beside the calls: docs/DIFFERENCES.md.)
+-- Demand 2, on the side of the proofs: what each call that is not turned away answers and leaves is what document 01's rules make of what it finds. A
+-- field for each call; what the rules are stands in the records that the fields name. (On the other side the original Rust is run beside the calls:
+-- docs/DIFFERENCES.md.)
 -- Assumes nothing.
 use mathlib.Core.Path.{_≡_, sym, subst, _∙_}
 use mathlib.Core.Bool.{Bool, true, cond}

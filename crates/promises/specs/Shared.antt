@@ -1,6 +1,6 @@
--- What the calls that both limiters have answer and leave where they are not turned away, by the rules on what the key holds. x is its slot, whose words are
--- told.
--- `Stands` says of a slot its buckets, limit, cached factor and use, that it is sound again, and that every other slot is word for word as it was.
+-- What the calls that both limiters have answer and leave where they are not turned away, by the rules on what the key holds. x is its slot, whose words
+-- are told. `Stands` says of a slot its buckets, limit, cached factor and use, that it is sound again, and that every other slot is word for word as it
+-- was.
 -- Assumes nothing.
 use mathlib.Core.Path.{_≡_, refl, sym, ap, subst, _∙_}
 use mathlib.Core.Bool.{Bool, true, false, not, _&&_, cond}
@@ -76,10 +76,9 @@ pub record DeleteRule (s : Settings) (w : List ℕ) (t : ℕ) (key : List ℕ) (
   pub frees : hasAny (heldIn w key) ≡ true → Changed w (v .words) (x .at) 0 (keyAt w (x .at)) (bodyOf w (x .at)) t
   pub keeps : hasAny (heldIn w key) ≡ false → v .words ≡ withReading w t
 
--- "live total first, worked out without change. Nothing changes, and that total is given twice, if .." (`still`). "Count 0: the series goes. Otherwise evict,
--- store the limit, then Replace (one bucket) or Preserve" (`resetTo`), and the cached factor is forgotten; a key without a series gets one bucket, in the
--- slot of
--- its lone cached factor or in the lowest free one
+-- "live total first, worked out without change. Nothing changes, and that total is given twice, if .." (`still`). "Count 0: the series goes. Otherwise
+-- evict, store the limit, then Replace (one bucket) or Preserve" (`resetTo`), and the cached factor is forgotten; a key without a series gets one
+-- bucket, in the slot of its lone cached factor or in the lowest free one
 pub record SetRule
     (kind : RoomKind) (s : Settings) (w : List ℕ) (t : ℕ) (key : List ℕ) (rate : RateLimit) (comparator : RateLimitComparator) (count : ℕ)
     (mode : HistoryUpdateMode) (still : Bool) (x : Slot) (v : Verdict SetAnswer) : Type 0 where

@@ -1,6 +1,5 @@
--- The suppressed limiter's rules, in document 01's words and order. h is the key, xs its live buckets, S and H the soft and the hard limit as whole numbers,
--- W the
--- window in seconds, t the reading, c the count, r the ring.
+-- The suppressed limiter's rules, in document 01's words and order. h is the key, xs its live buckets, S and H the soft and the hard limit as whole
+-- numbers, W the window in seconds, t the reading, c the count, r the ring.
 -- Assumes nothing.
 use mathlib.Core.Bool.{Bool, true, false, not, _&&_, cond}
 use mathlib.Core.List.{List, [], _∷_}

@@ -1,6 +1,5 @@
--- The decisions of the calls that both limiters have, as the code makes them on the key's slot x that is opened: delete, setting a rate, setting a total.
--- They are the
--- rules' (`calls/specs/Seen.antt`), and no contract of a call names them but for the edits. `still` says that nothing changes.
+-- The decisions of the calls that both limiters have, as the code makes them on the key's slot x that is opened: delete, setting a rate, setting a
+-- total. They are the rules' (`calls/specs/Seen.antt`), and no contract of a call names them but for the edits. `still` says that nothing changes.
 -- Assumes nothing.
 use mathlib.Core.Path.{_≡_, sym, ap}
 use mathlib.Core.Bool.{Bool, true, false, not, _&&_, _||_, cond}
@@ -88,7 +87,7 @@ idleAt x limit comparator count mode = not (metAt x comparator) || (vain (x .ser
 abbrev pub totalAfter : Bool → ℕ → ℕ → ℕ
 totalAfter still live count = cond still live count
 
--- whether the comparator is metAt, and the live totals before and after
+-- whether the comparator is met, and the live totals before and after
 unfoldable pub outcomeAt : Slot → Bool → RateLimitComparator → ℕ → ConditionalSetOutcome
 outcomeAt x still comparator count = record {
   matched = metAt x comparator;

@@ -125,7 +125,7 @@ module _ (s : Settings) (w : List ℕ) (t : ℕ) (key : List ℕ) (e : early kin
   known-place : x .series ≡ true → Known kind.Suppressed s w t (placeOf w x) x
   known-place h = subst (λ (n : ℕ). Known kind.Suppressed s w t n x) (sym (place-used (with-series h))) (known s w t key passing x p h)
 
-  -- the factor that the code has worked out is the one that is askedAt for
+  -- the factor that the code has worked out is the one that is asked for
   asked-is : (a : Asked) → a ≡ askedAt s t x (x .limit) (eqb (x .pass .«live_total») 0) → a ≡ askingAt s t (slotIn s w t key)
   asked-is a h =
       h ∙ ap (askedAt s t x (x .limit)) (sym (unperceived-is s w t key passing x p)) ∙ ap (λ (y : Slot). askingAt s t y) p
@@ -269,7 +269,7 @@ module _ (s : Settings) (w : List ℕ) (t : ℕ) (key : List ℕ) (e : early kin
         unfolding incChange incEdit
         inc-carries k limit d b = either (recached x k (incEdit x limit c d)) (hasSlot x) (edit-by k limit d b (x .series) refl)
 
-        -- o is the outcomeAt that the code has found, at the limit and the forecastAt that it has worked out
+        -- o is the outcome that the code has found, at the limit and the forecast that it has worked out
         module _ (o : Outcome) (limit ahead : ℕ) (a : limit ≡ limitAt s x rate) (b : ahead ≡ forecastAt x c)
             (h : o ≡ outcomeAt s t x limit (eqb (x .pass .«live_total») 0) ahead c draw) where
           outcome-is : o ≡ incOutcome s t rate c draw x (eqb (x .pass .«live_total») 0)

@@ -1,6 +1,6 @@
 -- The suppressed limiter's factor and decision as the code works them out, on a key's slot x that is opened at reading t: the rules' own clauses on the
--- numbers that
--- the slot has. They are the rules' (`suppressed/specs/Seen.antt`), and no contract of a call names them. z says whether the perceived rate is zero.
+-- numbers that the slot has. They are the rules' (`suppressed/specs/Seen.antt`), and no contract of a call names them. z says whether the perceived rate
+-- is zero.
 -- Assumes nothing.
 use mathlib.Core.Bool.{Bool, true, false, not, _&&_, _||_, cond}
 use Prim.Native.Nat.{ℕ, _+_, _-_, _≤_}
