@@ -237,21 +237,6 @@ module _ (x : Slot) (limit count : ℕ) (mode : HistoryUpdateMode) (e : x .serie
   setting-new : x .cached ≡ false → Take (begins limit count 0 0) ≡ setting x false limit count mode
   setting-new g = sym (ap (λ (y : Bool). cond y (Update (begins limit count (x .factor) (x .«factor_time»))) (Take (begins limit count 0 0))) g) ∙ setting-newly
 
--- ---- the live total of a key that has no series
-
-opened-none : (W r last t at u : ℕ) (b : List ℕ) → opened W r last t at u b .series ≡ false → liveIn (opened W r last t at u b) ≡ 0
-unfolding opened
-opened-none W r last t at u b e = ap (λ (z : Bool). pickPass z (passOf r b last t (windowTicks W)) .«live_total») e
-
-pub live-none : (W : ℕ) (w : List ℕ) (t at : ℕ) → slotOf W w t at .series ≡ false → liveIn (slotOf W w t at) ≡ 0
-unfolding slotOf
-live-none W w t at e = go (ltb at (slotsOf w)) e
-  where
-    go : (z : Bool) → pickSlot z (opened W (ringOf w) (lastOf w) t at (useOf w at) (bodyOf w at)) (noSlot (slotsOf w)) .series ≡ false →
-        liveIn (pickSlot z (opened W (ringOf w) (lastOf w) t at (useOf w at) (bodyOf w at)) (noSlot (slotsOf w))) ≡ 0
-    go true f = opened-none W (ringOf w) (lastOf w) t at (useOf w at) (bodyOf w at) f
-    go false f = refl
-
 -- ---- the calls
 
 pub found-key : (kind : RoomKind) (s : Settings) (w : List ℕ) (t at : ℕ) (x : Slot) → Found kind s w t at x → keyFits (keyAt w at) ≡ true

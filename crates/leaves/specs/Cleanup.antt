@@ -200,9 +200,6 @@ module _ (kind : RoomKind) (s : Settings) (w : List ℕ) (t stale : ℕ) where
   unfolding cleanup unlessRefused
   done-words e = rw (eq-eqb _ 0 e)
 
-  pub done-run : refusal kind s w t ≡ 0 → Cleaned w (cleanup kind s w t stale .words) t stale
-  done-run e = subst (λ (v : List ℕ). Cleaned w v t stale) (sym (done-words e)) (clean-run w t stale (passed kind s w t e .room))
-
   -- refused: every word as it was
   pub refused-words : refusal kind s w t ≢ 0 → cleanup kind s w t stale .words ≡ w
   unfolding cleanup unlessRefused

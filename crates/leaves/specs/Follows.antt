@@ -39,14 +39,6 @@ module _ (kind : RoomKind) (s : Settings) (w : List ℕ) (t : ℕ) (key : List �
   pub unrefused-own : first (refusals kind s w t key own) ≡ 0 → first own ≡ 0
   unrefused-own e = sym (refused-own kind s w t key own (unrefused-early e)) ∙ e
 
-  -- the number, where a call that passes 1 to 7 has other words for its own
-  pub same-number : (own′ : List (ℕ × Bool)) → (Passed kind s w t key → own ≡ own′) → first (refusals kind s w t key own) ≡ first (refusals kind s w t key own′)
-  same-number own′ f = go (eqb (early kind s w t key) 0) refl
-    where
-      go : (y : Bool) → eqb (early kind s w t key) 0 ≡ y → first (refusals kind s w t key own) ≡ first (refusals kind s w t key own′)
-      go true h = ap (λ (xs : List (ℕ × Bool)). first (refusals kind s w t key xs)) (f (passed kind s w t key (eqb-true _ _ h)))
-      go false h = refused-early kind s w t key own (eqb-false _ _ h) ∙ sym (refused-early kind s w t key own′ (eqb-false _ _ h))
-
   -- a call for every input
   pub call-follows : {A : Type 0} (turned : ℕ → A) (v : Verdict A) (P : Type 0) → (early kind s w t key ≡ 0 → first own ≡ 0 → P) →
       Follows turned w (first (refusals kind s w t key own)) (call turned kind s w t key own v) P

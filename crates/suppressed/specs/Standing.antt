@@ -75,11 +75,6 @@ module _ (s : Settings) (w : List ℕ) (t at : ℕ) (x : Slot) (k : Known kind.S
         most = omega (arith, m .total, sum-split countOf n xs, k .now .total, k .now .most);
       }
 
-  pub left-length : length (drop (x .pass .expired) (buckets (ringOf w) (bodyOf w at))) ≡ left x
-  left-length =
-      let xs = buckets (ringOf w) (bodyOf w at) in
-      omega (arith, length-drop (x .pass .expired) xs, view-length (ringOf w) (bodyOf w at), k .measured .buckets-are)
-
 lone-pass : (s : Settings) (w : List ℕ) (t at : ℕ) (x : Slot) → Found kind.Suppressed s w t at x → x .series ≡ false → x .pass ≡ unsound
 unfolding opened
 lone-pass s w t at x f e =
