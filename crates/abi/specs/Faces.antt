@@ -12,10 +12,10 @@ use Rattle.room.specs.Room.{lengthOf, fits}
 use Rattle.judge.specs.Verdict.{Verdict}
 use Rattle.rows.specs.Plain.{badCall, numberOf}
 use Rattle.provider.specs.Provider as Provider
-use Rattle.rows.specs.declared.inputs.Comparison.{Comparison}
-use Rattle.rows.specs.declared.inputs.Comparison.the-variants as compared
-use Rattle.rows.specs.declared.inputs.Mode.{Mode}
-use Rattle.rows.specs.declared.inputs.Mode.the-variants as chosen
+use Rattle.inputs.specs.declared.Comparison.{Comparison}
+use Rattle.inputs.specs.declared.Comparison.the-variants as compared
+use Rattle.inputs.specs.declared.Mode.{Mode}
+use Rattle.inputs.specs.declared.Mode.the-variants as chosen
 
 -- ---- the shape of every face
 

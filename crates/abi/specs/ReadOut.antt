@@ -14,9 +14,9 @@ use Rattle.ring.specs.declared.Bucket.{Bucket}
 use Rattle.ring.specs.Ring.{noBucket, buckets}
 use Rattle.room.specs.Room.{slotsOf, ringOf, useOf, bodyOf}
 use Rattle.rules.specs.declared.RoomKind.{RoomKind}
-use Rattle.judge.specs.Sound.{hasSeries, addressed}
-use Rattle.readout.specs.declared.Found.{Found}
-use Rattle.readout.specs.ReadOut.{refusal, bucketsOf, shown, found, Readable}
+use Rattle.opened.specs.Sound.{hasSeries, addressed}
+use Rattle.finding.specs.declared.Found.{Found}
+use Rattle.finding.specs.Finding.{refusal, bucketsOf, shown, found, Readable}
 use Rattle.readout.specs.Laws.{row-readable}
 
 -- count, declined and time

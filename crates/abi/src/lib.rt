@@ -6,21 +6,22 @@ ghost use lib.ListN.{length};
 ghost use Rattle.answers.specs.Rows.{decisionRow, totalRow, snapshotRow, factorRow, oldRateRow, deleteRow, doneRow};
 ghost use Rattle.room.specs.Room.{fits, empty};
 ghost use Rattle.rules.specs.declared.RoomKind.the-variants.{Absolute, Suppressed};
-ghost use Rattle.calls.specs.Clear as Clear;
+ghost use Rattle.clearing.specs.Clear as Clear;
 ghost use Rattle.calls.specs.Delete as Delete;
 ghost use Rattle.calls.specs.Rate.{setRateLimit};
 ghost use Rattle.calls.specs.Set as Set;
 ghost use Rattle.cleanup.specs.Cleanup as Cleanup;
-ghost use Rattle.absolute.specs.Calls as AbsoluteCalls;
-ghost use Rattle.suppressed.specs.Calls as SuppressedCalls;
+ghost use Rattle.absolute_verdicts.specs.Calls as AbsoluteCalls;
+ghost use Rattle.suppressed_verdicts.specs.Calls as SuppressedCalls;
 ghost use Rattle.provider.specs.Provider as Provider;
-ghost use Rattle.rows.specs.Plain.{Given, settings, rated, comparisonOf, replacing, preserving};
+ghost use Rattle.rows.specs.Plain.{Given};
+ghost use Rattle.inputs.specs.Inputs.{settings, rated, comparisonOf, replacing, preserving};
 ghost use Rattle.abi.specs.Faces.{Faced, shown, shownBoth, shownSet, roomWords, makeNumber};
 ghost use Rattle.abi.specs.ReadOut.{bucketRow};
 use answers::HistoryUpdateMode;
 use common::RateLimit;
-use rows::Comparison;
-use rows::Mode;
+use inputs::Comparison;
+use inputs::Mode;
 use rules::RoomKind;
 use settings::Settings;
 
@@ -119,7 +120,7 @@ pub extern "C" fn frostaxle_absolute_inc(
         (AbsoluteCalls.inc (settings window bucket cache factor) (now (room .entry)) reading (now (key .entry)) (rated rate) count)) n (now (row .exit))
         (now (room .exit)) ⌝ }
 {
-    let settings = rows::settings(window, bucket, cache, factor);
+    let settings = inputs::settings(window, bucket, cache, factor);
     let answer = absolute::inc(settings, room, reading, key, RateLimit(rate), count);
     rows::give(rows::decision_row(answer), row)
 }
@@ -140,7 +141,7 @@ pub extern "C" fn frostaxle_absolute_is_allowed(
         (AbsoluteCalls.isAllowed (settings window bucket cache factor) (now (room .entry)) reading (now (key .entry)))) n (now (row .exit))
         (now (room .exit)) ⌝ }
 {
-    let settings = rows::settings(window, bucket, cache, factor);
+    let settings = inputs::settings(window, bucket, cache, factor);
     let answer = absolute::is_allowed(settings, room, reading, key);
     rows::give(rows::decision_row(answer), row)
 }
@@ -160,7 +161,7 @@ pub extern "C" fn frostaxle_absolute_get(
     ensures { λ n. ⌜ Faced (shown totalRow (AbsoluteCalls.get (settings window bucket cache factor) (now (room .entry)) reading (now (key .entry)))) n
         (now (row .exit)) (now (room .exit)) ⌝ }
 {
-    let settings = rows::settings(window, bucket, cache, factor);
+    let settings = inputs::settings(window, bucket, cache, factor);
     let answer = absolute::get(settings, room, reading, key);
     rows::give(rows::total_row(answer), row)
 }
@@ -180,7 +181,7 @@ pub extern "C" fn frostaxle_absolute_set_rate_limit(
     ensures { λ n. ⌜ Faced (shown oldRateRow (setRateLimit Absolute (settings window bucket cache factor) (now (room .entry)) reading (now (key .entry))
         (rated rate))) n (now (row .exit)) (now (room .exit)) ⌝ }
 {
-    let settings = rows::settings(window, bucket, cache, factor);
+    let settings = inputs::settings(window, bucket, cache, factor);
     let answer = absolute::set_rate_limit(settings, room, reading, key, RateLimit(rate));
     rows::give(rows::old_rate_row(answer), row)
 }
@@ -199,7 +200,7 @@ pub extern "C" fn frostaxle_absolute_delete(
     ensures { λ n. ⌜ Faced (shown deleteRow (Delete.delete Absolute (settings window bucket cache factor) (now (room .entry)) reading
         (now (key .entry)))) n (now (row .exit)) (now (room .exit)) ⌝ }
 {
-    let settings = rows::settings(window, bucket, cache, factor);
+    let settings = inputs::settings(window, bucket, cache, factor);
     let answer = absolute::delete(settings, room, reading, key);
     rows::give(rows::delete_row(answer), row)
 }
@@ -217,7 +218,7 @@ pub extern "C" fn frostaxle_absolute_clear(
     ensures { λ n. ⌜ Faced (shown doneRow (Clear.clear (settings window bucket cache factor) (now (room .entry)) reading)) n (now (row .exit))
         (now (room .exit)) ⌝ }
 {
-    let settings = rows::settings(window, bucket, cache, factor);
+    let settings = inputs::settings(window, bucket, cache, factor);
     let answer = absolute::clear(settings, room, reading);
     rows::give(rows::done_row(answer), row)
 }
@@ -241,8 +242,8 @@ pub extern "C" fn frostaxle_absolute_set_if(
         (λ c m. Set.set Absolute (settings window bucket cache factor) (now (room .entry)) reading (now (key .entry)) (rated rate) c count m)) n
         (now (row .exit)) (now (room .exit)) ⌝ }
 {
-    let settings = rows::settings(window, bucket, cache, factor);
-    let comparison = rows::comparison_of(comparator, operand);
+    let settings = inputs::settings(window, bucket, cache, factor);
+    let comparison = inputs::comparison_of(comparator, operand);
     let mode = Mode::Named(HistoryUpdateMode::Replace);
     set(
         RoomKind::Absolute,
@@ -278,9 +279,9 @@ pub extern "C" fn frostaxle_absolute_set_if_preserve_history(
         (λ c m. Set.set Absolute (settings window bucket cache factor) (now (room .entry)) reading (now (key .entry)) (rated rate) c count m)) n
         (now (row .exit)) (now (room .exit)) ⌝ }
 {
-    let settings = rows::settings(window, bucket, cache, factor);
-    let comparison = rows::comparison_of(comparator, operand);
-    let mode = rows::preserving(preservation);
+    let settings = inputs::settings(window, bucket, cache, factor);
+    let comparison = inputs::comparison_of(comparator, operand);
+    let mode = inputs::preserving(preservation);
     set(
         RoomKind::Absolute,
         settings,
@@ -310,7 +311,7 @@ pub extern "C" fn frostaxle_absolute_cleanup(
     ensures { λ n. ⌜ Faced (shown doneRow (Cleanup.cleanup Absolute (settings window bucket cache factor) (now (room .entry)) reading stale)) n
         (now (row .exit)) (now (room .exit)) ⌝ }
 {
-    let settings = rows::settings(window, bucket, cache, factor);
+    let settings = inputs::settings(window, bucket, cache, factor);
     let answer = absolute::cleanup(settings, room, reading, stale);
     rows::give(rows::done_row(answer), row)
 }
@@ -336,7 +337,7 @@ pub extern "C" fn frostaxle_suppressed_inc(
         (SuppressedCalls.inc (settings window bucket cache factor) (now (room .entry)) reading (now (key .entry)) (rated rate) count draw)) n
         (now (row .exit)) (now (room .exit)) ⌝ }
 {
-    let settings = rows::settings(window, bucket, cache, factor);
+    let settings = inputs::settings(window, bucket, cache, factor);
     let answer = suppressed::inc(settings, room, reading, key, RateLimit(rate), count, draw);
     rows::give(rows::decision_row(answer), row)
 }
@@ -356,7 +357,7 @@ pub extern "C" fn frostaxle_suppressed_get(
     ensures { λ n. ⌜ Faced (shown snapshotRow (SuppressedCalls.get (settings window bucket cache factor) (now (room .entry)) reading (now (key .entry)))) n
         (now (row .exit)) (now (room .exit)) ⌝ }
 {
-    let settings = rows::settings(window, bucket, cache, factor);
+    let settings = inputs::settings(window, bucket, cache, factor);
     let answer = suppressed::get(settings, room, reading, key);
     rows::give(rows::snapshot_row(answer), row)
 }
@@ -376,7 +377,7 @@ pub extern "C" fn frostaxle_suppressed_get_suppression_factor(
     ensures { λ n. ⌜ Faced (shown factorRow (SuppressedCalls.getFactor (settings window bucket cache factor) (now (room .entry)) reading
         (now (key .entry)))) n (now (row .exit)) (now (room .exit)) ⌝ }
 {
-    let settings = rows::settings(window, bucket, cache, factor);
+    let settings = inputs::settings(window, bucket, cache, factor);
     let answer = suppressed::get_suppression_factor(settings, room, reading, key);
     rows::give(rows::factor_row(answer), row)
 }
@@ -396,7 +397,7 @@ pub extern "C" fn frostaxle_suppressed_set_rate_limit(
     ensures { λ n. ⌜ Faced (shown oldRateRow (setRateLimit Suppressed (settings window bucket cache factor) (now (room .entry)) reading (now (key .entry))
         (rated rate))) n (now (row .exit)) (now (room .exit)) ⌝ }
 {
-    let settings = rows::settings(window, bucket, cache, factor);
+    let settings = inputs::settings(window, bucket, cache, factor);
     let answer = suppressed::set_rate_limit(settings, room, reading, key, RateLimit(rate));
     rows::give(rows::old_rate_row(answer), row)
 }
@@ -415,7 +416,7 @@ pub extern "C" fn frostaxle_suppressed_delete(
     ensures { λ n. ⌜ Faced (shown deleteRow (Delete.delete Suppressed (settings window bucket cache factor) (now (room .entry)) reading
         (now (key .entry)))) n (now (row .exit)) (now (room .exit)) ⌝ }
 {
-    let settings = rows::settings(window, bucket, cache, factor);
+    let settings = inputs::settings(window, bucket, cache, factor);
     let answer = suppressed::delete(settings, room, reading, key);
     rows::give(rows::delete_row(answer), row)
 }
@@ -433,7 +434,7 @@ pub extern "C" fn frostaxle_suppressed_clear(
     ensures { λ n. ⌜ Faced (shown doneRow (Clear.clear (settings window bucket cache factor) (now (room .entry)) reading)) n (now (row .exit))
         (now (room .exit)) ⌝ }
 {
-    let settings = rows::settings(window, bucket, cache, factor);
+    let settings = inputs::settings(window, bucket, cache, factor);
     let answer = suppressed::clear(settings, room, reading);
     rows::give(rows::done_row(answer), row)
 }
@@ -457,8 +458,8 @@ pub extern "C" fn frostaxle_suppressed_set_if(
         (λ c m. Set.set Suppressed (settings window bucket cache factor) (now (room .entry)) reading (now (key .entry)) (rated rate) c count m)) n
         (now (row .exit)) (now (room .exit)) ⌝ }
 {
-    let settings = rows::settings(window, bucket, cache, factor);
-    let comparison = rows::comparison_of(comparator, operand);
+    let settings = inputs::settings(window, bucket, cache, factor);
+    let comparison = inputs::comparison_of(comparator, operand);
     let mode = Mode::Named(HistoryUpdateMode::Replace);
     set(
         RoomKind::Suppressed,
@@ -494,9 +495,9 @@ pub extern "C" fn frostaxle_suppressed_set_if_preserve_history(
         (λ c m. Set.set Suppressed (settings window bucket cache factor) (now (room .entry)) reading (now (key .entry)) (rated rate) c count m)) n
         (now (row .exit)) (now (room .exit)) ⌝ }
 {
-    let settings = rows::settings(window, bucket, cache, factor);
-    let comparison = rows::comparison_of(comparator, operand);
-    let mode = rows::preserving(preservation);
+    let settings = inputs::settings(window, bucket, cache, factor);
+    let comparison = inputs::comparison_of(comparator, operand);
+    let mode = inputs::preserving(preservation);
     set(
         RoomKind::Suppressed,
         settings,
@@ -526,7 +527,7 @@ pub extern "C" fn frostaxle_suppressed_cleanup(
     ensures { λ n. ⌜ Faced (shown doneRow (Cleanup.cleanup Suppressed (settings window bucket cache factor) (now (room .entry)) reading stale)) n
         (now (row .exit)) (now (room .exit)) ⌝ }
 {
-    let settings = rows::settings(window, bucket, cache, factor);
+    let settings = inputs::settings(window, bucket, cache, factor);
     let answer = suppressed::cleanup(settings, room, reading, stale);
     rows::give(rows::done_row(answer), row)
 }
@@ -549,7 +550,7 @@ pub extern "C" fn frostaxle_provider_cleanup(
     ensures { λ n. ⌜ Faced (shownBoth (Provider.cleanup (settings window bucket cache factor) (now (absolute .entry))
         (now (suppressed .entry)) reading stale)) n (now (row .exit)) (now (absolute .exit), now (suppressed .exit)) ⌝ }
 {
-    let settings = rows::settings(window, bucket, cache, factor);
+    let settings = inputs::settings(window, bucket, cache, factor);
     let answer = provider::cleanup(settings, absolute, suppressed, reading, stale);
     rows::give(rows::done_row(answer), row)
 }
@@ -560,7 +561,7 @@ pub extern "C" fn frostaxle_provider_cleanup(
 fn bucket_row(kind: RoomKind, settings: Settings, room: &[u64], key: &[u8], at: usize) -> [u64; 5]
     ensures { λ r. ⌜ r ≡ bucketRow kind settings (now (room .entry)) (now (key .entry)) at ⌝ }
 {
-    let found = readout::find_series(kind, settings, room, key);
+    let found = finding::find_series(kind, settings, room, key);
     let code = found.code;
     let slot = found.slot;
     let count = found.count;
@@ -570,7 +571,7 @@ fn bucket_row(kind: RoomKind, settings: Settings, room: &[u64], key: &[u8], at: 
     if count <= at {
         return [0, 2, 0, 0, 0];
     }
-    let bucket = readout::bucket_at(room, slot, at);
+    let bucket = finding::bucket_at(room, slot, at);
     [0, 1, bucket.count, bucket.declined, bucket.time]
 }
 
@@ -587,7 +588,7 @@ pub extern "C" fn frostaxle_absolute_bucket(
 ) -> u64
     ensures { λ n. ⌜ Given (bucketRow Absolute (settings window bucket cache factor) (now (room .entry)) (now (key .entry)) at) n (now (row .exit)) ⌝ }
 {
-    let settings = rows::settings(window, bucket, cache, factor);
+    let settings = inputs::settings(window, bucket, cache, factor);
     rows::give(bucket_row(RoomKind::Absolute, settings, room, key, at), row)
 }
 
@@ -604,7 +605,7 @@ pub extern "C" fn frostaxle_suppressed_bucket(
 ) -> u64
     ensures { λ n. ⌜ Given (bucketRow Suppressed (settings window bucket cache factor) (now (room .entry)) (now (key .entry)) at) n (now (row .exit)) ⌝ }
 {
-    let settings = rows::settings(window, bucket, cache, factor);
+    let settings = inputs::settings(window, bucket, cache, factor);
     rows::give(
         bucket_row(RoomKind::Suppressed, settings, room, key, at),
         row,

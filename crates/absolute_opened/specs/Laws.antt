@@ -4,8 +4,8 @@ use mathlib.Core.Path.{_≡_, ap, _∙_}
 use mathlib.Core.Bool.{Bool, true}
 use Prim.Native.Nat.{ℕ}
 use Rattle.change.specs.declared.Change.the-variants.{Update, Take}
-use Rattle.change.specs.declared.Then.the-variants.{Nothing, Increment}
-use Rattle.judge.specs.declared.Slot.{Slot}
+use Rattle.edit.specs.declared.Then.the-variants.{Nothing, Increment}
+use Rattle.opened.specs.declared.Slot.{Slot}
 use Rattle.plan.specs.Plan.{evicting, opening}
 use Rattle.absolute_opened.specs.Opened.{leaving, pickChange, incChange}
 

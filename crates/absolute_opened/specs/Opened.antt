@@ -1,55 +1,26 @@
--- The absolute limiter's decisions as the code makes them, on a key's slot x that is opened at reading t; n is the key's limit cut to a whole number, r the
--- ring, b the bucket size, c the count. They are the rules' (`Seen.antt`), and no contract of a call names them but for the edits.
+-- An absolute increment's late refusals, and what each call changes, as the code decides them on a key's slot x that is opened at
+-- reading t; n is the key's limit cut to a whole number, r the ring, b the bucket size, c the count. They are the rules'
+-- (`absolute_verdicts/specs/Seen.antt`), and no contract of a call names them but for the edits.
 -- Assumes nothing.
-use mathlib.Core.Bool.{Bool, true, false, not, _&&_, _||_, cond}
+use mathlib.Core.Bool.{Bool, true, false, not, _&&_, _||_}
 use mathlib.Core.List.{List, [], _∷_}
-use Prim.Native.Nat.{ℕ, _-_}
-use lib.Dec.{ltb}
-use Rattle.answers.specs.declared.RateLimitDecision.{RateLimitDecision}
-use Rattle.answers.specs.declared.RateLimitDecision.the-variants.{Allowed, Rejected}
-use Rattle.common.specs.declared.units.WindowSize.{WindowSize}
-use Rattle.rules.specs.Buckets.{windowTicks}
+use Prim.Native.Nat.{ℕ}
 use Rattle.rules.specs.Both.{passes}
-use Rattle.rules.specs.Absolute.{below, pickDecision}
 use Rattle.change.specs.declared.Change.{Change}
 use Rattle.change.specs.declared.Change.the-variants.{Keep, Update, Take}
-use Rattle.change.specs.declared.Edit.{Edit}
-use Rattle.change.specs.declared.Then.{Then}
-use Rattle.change.specs.declared.Then.the-variants.{Nothing, Increment}
-use Rattle.judge.specs.declared.Slot.{Slot}
+use Rattle.edit.specs.declared.Edit.{Edit}
+use Rattle.edit.specs.declared.Then.{Then}
+use Rattle.edit.specs.declared.Then.the-variants.{Nothing, Increment}
+use Rattle.opened.specs.declared.Slot.{Slot}
 use Rattle.plan.specs.Plan.{fullAfter, keeping, evicting, opening}
+use Rattle.absolute_test.specs.Test.{evicts, goneIf, totalIf}
 
 -- ---- with the expired buckets out, or not
-
--- how many buckets are gone
-abbrev pub goneIf : Bool → Slot → ℕ
-goneIf out x = cond out (x .pass .expired) 0
-
--- the total of those that stay
-abbrev pub totalIf : Bool → Slot → ℕ
-totalIf out x = cond out (x .pass .«live_total») (x .total)
 
 -- the slot with them, and then
 abbrev pub leaving : Bool → Slot → Then → Edit
 leaving true x then = evicting x then
 leaving false x then = keeping x then
-
--- ---- who is allowed
-
-unfoldable pub evicts : ℕ → Slot → Bool
-evicts n x = not (below n (x .total))
-
-unfoldable pub allowedAt : ℕ → Slot → Bool
-allowedAt n x = not (x .series) || below n (totalIf (evicts n x) x)
-
-unfoldable pub rejectedAt : WindowSize → ℕ → Slot → RateLimitDecision
-rejectedAt window t x =
-    pickDecision (ltb (x .pass .expired) (x .pass .buckets))
-    (Rejected window (windowTicks (window .0) - (t - x .pass .oldest .time)) (x .pass .oldest .count))
-    (Rejected window 0 0)
-
-unfoldable pub decidedAt : WindowSize → ℕ → Bool → Slot → RateLimitDecision
-decidedAt window t may x = pickDecision may Allowed (rejectedAt window t x)
 
 -- ---- an increment; may says whether it is allowed, out whether the expired buckets are out
 

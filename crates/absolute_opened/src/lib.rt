@@ -1,45 +1,23 @@
-// The absolute limiter's decisions on a key's slot that is opened: who is allowed, what a rejection carries, which refusals an increment meets, and
-// what each call changes. `limit` is the key's limit, cut to a whole number once by the caller. The calls stand above, in `absolute`.
+// The absolute limiter's decisions on a key's slot that is opened: which refusals an increment meets, and what each call changes.
+// `limit` is the key's limit, cut to a whole number once by the caller. The test stands below, in `absolute_test`; the calls above, in `absolute_reads` and `absolute_inc`.
 ghost use mathlib.Core.Path.{_≡_};
 ghost use mathlib.Core.Bool.{_&&_};
-ghost use Prim.Native.Nat.{_≤_};
 ghost use Rattle.common.specs.Limits.{absoluteWord};
 ghost use Rattle.common.specs.Ranges.{rateOk};
 ghost use Rattle.common.specs.Refusals.{first};
 ghost use Rattle.room.specs.Room.{Room, ringOf};
 ghost use Rattle.plan.specs.Plan.{lacksAt};
-ghost use Rattle.rules.specs.Absolute.{below};
-ghost use Rattle.absolute_opened.specs.Opened.{goneIf, totalIf, leaving, evicts, allowedAt, rejectedAt, decidedAt, crowdsAt, clearsAt};
-ghost use Rattle.absolute_opened.specs.Opened.{inOrder, incRefusals, getChange, askChange, incChange};
-use answers::RateLimitDecision;
+ghost use Rattle.absolute_opened.specs.Opened.{leaving, crowdsAt, clearsAt, inOrder, incRefusals, getChange, askChange, incChange};
+ghost use Rattle.absolute_test.specs.Test.{evicts};
+use absolute_test::evicts;
+use absolute_test::gone_if;
+use absolute_test::total_if;
 use change::Change;
-use change::Edit;
-use change::Then;
 use common::RateLimit;
 use common::WindowSize;
-use judge::Slot;
-
-// How many buckets are gone, where the expired ones are out or not.
-fn gone_if(out: bool, x: Slot) -> usize
-    ensures { λ r. ⌜ r ≡ goneIf out x ⌝ }
-{
-    let pass = x.pass;
-    if !out {
-        return 0;
-    }
-    pass.expired
-}
-
-// The total of those that stay.
-fn total_if(out: bool, x: Slot) -> u64
-    ensures { λ r. ⌜ r ≡ totalIf out x ⌝ }
-{
-    let pass = x.pass;
-    if !out {
-        return x.total;
-    }
-    pass.live_total
-}
+use edit::Edit;
+use edit::Then;
+use opened::Slot;
 
 fn leaving(out: bool, x: Slot, then: Then) -> Edit
     ensures { λ e. ⌜ e ≡ leaving out x then ⌝ }
@@ -48,66 +26,6 @@ fn leaving(out: bool, x: Slot, then: Then) -> Edit
         return plan::evicting(x, then);
     }
     plan::keeping(x, then)
-}
-
-fn is_below(limit: u64, total: u64) -> bool
-    ensures { λ r. ⌜ r ≡ below limit total ⌝ }
-{
-    total < limit
-}
-
-// Whether the test is made again, with the expired buckets out.
-pub fn evicts(limit: u64, x: Slot) -> bool
-    ensures { λ r. ⌜ r ≡ evicts limit x ⌝ }
-{
-    !is_below(limit, x.total)
-}
-
-pub fn allows(limit: u64, x: Slot) -> bool
-    ensures { λ r. ⌜ r ≡ allowedAt limit x ⌝ }
-{
-    let series = x.series;
-    if !series {
-        return true;
-    }
-    is_below(limit, total_if(evicts(limit, x), x))
-}
-
-// A rejection, with the wait for the oldest live bucket and its count.
-fn rejected(window: WindowSize, reading: u64, x: Slot) -> RateLimitDecision
-    requires { ⌜ window .0 ≤ 33554432 ⌝ }
-    ensures { λ r. ⌜ r ≡ rejectedAt window reading x ⌝ }
-{
-    let pass = x.pass;
-    let buckets = pass.buckets;
-    let expired = pass.expired;
-    let oldest = pass.oldest;
-    if buckets <= expired {
-        return RateLimitDecision::Rejected {
-            window_size: window,
-            retry_after: 0,
-            remaining_after_waiting: 0,
-        };
-    }
-    RateLimitDecision::Rejected {
-        window_size: window,
-        retry_after: ring::less(
-            sweep::TICKS_PER_SECOND * window.0,
-            ring::less(reading, oldest.time),
-        ),
-        remaining_after_waiting: oldest.count,
-    }
-}
-
-// The decision of a key that may or may not.
-pub fn decided(window: WindowSize, reading: u64, may: bool, x: Slot) -> RateLimitDecision
-    requires { ⌜ window .0 ≤ 33554432 ⌝ }
-    ensures { λ r. ⌜ r ≡ decidedAt window reading may x ⌝ }
-{
-    if may {
-        return RateLimitDecision::Allowed;
-    }
-    rejected(window, reading, x)
 }
 
 // Whether an increment of the buckets as they are stored would meet 10 or 12.

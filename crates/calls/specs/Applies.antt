@@ -17,14 +17,17 @@ use Rattle.ring.specs.Ring.{countOf}
 use Rattle.ring.specs.Sums.{sum-none}
 use Rattle.rules.specs.declared.RoomKind.{RoomKind}
 use Rattle.room.specs.Room.{Room, slotsOf, ringOf}
-use Rattle.change.specs.declared.Then.the-variants as then
+use Rattle.edit.specs.declared.Then.the-variants as then
 use Rattle.change.specs.declared.Change.the-variants.{Keep, Free, Update, Take}
-use Rattle.change.specs.Words.{Applies, EditsAt, Fits}
-use Rattle.judge.specs.declared.Slot.{Slot}
-use Rattle.judge.specs.Judge.{Passed, hasSlot, slotIn}
+use Rattle.change.specs.Words.{Applies, EditsAt}
+use Rattle.edit.specs.Bodies.{Fits}
+use Rattle.opened.specs.declared.Slot.{Slot}
+use Rattle.judge.specs.Judge.{Passed, slotIn}
+use Rattle.opened.specs.Slot.{hasSlot}
 use Rattle.plan.specs.Known.{keeping-edits, evicting-edits, opening-edits}
-use Rattle.plan.specs.Plan.{placeOf, lacksAt, keeping}
-use Rattle.shared_opened.specs.Opened.{deleting, usedWith, relimited, limiting, vain, idleAt, metAt, reset, begins, stored, setting}
+use Rattle.plan.specs.Plan.{placeOf, lacksAt, keeping, relimited}
+use Rattle.shared_opened.specs.Opened.{deleting, usedWith, limiting}
+use Rattle.sets_opened.specs.Sets.{vain, idleAt, metAt, reset, begins, stored, setting}
 use Rattle.calls.specs.Calls.{slot-within, known-at}
 
 pub delete-applies : (kind : RoomKind) (s : Settings) (w : List ℕ) (t : ℕ) (key : List ℕ) → Passed kind s w t key →

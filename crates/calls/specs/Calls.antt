@@ -15,9 +15,10 @@ use Rattle.change.specs.declared.Change.{Change}
 use Rattle.change.specs.Words.{Applies}
 use Rattle.rules.specs.declared.RoomKind.{RoomKind}
 use Rattle.judge.specs.declared.Judged.{Judged}
-use Rattle.judge.specs.declared.Slot.{Slot}
-use Rattle.judge.specs.Sound.{addressed}
-use Rattle.judge.specs.Judge.{early, judged, Passed, hasSlot, slotIn}
+use Rattle.opened.specs.declared.Slot.{Slot}
+use Rattle.opened.specs.Sound.{addressed}
+use Rattle.judge.specs.Judge.{early, judged, Passed, slotIn}
+use Rattle.opened.specs.Slot.{hasSlot}
 use Rattle.judge.specs.Laws.{code-is, slot-is, passed}
 use Rattle.judge.specs.Verdict.{Verdict, Told, call, call-early, call-own, call-done}
 use Rattle.plan.specs.Known.{Found, Known, found, none, at-as, series-known}

@@ -1,5 +1,4 @@
 pub mod Calls
-pub mod Clear
 pub mod Delete
 pub mod Rate
 pub mod Set

@@ -21,10 +21,11 @@ use Rattle.rules.specs.declared.RoomKind.{RoomKind}
 use Rattle.rules.specs.Both.{limitIn}
 use Rattle.rules.specs.Sets.{rateTurns}
 use Rattle.change.specs.Words.{applied}
-use Rattle.judge.specs.declared.Slot.{Slot}
+use Rattle.opened.specs.declared.Slot.{Slot}
 use Rattle.judge.specs.Verdict.{Verdict, verdict}
 use Rattle.plan.specs.Plan.{placeOf, lacksAt}
-use Rattle.shared_opened.specs.Opened.{deletedAt, deleting, oldRateAt, limiting, idleAt, outcomeAt, setting, setOwn}
+use Rattle.shared_opened.specs.Opened.{deletedAt, deleting, oldRateAt, limiting}
+use Rattle.sets_opened.specs.Sets.{idleAt, outcomeAt, setting, setOwn}
 use Rattle.calls.specs.Calls.{calls}
 
 -- ---- delete

@@ -23,19 +23,20 @@ use Rattle.answers.specs.declared.OldRateAnswer.the-variants as old
 use Rattle.answers.specs.declared.SetAnswer.the-variants as sets
 use Rattle.rules.specs.Buckets.{ahead, gone, live}
 use Rattle.ring.specs.declared.Bucket.{Bucket}
-use Rattle.ring.specs.Ring.{sumOf, counts, declineds}
+use Rattle.ring.specs.Ring.{sumOf, counts}
 use Rattle.rules.specs.declared.RoomKind.{RoomKind}
-use Rattle.rules.specs.Held.{Held, lacksSlot}
-use Rattle.rules.specs.Both.{limitIn, divisor, liveOf}
+use Rattle.rules.specs.Held.{Held}
+use Rattle.rules.specs.Both.{limitIn, divisor}
 use Rattle.rules.specs.Sets as rules
 use Rattle.change.specs.Words.{applied}
-use Rattle.judge.specs.declared.Slot.{Slot}
-use Rattle.judge.specs.Held.{heldIn, noneFree}
-use Rattle.judge.specs.Judge.{Passed, slotIn}
+use Rattle.opened.specs.declared.Slot.{Slot}
+use Rattle.judge.specs.Held.{heldIn}
+use Rattle.judge.specs.Judge.{slotIn}
 use Rattle.judge.specs.Verdict.{call-alike}
-use Rattle.plan.specs.Plan.{placeOf, lacksAt}
+use Rattle.plan.specs.Plan.{placeOf}
 use Rattle.plan.specs.Seen.{Seen, seen, lacks-is}
-use Rattle.shared_opened.specs.Opened.{deletedAt, deleting, oldRateAt, limiting, alreadyAt, vain, idleAt, outcomeAt, setting, setOwn}
+use Rattle.shared_opened.specs.Opened.{deletedAt, oldRateAt}
+use Rattle.sets_opened.specs.Sets.{alreadyAt, idleAt, outcomeAt, setting, setOwn}
 use Rattle.calls.specs.Delete as Delete
 use Rattle.calls.specs.Rate as Rate
 use Rattle.calls.specs.Set as Set

@@ -17,7 +17,7 @@ use Rattle.judge.specs.Held.{heldIn, noneFree}
 use Rattle.judge.specs.Judge.{slotIn}
 use Rattle.judge.specs.Verdict.{Verdict, verdict, call}
 use Rattle.plan.specs.Plan.{placeOf}
-use Rattle.shared_opened.specs.Opened.{setting}
+use Rattle.sets_opened.specs.Sets.{setting}
 
 unfoldable pub set : RoomKind → Settings → List ℕ → ℕ → List ℕ → RateLimit → RateLimitComparator → ℕ → HistoryUpdateMode → Verdict SetAnswer
 set kind s w t key rate comparator count mode =

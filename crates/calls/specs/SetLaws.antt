@@ -1,6 +1,6 @@
 -- What the code of a set works out on the way is what `set` says.
 -- Assumes nothing.
-use mathlib.Core.Path.{_≡_, refl, sym, ap, ap₂, subst, _∙_}
+use mathlib.Core.Path.{_≡_, sym, ap, ap₂, subst, _∙_}
 use mathlib.Core.Bool.{Bool, not, _&&_}
 use mathlib.Core.List.{List}
 use Prim.Native.Nat.{ℕ}
@@ -20,11 +20,11 @@ use Rattle.rules.specs.Both.{limitIn}
 use Rattle.change.specs.declared.Change.{Change}
 use Rattle.change.specs.Words.{applied, Applies}
 use Rattle.judge.specs.declared.Judged.{Judged}
-use Rattle.judge.specs.declared.Slot.{Slot}
+use Rattle.opened.specs.declared.Slot.{Slot}
 use Rattle.judge.specs.Judge.{judged, slotIn}
 use Rattle.judge.specs.Verdict.{Told, told-as}
 use Rattle.plan.specs.Plan.{placeOf, lacksAt}
-use Rattle.shared_opened.specs.Opened.{idleAt, outcomeAt, setting, setOwn}
+use Rattle.sets_opened.specs.Sets.{idleAt, outcomeAt, setting, setOwn}
 use Rattle.calls.specs.Calls.{judged-passed, judged-slot, judged-own, judged-done}
 use Rattle.calls.specs.Opened.{setOwnOf, sets}
 use Rattle.calls.specs.Applies.{set-applies}

@@ -1,59 +1,27 @@
-// The calls that both limiters share: clear, delete, setting a rate and setting a total. The room's kind says whose limit is meant.
-ghost use mathlib.Core.Path.{_≡_};
+// The calls with a key that both limiters share: delete, setting a rate and setting a total. The room's kind says whose limit is meant.
 ghost use Rattle.judge.specs.Verdict.{Told};
-ghost use Rattle.calls.specs.Clear.{clearRefusal, clear};
 ghost use Rattle.calls.specs.Delete.{delete};
 ghost use Rattle.calls.specs.Rate.{setRateLimit};
 ghost use Rattle.calls.specs.Set.{set};
 use answers::DeleteAnswer;
-use answers::DoneAnswer;
 use answers::HistoryUpdateMode;
 use answers::OldRateAnswer;
 use answers::SetAnswer;
 use common::RateLimit;
 use common::RateLimitComparator;
 use rules::RoomKind;
+use sets_opened::idle;
+use sets_opened::lacks_unless;
+use sets_opened::outcome;
+use sets_opened::set_refusal;
+use sets_opened::setting;
 use settings::Settings;
 use shared_opened::deleted;
 use shared_opened::deleting;
-use shared_opened::idle;
-use shared_opened::lacks_unless;
 use shared_opened::limit_of;
 use shared_opened::limiting;
 use shared_opened::old_rate;
-use shared_opened::outcome;
 use shared_opened::rate_refusal;
-use shared_opened::set_refusal;
-use shared_opened::setting;
-
-// The first of refusals 1 to 6 that applies, or 0: slots are not judged.
-fn clear_refusal(settings: Settings, w: &[u64], reading: u64) -> u64
-    ensures { λ n. ⌜ n ≡ clearRefusal settings (now (w .entry)) reading ⌝ }
-{
-    let n = settings.refusal();
-    if n != 0 {
-        return n;
-    }
-    if !room::sized(w) {
-        return 5;
-    }
-    if reading < w[layout::LAST] {
-        return 6;
-    }
-    0
-}
-
-pub fn clear(settings: Settings, room: &mut [u64], reading: u64) -> DoneAnswer
-    ensures { λ r. ⌜ Told (clear settings (now (room .entry)) reading) r (now (room .exit)) ⌝ }
-{
-    let code = clear_refusal(settings, room, reading);
-    if code != 0 {
-        return DoneAnswer::Refused(code);
-    }
-    room::clear(room);
-    room::store_reading(room, reading);
-    DoneAnswer::Done
-}
 
 pub fn delete(
     kind: RoomKind,

@@ -1,37 +1,33 @@
 -- What the code has tested, turned into what the definitions say; and what is known of a cleanup that is not refused.
 -- Assumes nothing.
 use mathlib.Core.Path.{_≡_, refl, sym, ap, _∙_}
-use mathlib.Core.Bool.{Bool, true, false, not, _||_, cond, false≢true}
+use mathlib.Core.Bool.{Bool, true, false, not, _||_, false≢true}
 use mathlib.Core.List.{List}
 use mathlib.Core.Logic.{_≢_}
-use Prim.Native.Nat.{ℕ, _+_, _-_, _≤_, _<_}
+use Prim.Native.Nat.{ℕ, _-_, _≤_, _<_}
 use native.Mathlib.Omega.{arith}
-use lib.ListN.{length, getD}
-use lib.Dec.{leb, eqb}
-use borrow.Author.Tests.{ne-eqb, eqb-true, eqb-false, lt-ltb, le-ltb, ltb-false, le-leb, leb-true, not-false}
+use lib.Dec.{eqb}
+use borrow.Author.Tests.{eqb-true, eqb-false, lt-ltb, le-ltb, ltb-false, not-false}
 use Rattle.base.specs.Decides.{other-true, and-true, not-so}
 use Rattle.common.specs.Refusals.{first, Positive, first-found, first-none, all-false}
 use Rattle.settings.specs.Settings.{windowIn, faults, Proper, proper, unrefused}
 use Rattle.answers.specs.declared.DoneAnswer.the-variants.{Done, Refused}
 use Rattle.settings.specs.declared.Settings.{Settings}
-use Rattle.rules.specs.Buckets.{newest}
-use Rattle.ring.specs.declared.Bucket.{Bucket}
-use Rattle.ring.specs.Ring.{Shape, noBucket, lenOf, buckets}
-use Rattle.ring.specs.View.{view-length}
+use Rattle.ring.specs.Ring.{Shape}
 use Rattle.ring.specs.Sound.{soundBuckets, sound-true}
 use Rattle.room.specs.Room.{Room, slotsOf, ringOf, lastOf, useOf, keySound, bodyOf, sized}
 use Rattle.room.specs.Entries.{free-yes, free-no}
 use Rattle.room.specs.Laws.{room-sized, sized-room}
 use Rattle.rules.specs.declared.RoomKind.{RoomKind}
-use Rattle.judge.specs.declared.Slot.{Slot}
+use Rattle.opened.specs.declared.Slot.{Slot}
 use Rattle.judge.specs.Laws.{faults-positive}
-use Rattle.judge.specs.Right.{slotRight, slot-here, right-is}
-use Rattle.judge.specs.Slot.{slotOf}
-use Rattle.judge.specs.Sound.{factorTimeOf, hasSeries, hasCached, rightUse, soundSeries, soundCached, soundSlot}
+use Rattle.opened.specs.Right.{slotRight, slot-here, right-is}
+use Rattle.opened.specs.Slot.{slotOf}
+use Rattle.opened.specs.Sound.{hasSeries, hasCached, rightUse, soundSeries, soundCached, soundSlot}
 use Rattle.cleanup.specs.Every.{every-at}
 use Rattle.judge.specs.Verdict.{verdict, Told, told-turned, told-done}
-use Rattle.cleanup.specs.Cleanup.{seriesUse, factorUse, useAfter, cleaned, Ready, slotPasses, allPass, misfits, refusal, cleanup}
-use Rattle.rules.specs.Stale.{seriesStays, factorStays}
+use Rattle.cleanup.specs.Cleanup.{slotPasses, allPass, misfits, refusal, cleanup}
+use Rattle.stale.specs.Uses.{cleaned, Ready}
 
 -- ---- one slot
 
@@ -150,70 +146,6 @@ passed-ready kind s w t p = record {
       let q = sound-parts kind s w i (passed-sound kind s w t p i h (has-some (useOf w i) e)) in
       series-shape kind s (ringOf w) (lastOf w) (bodyOf w i) (other-true (hasSeries (useOf w i)) _ e (q .series));
 }
-
--- ---- what stays
-
-module _ (xs : List Bucket) (t stale : ℕ) where
-  pub series-none : length xs ≡ 0 → 0 ≡ seriesUse xs t stale
-  unfolding seriesStays
-  series-none e = sym (rw e)
-
-  pub series-old : 0 < length xs → stale < t - newest xs .time → 0 ≡ seriesUse xs t stale
-  unfolding seriesStays
-  series-old h l = sym (rw (lt-ltb 0 (length xs) h, leb-lt (t - newest xs .time) stale l))
-    where
-      leb-lt : (a b : ℕ) → b < a → leb a b ≡ false
-      leb-lt a b l = not-so (leb a b) (λ e. omega (arith, leb-true a b e))
-
-  pub series-young : 0 < length xs → t - newest xs .time ≤ stale → 1 ≡ seriesUse xs t stale
-  unfolding seriesStays
-  series-young h l = sym (rw (lt-ltb 0 (length xs) h, le-leb (t - newest xs .time) stale l))
-
-module _ (time t stale : ℕ) where
-  pub factor-young : t - time < stale → 2 ≡ factorUse time t stale
-  unfolding factorStays
-  factor-young l = sym (rw (lt-ltb (t - time) stale l))
-
-  pub factor-old : stale ≤ t - time → 0 ≡ factorUse time t stale
-  unfolding factorStays
-  factor-old l = sym (rw (le-ltb (t - time) stale l))
-
--- the newest of n buckets, as it is read
-pub newest-time : (r : ℕ) (b : List ℕ) (n : ℕ) (x : Bucket) → n ≡ lenOf b → x ≡ getD (buckets r b) (n - 1) noBucket → x .time ≡ newest (buckets r b) .time
-newest-time r b n x e f =
-    ap (λ (y : Bucket). y .time) (f ∙ ap (λ (k : ℕ). getD (buckets r b) (k - 1) noBucket) (e ∙ sym (view-length r b)))
-
-pub series-few : (xs : List Bucket) (t stale : ℕ) → seriesUse xs t stale ≤ 1
-series-few xs t stale = go (seriesStays xs t stale)
-  where
-    go : (b : Bool) → cond b 1 0 ≤ 1
-    go true = omega arith
-    go false = omega arith
-
-pub factor-few : (time t stale : ℕ) → factorUse time t stale ≤ 2
-factor-few time t stale = go (factorStays time t stale)
-  where
-    go : (b : Bool) → cond b 2 0 ≤ 2
-    go true = omega arith
-    go false = omega arith
-
--- the use afterwards, by the use before
-module _ (r u : ℕ) (b : List ℕ) (t stale : ℕ) where
-  pub after-series : (x : ℕ) → u ≡ 1 → x ≡ seriesUse (buckets r b) t stale → x ≡ useAfter r u b t stale
-  unfolding useAfter
-  after-series x e f = rw e (omega arith)
-
-  pub after-factor : (x : ℕ) → u ≡ 2 → x ≡ factorUse (factorTimeOf b) t stale → x ≡ useAfter r u b t stale
-  unfolding useAfter
-  after-factor x e f = rw e (omega arith)
-
-  pub after-both : (x y : ℕ) → u ≡ 3 → x ≡ seriesUse (buckets r b) t stale → y ≡ factorUse (factorTimeOf b) t stale → x + y ≡ useAfter r u b t stale
-  unfolding useAfter
-  after-both x y e f g = rw e (omega arith)
-
-  pub after-other : u ≢ 1 → u ≢ 2 → u ≢ 3 → 0 ≡ useAfter r u b t stale
-  unfolding useAfter
-  after-other p q s = sym (rw (ne-eqb u 1 p, ne-eqb u 2 q, ne-eqb u 3 s))
 
 -- ---- the answer and the words
 

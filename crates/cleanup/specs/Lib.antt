@@ -1,4 +1,3 @@
 pub mod Every
 pub mod Cleanup
 pub mod Laws
-pub mod Swept

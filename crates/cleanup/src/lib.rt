@@ -1,13 +1,10 @@
 // Cleanup of a room: every slot in use is judged before the first write; then each keeps what is not stale. Only uses and the last reading change.
 ghost use mathlib.Core.Path.{_≡_};
-ghost use Prim.Native.Nat.{_+_, _*_, _<_, _≤_};
+ghost use Prim.Native.Nat.{_+_, _<_, _≤_};
 ghost use mathlib.Core.Bool.{true};
-ghost use lib.ListN.{length};
 ghost use Rattle.settings.specs.Settings.{windowIn, Proper};
-ghost use Rattle.ring.specs.Ring.{buckets, Shape};
 ghost use Rattle.room.specs.Room.{Room, slotsOf};
 ghost use Rattle.judge.specs.Verdict.{Told};
-ghost use Rattle.cleanup.specs.Cleanup.{seriesUse, factorUse, useAfter, useNext, swept, cleaned, Opens, Readable, Ready};
 ghost use Rattle.cleanup.specs.Cleanup.{slotPasses, allPass, refusal, cleanup};
 use answers::DoneAnswer;
 use rules::RoomKind;
@@ -26,8 +23,8 @@ fn slot_passes(kind: RoomKind, settings: Settings, w: &[u64], i: usize, reading:
     if !room::key_fits(w, i) {
         return false;
     }
-    let x = judge::open_at(w, i, reading, window.0);
-    judge::slot_right(kind, settings, w[layout::LAST], u, x)
+    let x = opened::open_at(w, i, reading, window.0);
+    opened::slot_right(kind, settings, w[layout::LAST], u, x)
 }
 
 fn all_pass(kind: RoomKind, settings: Settings, w: &[u64], reading: u64) -> bool
@@ -73,80 +70,6 @@ pub fn judge_all(kind: RoomKind, settings: Settings, w: &[u64], reading: u64) ->
     judge_room(kind, settings, w, reading)
 }
 
-// What a series adds to the use afterwards: only its newest bucket is read.
-fn series_use(b: &[u64], r: usize, reading: u64, stale: u64) -> u64
-    requires { ⌜ Shape r (now b) ⌝ }
-    ensures { λ x. ⌜ x ≡ seriesUse (buckets r (now (b .entry))) reading stale ⌝ }
-{
-    let n = ring::len(b, r);
-    if n == 0 {
-        return 0;
-    }
-    let newest = ring::nth_or_none(b, r, n - 1);
-    let time = newest.time;
-    if stale < ring::less(reading, time) {
-        return 0;
-    }
-    layout::SERIES
-}
-
-// What a cached factor adds.
-fn factor_use(time: u64, reading: u64, stale: u64) -> u64
-    ensures { λ x. ⌜ x ≡ factorUse time reading stale ⌝ }
-{
-    if ring::less(reading, time) < stale {
-        return layout::CACHED;
-    }
-    0
-}
-
-// The use afterwards of a slot of use `u`.
-fn use_after(b: &[u64], r: usize, u: u64, reading: u64, stale: u64) -> u64
-    requires { ⌜ Opens r u (now b) ⌝ }
-    ensures { λ x. ⌜ x ≡ useAfter r u (now (b .entry)) reading stale ⌝ }
-{
-    match u {
-        1 => series_use(b, r, reading, stale),
-        2 => factor_use(b[layout::FACTOR_TIME], reading, stale),
-        3 => series_use(b, r, reading, stale) + factor_use(b[layout::FACTOR_TIME], reading, stale),
-        _ => 0,
-    }
-}
-
-// The use afterwards of slot `i`.
-fn use_next(w: &[u64], i: usize, reading: u64, stale: u64) -> u64
-    requires { ⌜ Readable (now w) i ⌝ }
-    ensures { λ x. ⌜ x ≡ useNext (now (w .entry)) reading stale i ⌝ }
-{
-    let r = w[layout::RING] as usize;
-    let u = room::use_of(w, i);
-    let a = room::start(w, i);
-    let e = a + (layout::FIXED + layout::CELL * r);
-    use_after(&w[a..e], r, u, reading, stale)
-}
-
-fn sweep(w: &mut [u64], reading: u64, stale: u64)
-    requires { ⌜ Ready (now w) ⌝ }
-    ensures { λ _. ⌜ now (w .exit) ≡ swept (now (w .entry)) reading stale (slotsOf (now (w .entry))) ⌝ }
-{
-    let n = w[layout::SLOTS] as usize;
-    let mut at = 0;
-    while at < n {
-        let u = use_next(w, at, reading, stale);
-        room::set_use(w, at, u);
-        at += 1;
-    }
-}
-
-// Cleans a room that was judged.
-pub fn clean(w: &mut [u64], reading: u64, stale: u64)
-    requires { ⌜ Ready (now w) ⌝ }
-    ensures { λ _. ⌜ now (w .exit) ≡ cleaned (now (w .entry)) reading stale ⌝ }
-{
-    sweep(w, reading, stale);
-    room::store_reading(w, reading);
-}
-
 pub fn cleanup(
     kind: RoomKind,
     settings: Settings,
@@ -160,6 +83,6 @@ pub fn cleanup(
     if code != 0 {
         return DoneAnswer::Refused(code);
     }
-    clean(room, reading, stale);
+    stale::clean(room, reading, stale);
     DoneAnswer::Done
 }

@@ -18,10 +18,10 @@ use Rattle.ring.specs.declared.Bucket.{Bucket}
 use Rattle.ring.specs.Order.{Fine}
 use Rattle.ring.specs.Ring.{buckets}
 use Rattle.ring.specs.Sound.{soundBuckets, sound-true}
-use Rattle.room.specs.declared.Key.{Key}
+use Rattle.keys.specs.declared.Key.{Key}
 use Rattle.room.specs.Room.{slotsOf, ringOf, lastOf, useOf, bodyOf}
 use Rattle.rules.specs.declared.RoomKind.the-variants as kind
-use Rattle.judge.specs.Sound.{limitOf, hasSeries, soundSeries}
+use Rattle.opened.specs.Sound.{limitOf, hasSeries, soundSeries}
 use Rattle.rules.specs.Stale.{seriesStays}
 use Rattle.cleanup.specs.Laws.{Passed, passed-sound, sound-parts}
 use Rattle.leaves.specs.Cleanup.{Cleaned, series-kept, clean-distinct}

@@ -13,7 +13,7 @@ use Rattle.common.specs.declared.units.RateLimit.{RateLimit}
 use Rattle.rules.specs.Buckets.{windowTicks}
 use Rattle.room.specs.Room.{empty}
 use Rattle.rules.specs.declared.RoomKind.the-variants.{Suppressed}
-use Rattle.suppressed.specs.Calls as Calls
+use Rattle.suppressed_verdicts.specs.Calls as Calls
 use Rattle.admissions.specs.Log.{inSpan, aged}
 use Rattle.steps.specs.Ops.{Call, words}
 use Rattle.demand3.specs.History.{numberOf, admitted, IsKey, AllSpare, limitWord, hardOf, softOf}

@@ -10,12 +10,13 @@ use Rattle.settings.specs.Settings.{windowIn, bucketIn}
 use Rattle.settings.specs.declared.Settings.{Settings}
 use Rattle.common.specs.declared.units.RateLimit.{RateLimit}
 use Rattle.rules.specs.Buckets.{windowTicks}
-use Rattle.room.specs.Room.{keyOf, lastOf, empty}
+use Rattle.room.specs.Room.{lastOf, empty}
+use Rattle.keys.specs.Keys.{keyOf}
 use Rattle.frame.specs.Keys.{Bytes}
 use Rattle.frame.specs.Whole.{empty-free, empty-distinct}
 use Rattle.calls.specs.Rate.{setRateLimit}
 use Rattle.rules.specs.declared.RoomKind.the-variants as kind
-use Rattle.suppressed.specs.Calls as Calls
+use Rattle.suppressed_verdicts.specs.Calls as Calls
 use Rattle.admissions.specs.Good.{good-none}
 use Rattle.admissions.specs.Log.{Entry, noted, inSpan}
 use Rattle.places.specs.Has.{free-has, has-or}

@@ -19,7 +19,7 @@ use Rattle.common.specs.declared.units.RateLimit.{RateLimit}
 use Rattle.rules.specs.Buckets.{windowTicks}
 use Rattle.frame.specs.Keys.{Bytes}
 use Rattle.rules.specs.declared.RoomKind.the-variants as kind
-use Rattle.suppressed.specs.Calls as Own
+use Rattle.suppressed_verdicts.specs.Calls as Own
 use Rattle.admissions.specs.Log.{Entry, noted}
 use Rattle.steps.specs.Ops.{Op, draws, snapshot, getFactor, setRate, set, delete, cleanup, cleanupBoth, clear, Call, words}
 

@@ -19,19 +19,22 @@ use Rattle.ring.specs.declared.Bucket.{Bucket}
 use Rattle.ring.specs.Order.{Fine}
 use Rattle.ring.specs.Ring.{countOf, deniedOf, counts, declineds, buckets}
 use Rattle.ring.specs.Sums.{sum-none}
-use Rattle.room.specs.Room.{ringOf, keyOf, bodyOf}
+use Rattle.room.specs.Room.{ringOf, bodyOf}
+use Rattle.keys.specs.Keys.{keyOf}
 use Rattle.frame.specs.Distinct.{Distinct}
 use Rattle.frame.specs.Keys.{Bytes}
 use Rattle.change.specs.declared.Change.{Change}
-use Rattle.change.specs.declared.Edit.{Edit}
-use Rattle.change.specs.declared.Then.the-variants.{Increment}
-use Rattle.change.specs.Words.{startedView, actedView, editedView, applied}
+use Rattle.edit.specs.declared.Edit.{Edit}
+use Rattle.edit.specs.declared.Then.the-variants.{Increment}
+use Rattle.change.specs.Words.{applied}
+use Rattle.edit.specs.Bodies.{startedView, actedView, editedView}
 use Rattle.rules.specs.declared.RoomKind.the-variants as kind
-use Rattle.judge.specs.declared.Slot.{Slot}
-use Rattle.judge.specs.Judge.{early, Passed, hasSlot, slotIn}
+use Rattle.opened.specs.declared.Slot.{Slot}
+use Rattle.judge.specs.Judge.{early, Passed, slotIn}
+use Rattle.opened.specs.Slot.{hasSlot}
 use Rattle.judge.specs.Laws.{passed}
 use Rattle.judge.specs.Verdict.{call-either}
-use Rattle.plan.specs.Plan.{evicting, opening}
+use Rattle.plan.specs.Plan.{evicting, opening, placeOf}
 use Rattle.rules.specs.Both.{limitIn, liveOf}
 use Rattle.calls.specs.Applies.{known-has}
 use Rattle.rules.specs.declared.Caching.{Caching}
@@ -40,12 +43,11 @@ use Rattle.rules.specs.Held.{Held}
 use Rattle.rules.specs.Suppressed.{limitFor, forecast, outcome, incTurns}
 use Rattle.judge.specs.Held.{heldIn, noneFree}
 use Rattle.plan.specs.Seen.{Seen, seen}
-use Rattle.suppressed.specs.Calls.{inc}
+use Rattle.suppressed_verdicts.specs.Calls.{inc}
 use Rattle.suppressed_edits.specs.Edits.{recached, incEdit, incChange}
-use Rattle.suppressed_opened.specs.Opened.{forecastAt}
-use Rattle.suppressed.specs.Laws.{place-used}
-use Rattle.plan.specs.Plan.{placeOf}
-use Rattle.suppressed.specs.Standing.{unknown}
+use Rattle.forecast_opened.specs.Forecast.{forecastAt}
+use Rattle.suppressed_verdicts.specs.Laws.{place-used}
+use Rattle.suppressed_verdicts.specs.Standing.{unknown}
 use Rattle.admissions.specs.Good.{good-record, good-floor}
 use Rattle.admissions.specs.Log.{Entry, noted, aged}
 use Rattle.places.specs.Placed.{Own, own-either}

@@ -14,11 +14,11 @@ use Rattle.settings.specs.declared.Settings.{Settings}
 use Rattle.rules.specs.Buckets.{windowTicks}
 use Rattle.ring.specs.declared.Bucket.{Bucket}
 use Rattle.ring.specs.Ring.{buckets}
-use Rattle.room.specs.declared.Key.{Key}
+use Rattle.keys.specs.declared.Key.{Key}
 use Rattle.room.specs.Room.{ringOf, lastOf, useOf, bodyOf}
 use Rattle.frame.specs.Distinct.{Distinct}
 use Rattle.frame.specs.Frame.{Changed}
-use Rattle.judge.specs.Sound.{limitOf, hasSeries}
+use Rattle.opened.specs.Sound.{limitOf, hasSeries}
 use Rattle.admissions.specs.Good.{Good, good-later}
 use Rattle.admissions.specs.Log.{Entry}
 use Rattle.places.specs.Has.{Has, Same, other-back}

@@ -18,37 +18,37 @@ use Rattle.rules.specs.Buckets.{windowTicks, recent}
 use Rattle.ring.specs.declared.Bucket.{Bucket}
 use Rattle.ring.specs.Order.{Fine, fine-drop}
 use Rattle.ring.specs.Ring.{counts, declineds, buckets}
-use Rattle.room.specs.declared.Key.{Key}
-use Rattle.room.specs.Room.{ringOf, keyOf, bodyOf}
+use Rattle.keys.specs.declared.Key.{Key}
+use Rattle.room.specs.Room.{ringOf, bodyOf}
+use Rattle.keys.specs.Keys.{keyOf}
 use Rattle.change.specs.declared.Change.the-variants.{Keep, Update}
-use Rattle.change.specs.declared.Edit.{Edit}
-use Rattle.change.specs.declared.Then.the-variants as then
-use Rattle.change.specs.Laws.{edited-is}
-use Rattle.change.specs.Words.{startedView, actedView, editedView, edited, applied, Applies}
+use Rattle.edit.specs.declared.Edit.{Edit}
+use Rattle.edit.specs.declared.Then.the-variants as then
+use Rattle.edit.specs.BodyLaws.{edited-is}
+use Rattle.change.specs.Words.{applied, Applies}
+use Rattle.edit.specs.Bodies.{startedView, actedView, editedView, edited}
 use Rattle.rules.specs.declared.RoomKind.the-variants as kind
-use Rattle.judge.specs.declared.Slot.{Slot}
+use Rattle.opened.specs.declared.Slot.{Slot}
 use Rattle.judge.specs.Judge.{early, Passed, slotIn}
 use Rattle.judge.specs.Laws.{passed}
-use Rattle.judge.specs.Sound.{hasSeries}
+use Rattle.opened.specs.Sound.{hasSeries}
 use Rattle.judge.specs.Verdict.{call-either}
 use Rattle.plan.specs.Known.{Known}
-use Rattle.plan.specs.Plan.{keeping, evicting}
+use Rattle.plan.specs.Plan.{keeping, evicting, relimited, placeOf}
 use Rattle.calls.specs.Calls.{known-at}
 use Rattle.rules.specs.Both.{limitIn}
-use Rattle.shared_opened.specs.Opened.{forgotten, usedWith, relimited, limiting}
+use Rattle.shared_opened.specs.Opened.{forgotten, usedWith, limiting}
 use Rattle.rules.specs.Sets.{rateTurns}
 use Rattle.rules.specs.Suppressed.{asking, getTurns, factorTurns}
 use Rattle.judge.specs.Held.{heldIn, noneFree}
 use Rattle.calls.specs.Rate.{setRateLimit}
-use Rattle.calls.specs.Applies.{rate-applies}
-use Rattle.calls.specs.Applies.{known-has}
+use Rattle.calls.specs.Applies.{rate-applies, known-has}
 use Rattle.rules.specs.declared.Caching.{Caching}
 use Rattle.rules.specs.declared.Caching.the-variants.{Left, Cached}
-use Rattle.suppressed.specs.Calls.{get, getFactor}
+use Rattle.suppressed_verdicts.specs.Calls.{get, getFactor}
 use Rattle.suppressed_edits.specs.Edits.{useLeft, useAfter, recached, getChange, loneEdit, loneChange, factorChange}
-use Rattle.suppressed_opened.specs.Opened.{staysAt}
-use Rattle.suppressed.specs.Laws.{get-applies, place-used}
-use Rattle.plan.specs.Plan.{placeOf}
+use Rattle.factor_opened.specs.Opened.{staysAt}
+use Rattle.suppressed_verdicts.specs.Laws.{get-applies, place-used}
 use Rattle.admissions.specs.Good.{good-later, good-evict}
 use Rattle.admissions.specs.Log.{Entry}
 use Rattle.places.specs.Placed.{Placed, Own, own-either}

@@ -25,15 +25,17 @@ use Rattle.ring.specs.Order as Order
 use Rattle.ring.specs.Ring as Ring
 use Rattle.ring.specs.Sound as RingSound
 use Rattle.room.specs.Room as Room
+use Rattle.keys.specs.Keys as Keys
 use Rattle.rules.specs.declared.RoomKind.the-variants as kind
 use Rattle.judge.specs.Judge as Judge
-use Rattle.judge.specs.Slot as Slot
-use Rattle.judge.specs.Sound as Sound
+use Rattle.opened.specs.Slot as Slot
+use Rattle.opened.specs.Sound as Sound
 use Rattle.judge.specs.Verdict as Verdicts
 use Rattle.change.specs.Words as Words
-use Rattle.suppressed.specs.Calls as Calls
+use Rattle.edit.specs.Bodies as Bodies
+use Rattle.suppressed_verdicts.specs.Calls as Calls
 use Rattle.suppressed_edits.specs.Edits as Edits
-use Rattle.suppressed_opened.specs.Opened as Slots
+use Rattle.factor_opened.specs.Opened as Slots
 use Rattle.plan.specs.Plan as Plan
 use Rattle.rules.specs.Both as Both
 use Rattle.rules.specs.Suppressed as Suppressed
@@ -65,9 +67,9 @@ pub computed : Computed
 unfolding Seek.seek Splice.splice Tab.tab Answers.decisionRow Factor.perceivesNothing Factor.factorWordOk Factor.admitted Limits.hardWord Limits.cutWord
     Limits.softWord Limits.limitOk Ranges.rateOk Ranges.factorOk Refusals.first Settings.faults Order.fine Ring.sumOf Ring.wrap Ring.bucketAt Ring.buckets
     Ring.shaped Ring.pushed Ring.rewritten Ring.without RingSound.soundBuckets Rules.older Rules.recent Rules.ahead Rules.joins Sweep.passOf
-    HistoryWords.incremented Room.fits Room.empty Room.keyOf Room.sameKey Room.unusedZero Room.keyFits Room.keyAt Room.free Room.has Room.bodyFrom
+    HistoryWords.incremented Room.fits Room.empty Keys.keyOf Keys.sameKey Keys.unusedZero Keys.keyFits Room.keyAt Room.free Room.has Room.bodyFrom
     Room.entered Room.withUse Room.withReading Judge.misfits Slot.opened Slot.slotOf Sound.rightUse Sound.soundSeries Sound.soundCached Sound.soundSlot
-    Sound.addressed Sound.soundAt Verdicts.unlessRefused Words.begun Words.started Words.acted Words.fixed Words.edited Words.withEdit Words.updated
+    Sound.addressed Sound.soundAt Verdicts.unlessRefused Bodies.begun Bodies.started Bodies.acted Bodies.fixed Bodies.edited Words.withEdit Words.updated
     Words.taken Words.carried Words.applied Calls.inc Edits.recached Edits.incEdit Edits.incChange Ieee.le Ieee.lt Ieee.eq Ieee.mul Ieee.div Ieee.sub
     Ieee.add Ieee.ofInt Ieee.ofBits Ieee.ofFields Ieee.toBits Ieee.toUnsigned Ieee.fits Held.heldIn Plan.placeOf Slots.staysAt Both.passes Both.ringFull
     Suppressed.stays Suppressed.asked Suppressed.reachOf Suppressed.drawn Suppressed.outcome

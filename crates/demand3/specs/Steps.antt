@@ -8,13 +8,14 @@ use Prim.Native.Nat.{ℕ, _≤_}
 use Rattle.settings.specs.Settings.{windowIn, bucketIn}
 use Rattle.settings.specs.declared.Settings.{Settings}
 use Rattle.rules.specs.Buckets.{windowTicks}
-use Rattle.room.specs.Room.{Room, lastOf, keyOf}
+use Rattle.room.specs.Room.{Room, lastOf}
+use Rattle.keys.specs.Keys.{keyOf}
 use Rattle.frame.specs.Distinct.{distinct-still}
 use Rattle.frame.specs.Keys.{Bytes, key-injective}
 use Rattle.change.specs.declared.Change.the-variants.{Keep}
 use Rattle.change.specs.Words.{applied}
 use Rattle.rules.specs.declared.RoomKind.the-variants as kind
-use Rattle.cleanup.specs.Cleanup as Cleanup
+use Rattle.stale.specs.Uses as Uses
 use Rattle.leaves.specs.Calls.{keep-words}
 use Rattle.leaves.specs.Cleanup.{clean-run}
 use Rattle.admissions.specs.Log.{Entry}
@@ -57,5 +58,5 @@ module _ (s : Settings) (le : bucketIn s ≤ windowTicks (windowIn s)) (limit : 
       (step-leaves kind.Suppressed s w t op _ (d .passed .room) after .distinct (a .distinct)) a)
   beside-kept op v b (cleaned stale by p e) =
       subst KeptBy (sym e)
-      (cleaned-kept s le limit stale (subst (Beside s key) by b) (keyOf key) w (Cleanup.cleaned w t stale) t log p (clean-run w t stale (p .room)) a)
+      (cleaned-kept s le limit stale (subst (Beside s key) by b) (keyOf key) w (Uses.cleaned w t stale) t log p (clean-run w t stale (p .room)) a)
   beside-kept op v b (cleared by o l e) = absurd (subst (Beside s key) by b)

@@ -3,35 +3,14 @@
 use mathlib.Core.Path.{_≡_}
 use mathlib.Core.Bool.{Bool, cond, _&&_}
 use mathlib.Core.List.{List}
-use Prim.Native.Nat.{ℕ, _+_, _≤_}
+use Prim.Native.Nat.{ℕ}
 use lib.ListN.{length, take, set}
-use Rattle.printing.specs.Answers.{showAnswer, longest}
 use Rattle.printing.specs.Printing.{Put}
-use Rattle.printing.specs.declared.AnswerLine.{AnswerLine}
 use Rattle.room.specs.Room.{fits, empty}
-use Rattle.desk_step.specs.declared.Opening.{Opening}
 use Rattle.desk_feed.specs.declared.Desk.{Desk}
 use Rattle.desk_feed.specs.declared.Fed.{Fed}
 use Rattle.desk_feed.specs.declared.Progress.{Progress}
-use Rattle.desk_feed.specs.declared.Turn.{Turn}
-use Rattle.desk_feed.specs.Feed.{Effect, phaseIn, printsIn, Whole, whole, After, heldMore, feed, takes}
-
--- a line's bytes without its newline
-pub record PutAnswer (l : AnswerLine) (old : List ℕ) (at : ℕ) (new : List ℕ) (next : ℕ) : Type 0 where
-  pub put : Put old at (showAnswer l) new next
-  pub short : next ≤ at + longest
-
--- the first line
-pub record Begins (o : Opening) (old : List ℕ) (at : ℕ) (r : Turn) (new : List ℕ) : Type 0 where
-  pub phase : r .phase ≡ phaseIn o
-  pub put : Put old at (printsIn o) new (r .next)
-
--- any line
-pub record Took (v : Effect) (old : List ℕ) (at : ℕ) (r : Turn) (a b new : List ℕ) : Type 0 where
-  pub phase : r .phase ≡ v .phase
-  pub absolute : a ≡ v .absolute
-  pub suppressed : b ≡ v .suppressed
-  pub put : Put old at (v .prints) new (r .next)
+use Rattle.desk_feed.specs.Feed.{Whole, whole, After, heldMore, feed, takes}
 
 -- a byte that is kept
 pub record Kept (d : Desk) (old : List ℕ) (b : ℕ) (r : Desk) (new : List ℕ) : Type 0 where

@@ -7,9 +7,11 @@ use Prim.Native.Nat.{ℕ}
 use lib.ListN.{take}
 use Rattle.printing.specs.Printing.{Put}
 use Rattle.desk_feed.specs.declared.Progress.{Progress}
-use Rattle.desk_feed.specs.declared.Turn.{Turn}
-use Rattle.desk_feed.specs.Feed.{Effect, Whole, whole, feed}
-use Rattle.desk_feed.specs.Contracts.{Took, Feeding, BothMade}
+use Rattle.desk_turn.specs.declared.Turn.{Turn}
+use Rattle.desk_feed.specs.Feed.{Whole, whole, feed}
+use Rattle.desk_turn.specs.Lines.{Effect}
+use Rattle.desk_feed.specs.Contracts.{Feeding, BothMade}
+use Rattle.desk_turn.specs.Taking.{Took}
 
 put-once : (old xs new new′ : List ℕ) (at n n′ : ℕ) → Put old at xs new n → Put old at xs new′ n′ → (n ≡ n′) × (new ≡ new′)
 put-once old xs new new′ at n n′ p q = (p .past ∙ sym (q .past), p .is ∙ sym (q .is))

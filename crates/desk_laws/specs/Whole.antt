@@ -14,23 +14,25 @@ use lib.Dec.{ltb, eqb}
 use borrow.Author.Tests.{lt-ltb, le-ltb, eq-eqb, ne-eqb}
 use Rattle.settings.specs.declared.Settings.{Settings}
 use Rattle.room.specs.Room.{fits}
-use Rattle.lines.specs.Numbers.{show-short}
+use Rattle.fields.specs.Numbers.{show-short}
 use Rattle.lines.specs.Shown.{opText, showCall, showSettings, CallFits, SettingsFit}
 use Rattle.lines.specs.Laws.{keyIn, CallRead, SettingsRead, call-read, settings-read}
-use Rattle.lines.specs.Reading.{begins, textAt, fieldAt, readCall, readSettings}
+use Rattle.lines.specs.Reading.{readCall, readSettings}
+use Rattle.fields.specs.Parts.{begins, textAt, fieldAt}
 use Rattle.lines.specs.declared.CallLine.{CallLine}
 use Rattle.lines.specs.declared.CallLine.the-variants as call
 use Rattle.lines.specs.declared.Op.{Op}
 use Rattle.lines.specs.declared.Op.the-variants.{AbsoluteInc, AbsoluteGet, SuppressedInc, SuppressedGet}
 use Rattle.lines.specs.declared.SettingsLine.{SettingsLine}
 use Rattle.lines.specs.declared.SettingsLine.the-variants as settings
-use Rattle.desk_step.specs.Desk.{badLine, refusedLine, stepped, openingOf}
+use Rattle.desk_step.specs.Desk.{stepped, openingOf}
+use Rattle.desk_lines.specs.Lines.{badLine, refusedLine}
 use Rattle.desk_step.specs.declared.Opening.{Opening}
 use Rattle.desk_step.specs.declared.Opening.the-variants as opening
-use Rattle.desk_feed.specs.declared.Phase.{Phase}
-use Rattle.desk_feed.specs.declared.Phase.the-variants.{Waiting, Open, Ended}
-use Rattle.desk_feed.specs.Feed.{newline, roomy, shown, Effect, phaseIn, printsIn, turn, Whole, whole, fresh, After, afterLine, byteAs, byte, andThen, feed}
-use Rattle.desk_feed.specs.Feed.{isOver, finishing}
+use Rattle.desk_turn.specs.declared.Phase.{Phase}
+use Rattle.desk_turn.specs.declared.Phase.the-variants.{Waiting, Open, Ended}
+use Rattle.desk_feed.specs.Feed.{Whole, whole, fresh, After, afterLine, byteAs, byte, andThen, feed, isOver, finishing}
+use Rattle.desk_turn.specs.Lines.{newline, roomy, shown, Effect, phaseIn, printsIn, turn}
 
 -- ---- the definition
 

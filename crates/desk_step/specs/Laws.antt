@@ -1,17 +1,10 @@
 -- What the code of a step knows at each return, joined to the definitions; and two results that a step allows are one.
 -- Assumes nothing.
 use mathlib.Core.Path.{_≡_, sym, ap, _∙_}
-use mathlib.Core.Bool.{true, false}
 use mathlib.Core.List.{List}
-use Prim.Native.Nat.{ℕ, _+_, _-_, _≤_, _<_}
+use Prim.Native.Nat.{ℕ, _-_, _≤_}
 use native.Mathlib.Omega.{arith}
-use lib.ListN.{length, getD, drop, length-take, length-drop}
-use lib.Seq.{getD-take, getD-drop}
-use borrow.Author.Tests.{lt-ltb, le-ltb}
-use Rattle.layout.specs.Layout.{sizeOf}
-use Rattle.room.specs.Room.{Room, sized, slotsOf, ringOf, useOf, keyOf, find, startOf, bodyOf, bodyFrom}
-use Rattle.room.specs.Laws.{room-sized}
-use Rattle.judge.specs.Sound.{hasSeries}
+use lib.ListN.{length, length-take, length-drop}
 use Rattle.judge.specs.Verdict.{Verdict, Told}
 use Rattle.printing.specs.declared.AnswerLine.{AnswerLine}
 use Rattle.lines.specs.Laws.{keyIn, CallRead, call-read}
@@ -19,44 +12,13 @@ use Rattle.lines.specs.Reading.{readCall}
 use Rattle.lines.specs.declared.CallLine.{CallLine}
 use Rattle.lines.specs.declared.CallLine.the-variants as call
 use Rattle.lines.specs.declared.Op.{Op}
-use Rattle.desk_step.specs.declared.Stored.{Stored}
-use Rattle.desk_step.specs.Desk.{Step, Answered, noStored, storedOf, lined}
+use Rattle.desk_lines.specs.declared.Stored.{Stored}
+use Rattle.desk_step.specs.Desk.{Step, Answered, lined}
+use Rattle.desk_lines.specs.Lines.{storedOf}
 
 -- two results that a step allows are one
 pub answered-once : (v : Step) (r r′ : AnswerLine) (a a′ b b′ : List ℕ) → Answered v r a b → Answered v r′ a′ b′ → (r ≡ r′) × (a ≡ a′) × (b ≡ b′)
 answered-once v r r′ a a′ b b′ p q = (p .answer ∙ sym (q .answer), p .absolute ∙ sym (q .absolute), p .suppressed ∙ sym (q .suppressed))
-
--- ---- what is stored
-
-stored-path : {m m′ n n′ : ℕ} → m ≡ m′ → n ≡ n′ → _≡_ {A = Stored} (record { total = m; declined = n }) (record { total = m′; declined = n′ })
-stored-path p q = λ i. record { total = p i; declined = q i }
-
-body-word : (w : List ℕ) (at j : ℕ) → j < 7 → getD (bodyOf w at) j 0 ≡ getD w (startOf w at + j) 0
-unfolding bodyFrom
-body-word w at j h = getD-take (sizeOf (ringOf w)) (drop (startOf w at) w) j 0 (omega arith) ∙ getD-drop (startOf w at) w j 0
-
-module _ (w key : List ℕ) where
-  -- words of the wrong lengths are no room
-  pub stored-unsized : sized w ≡ false → noStored ≡ storedOf w key
-  unfolding storedOf
-  stored-unsized e = rw e
-
-  -- the key has no slot
-  pub stored-none : (at : ℕ) → Room w → at ≡ find w (keyOf key) → slotsOf w ≤ at → noStored ≡ storedOf w key
-  unfolding storedOf
-  stored-none at o e h = rw (room-sized w o, ← e, le-ltb at (slotsOf w) h)
-
-  -- or no series
-  pub stored-lone : (at : ℕ) → Room w → at ≡ find w (keyOf key) → at < slotsOf w → hasSeries (useOf w at) ≡ false → noStored ≡ storedOf w key
-  unfolding storedOf
-  stored-lone at o e h f = rw (room-sized w o, ← e, lt-ltb at (slotsOf w) h, f)
-
-  pub stored-is : (at start : ℕ) → Room w → at ≡ find w (keyOf key) → at < slotsOf w → hasSeries (useOf w at) ≡ true → start ≡ startOf w at →
-      record { total = getD w (start + 1) 0; declined = getD w (start + 2) 0 } ≡ storedOf w key
-  unfolding storedOf
-  stored-is at start o e h f g =
-      rw (room-sized w o, ← e, lt-ltb at (slotsOf w) h, f, g)
-      (stored-path (sym (body-word w at 1 (omega arith))) (sym (body-word w at 2 (omega arith))))
 
 -- ---- a call's line
 

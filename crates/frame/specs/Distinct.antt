@@ -12,8 +12,9 @@ use lib.Dec.{eqb}
 use borrow.Author.Tests.{eq-eqb, eqb-true}
 use Rattle.base.specs.Decides.{and-true, not-so, so-not}
 use Rattle.base.specs.Seek.{seek, seek-le, seek-passes, seek-before, seek-only, seek-ext}
-use Rattle.room.specs.declared.Key.{Key}
-use Rattle.room.specs.Room.{slotsOf, useOf, keyAt, keyOf, keySound, keyFits, sameKey, free, has, find, vacant}
+use Rattle.keys.specs.declared.Key.{Key}
+use Rattle.room.specs.Room.{slotsOf, useOf, keyAt, keySound, free, has, find, vacant}
+use Rattle.keys.specs.Keys.{keyOf, keyFits, sameKey}
 use Rattle.room.specs.Entries.{free-use, has-free, has-used}
 use Rattle.frame.specs.Keys.{Bytes, key-fits}
 use Rattle.frame.specs.Frame.{Changed, other-use, other-key}

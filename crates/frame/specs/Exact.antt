@@ -8,7 +8,7 @@ use native.Mathlib.Decide.{ℕ-discrete, decLt}
 use native.Mathlib.Omega.{arith}
 use lib.ListN.{length, getD, drop}
 use lib.Seq.{getD-take, getD-drop}
-use Rattle.room.specs.declared.Key.{Key}
+use Rattle.keys.specs.declared.Key.{Key}
 use Rattle.layout.specs.Layout.{headerWords, entryWords, sizeOf}
 use Rattle.room.specs.Room.{slotsOf, ringOf, lengthOf, entryOf, startOf, useOf, keyAt, bodyFrom, bodyOf}
 use Rattle.frame.specs.Frame.{Changed}

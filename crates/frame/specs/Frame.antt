@@ -11,7 +11,7 @@ use lib.ListN.{length, getD, take, drop, set, length-set}
 use lib.Seq.{getD-set-same, getD-set-other}
 use Rattle.base.specs.Writes.{writes, Misses, length-writes, read-past, read-nth}
 use Rattle.base.specs.Splice.{splice-part, splice-before, splice-after, part-ext}
-use Rattle.room.specs.declared.Key.{Key}
+use Rattle.keys.specs.declared.Key.{Key}
 use Rattle.layout.specs.Layout.{slotsWord, ringWord, lastWord, lenWord, aWord, bWord, cWord, dWord, headerWords, entryWords, sizeOf}
 use Rattle.room.specs.Room.{slotsOf, ringOf, lastOf, entryOf, startOf, endOf, Room, useOf, keyAt, bodyFrom, bodyOf, withBody, entered, withUse, withReading}
 use Rattle.room.specs.Laws.{room-same, slot-in, body-end, body-header, body-room}

@@ -10,8 +10,8 @@ use native.Mathlib.Omega.{arith}
 use lib.ListN.{length, getD, List·getD-eq-default}
 use lib.Seq.{ext-getD}
 use borrow.Author.Tests.{lt-ltb, le-leb}
-use Rattle.room.specs.declared.Key.{Key}
-use Rattle.room.specs.Room.{pack, keyOf, unusedZero, keyFits}
+use Rattle.keys.specs.declared.Key.{Key}
+use Rattle.keys.specs.Keys.{pack, keyOf, unusedZero, keyFits}
 
 -- ---- numbers by their bytes
 

@@ -7,10 +7,8 @@ use mathlib.Core.List.{List, [], _∷_, _++_}
 use Prim.Native.Nat.{ℕ, _+_, _-_, _≤_, _<_}
 use native.Mathlib.Omega.{arith}
 use lib.ListN.{length, getD, set, drop, drop-of-length-le}
-use lib.Dec.{leb, ltb, eqb}
-use borrow.Author.Tests.{lt-ltb, le-ltb, ltb-true, ltb-false, eqb-true, eqb-false}
-use Rattle.answers.specs.declared.HistoryPreservation.{HistoryPreservation}
-use Rattle.answers.specs.declared.HistoryPreservation.the-variants.{PreserveNewest, PreserveOldest}
+use lib.Dec.{leb, ltb}
+use borrow.Author.Tests.{lt-ltb, le-ltb, ltb-true}
 use Rattle.ring.specs.declared.Bucket.{Bucket}
 use Rattle.layout.specs.Layout.{mostTotal}
 use Rattle.ring.specs.Ring.{bucket, noBucket, sumOf, countOf, deniedOf, counts, declineds, totalOf, declinedOf, lenOf, buckets, Free, Rewrites, pushed, without}
@@ -21,8 +19,8 @@ use Rattle.ring.specs.View.{view-length, view-at}
 use Rattle.ring.specs.Holds.{Holds, Beside, beside-on, holds-length, holds-at, push-holds, rewrite-holds, evict-holds, push-beside, rewrite-beside}
 use Rattle.ring.specs.Holds.{evict-beside}
 use Rattle.ring.specs.Sound.{Sound, sound-holds, holds-sound}
-use Rattle.rules.specs.Buckets.{newest, raised, joins, joined, replaced, keptEnd, grown}
-use Rattle.history.specs.Words.{bucketOf, raisedWords, Raises, incremented, Takes, replacedWords, Sets, grownWords, Grows}
+use Rattle.rules.specs.Buckets.{newest, raised, joins, joined, replaced}
+use Rattle.history.specs.Words.{bucketOf, raisedWords, Raises, incremented, Takes, replacedWords, Sets}
 
 -- b′ holds xs, is sound at t, and has b's other words
 pub record Became (r : ℕ) (b : List ℕ) (t : ℕ) (b′ : List ℕ) (xs : List Bucket) : Type 0 where
@@ -166,50 +164,3 @@ replace-became r b t n h =
     let p = push-became r (without r b (lenOf b)) t n 0 (e .sound) (f .free) (omega arith) (f .count) in
     subst (λ (xs : List Bucket). Became r b t (pushed r (without r b (lenOf b)) n 0 t) (xs ++ (bucket n 0 t ∷ []))) (e .holds .view)
     (record { holds = p .holds; sound = p .sound; beside = beside-on (e .beside) (p .beside) })
-
--- ---- preserving: a surplus
-
-pub kept-lt : (p : HistoryPreservation) (n : ℕ) → 0 < n → keptEnd p n < n
-kept-lt PreserveNewest n h = omega arith
-kept-lt PreserveOldest n h = h
-
-pub grow-became : (p : HistoryPreservation) (r : ℕ) (b : List ℕ) (t s : ℕ) → Grows r b t s → Became r b t (grownWords p r b t s) (grown p t s (buckets r b))
-unfolding grownWords grown
-grow-became p r b t s h = go (eqb (lenOf b) 0) refl
-  where
-    n : length (buckets r b) ≡ lenOf b
-    n = view-length r b
-
-    go : (e : Bool) → eqb (lenOf b) 0 ≡ e → Became r b t (cond e (pushed r b s 0 t) (raisedWords r b (keptEnd p (lenOf b)) s 0))
-        (cond (ltb 0 (length (buckets r b))) (raised (keptEnd p (length (buckets r b))) s 0 (buckets r b)) (bucket s 0 t ∷ []))
-    go true e =
-        let z : lenOf b ≡ 0 = eqb-true _ _ e in
-        let v : buckets r b ≡ [] = drop-of-length-le (buckets r b) {i = 0} (omega (arith, n)) in
-        let p = push-became r b t s 0 (h .sound) (omega (arith, h .sound .shape .head)) (omega arith) (h .total) in
-        simp (le-ltb 0 (length (buckets r b)) (omega (arith, n)))
-        (subst (λ (xs : List Bucket). Became r b t (pushed r b s 0 t) (xs ++ (bucket s 0 t ∷ []))) v p)
-    go false e =
-        let l : 0 < lenOf b = omega (arith, eqb-false (lenOf b) 0 e) in
-        simp (lt-ltb 0 (length (buckets r b)) (omega (arith, n)))
-        (subst (λ (k : ℕ). Became r b t (raisedWords r b (keptEnd p (lenOf b)) s 0) (raised (keptEnd p k) s 0 (buckets r b))) (sym n)
-        (raise-became r b t (keptEnd p (lenOf b)) s 0 (h .sound) (kept-lt p (lenOf b) l) (omega arith) (h .total)))
-
-pub grown-counts : (p : HistoryPreservation) (t s : ℕ) (xs : List Bucket) → counts (grown p t s xs) ≡ counts xs + s
-unfolding grown
-grown-counts p t s xs = go (ltb 0 (length xs)) refl
-  where
-    go : (e : Bool) → ltb 0 (length xs) ≡ e → counts (cond e (raised (keptEnd p (length xs)) s 0 xs) (bucket s 0 t ∷ [])) ≡ counts xs + s
-    go true e = raised-counts (keptEnd p (length xs)) s 0 xs (kept-lt p (length xs) (ltb-true _ _ e))
-    go false e =
-        let v : xs ≡ [] = drop-of-length-le xs {i = 0} (ltb-false _ _ e) in
-        omega (arith, sum-one countOf (bucket s 0 t), ap counts v, sum-none countOf)
-
-pub grown-declineds : (p : HistoryPreservation) (t s : ℕ) (xs : List Bucket) → declineds (grown p t s xs) ≡ declineds xs
-unfolding grown
-grown-declineds p t s xs = go (ltb 0 (length xs)) refl
-  where
-    go : (e : Bool) → ltb 0 (length xs) ≡ e → declineds (cond e (raised (keptEnd p (length xs)) s 0 xs) (bucket s 0 t ∷ [])) ≡ declineds xs
-    go true e = omega (arith, raised-declineds (keptEnd p (length xs)) s 0 xs (kept-lt p (length xs) (ltb-true _ _ e)))
-    go false e =
-        let v : xs ≡ [] = drop-of-length-le xs {i = 0} (ltb-false _ _ e) in
-        omega (arith, sum-one deniedOf (bucket s 0 t), ap declineds v, sum-none deniedOf)

@@ -1,7 +1,7 @@
 -- What a key holds in a room, as document 01's rules speak of it: the lowest slot with the key has it.
 -- Assumes nothing.
 use mathlib.Core.Path.{_≡_, ap}
-use mathlib.Core.Bool.{Bool, true, false, cond}
+use mathlib.Core.Bool.{Bool, cond}
 use mathlib.Core.List.{List, []}
 use Prim.Native.Nat.{ℕ, _≤_, _<_}
 use lib.Dec.{leb, ltb}
@@ -10,7 +10,7 @@ use Rattle.ring.specs.declared.Bucket.{Bucket}
 use Rattle.ring.specs.Ring.{buckets}
 use Rattle.rules.specs.Held.{Held, nothing}
 use Rattle.room.specs.Room.{slotsOf, ringOf, useOf, bodyOf, vacant}
-use Rattle.judge.specs.Sound.{limitOf, factorOf, factorTimeOf, hasSeries, hasCached, addressed}
+use Rattle.opened.specs.Sound.{limitOf, factorOf, factorTimeOf, hasSeries, hasCached, addressed}
 
 -- what is not there is 0
 abbrev pub heldBy : Bool → Bool → ℕ → List Bucket → ℕ → ℕ → Held

@@ -1,7 +1,7 @@
 -- Refusals 1 to 7, which every call with a key has, in document 01's order; and what a call that passes them knows.
 -- Assumes nothing.
 use mathlib.Core.Path.{_≡_}
-use mathlib.Core.Bool.{Bool, true, not, _&&_, _||_}
+use mathlib.Core.Bool.{Bool, true, not, _&&_}
 use mathlib.Core.List.{List, [], _∷_, _++_}
 use Prim.Native.Nat.{ℕ, _≤_}
 use lib.ListN.{length}
@@ -13,9 +13,9 @@ use Rattle.layout.specs.Layout.{longestKey}
 use Rattle.room.specs.Room.{Room, sized, lastOf}
 use Rattle.rules.specs.declared.RoomKind.{RoomKind}
 use Rattle.judge.specs.declared.Judged.{Judged}
-use Rattle.judge.specs.declared.Slot.{Slot}
-use Rattle.judge.specs.Sound.{addressed, soundAt}
-use Rattle.judge.specs.Slot.{noSlot, pickSlot, slotOf}
+use Rattle.opened.specs.declared.Slot.{Slot}
+use Rattle.opened.specs.Sound.{addressed, soundAt}
+use Rattle.opened.specs.Slot.{noSlot, pickSlot, slotOf}
 
 -- 5: "the room's lengths are wrong, or the slot addressed is unsound"; 6: "the reading is below the last of a call not refused"; 7: "key over 32 bytes"
 unfoldable pub misfits : RoomKind → Settings → List ℕ → ℕ → List ℕ → List (ℕ × Bool)
@@ -34,10 +34,6 @@ early kind s w t key = first (faults s ++ misfits kind s w t key)
 -- the key's slot, opened at the reading
 abbrev pub slotIn : Settings → List ℕ → ℕ → List ℕ → Slot
 slotIn s w t key = slotOf (windowIn s) w t (addressed w key)
-
--- "A suppressed slot stays in use while it has a series or a cached factor"
-abbrev pub hasSlot : Slot → Bool
-hasSlot x = x .series || x .cached
 
 -- the first of 1 to 7, and where there is none the slot
 unfoldable pub judged : RoomKind → Settings → List ℕ → ℕ → List ℕ → Judged

@@ -1,24 +1,23 @@
 -- What the code has tested, turned into what `judged` says; and what callers know of a call that passes, or does not.
 -- Assumes nothing.
-use mathlib.Core.Path.{_≡_, refl, sym, ap, subst, _∙_}
-use mathlib.Core.Bool.{Bool, true, false, not, _&&_, cond, false≢true}
+use mathlib.Core.Path.{_≡_, refl, sym, ap, _∙_}
+use mathlib.Core.Bool.{Bool, true, false}
 use mathlib.Core.List.{List, [], _∷_, _++_, append-assoc}
 use Prim.Native.Nat.{ℕ, _≤_, _<_}
 use native.Mathlib.Omega.{arith}
 use lib.ListN.{length}
-use lib.Dec.{ltb, eqb}
+use lib.Dec.{eqb}
 use borrow.Author.Tests.{eq-eqb, ne-eqb, eqb-true, eqb-false, lt-ltb, le-ltb, ltb-false, not-false}
 use Rattle.base.specs.Decides.{and-true}
-use Rattle.common.specs.Refusals.{first, Positive, AllFalse, first-found, first-none, all-false}
+use Rattle.common.specs.Refusals.{first, Positive, first-found, first-none, all-false}
 use Rattle.settings.specs.Settings.{windowIn, faults, Proper, proper, unrefused}
 use Rattle.settings.specs.declared.Settings.{Settings}
 use Rattle.room.specs.Room.{Room, sized, lastOf}
 use Rattle.room.specs.Laws.{room-sized, sized-room}
 use Rattle.rules.specs.declared.RoomKind.{RoomKind}
-use Rattle.judge.specs.declared.Judged.{Judged}
-use Rattle.judge.specs.declared.Slot.{Slot}
-use Rattle.judge.specs.Sound.{addressed, soundAt}
-use Rattle.judge.specs.Slot.{noSlot, pickSlot, slotOf}
+use Rattle.opened.specs.declared.Slot.{Slot}
+use Rattle.opened.specs.Sound.{addressed, soundAt}
+use Rattle.opened.specs.Slot.{noSlot, slotOf}
 use Rattle.judge.specs.Judge.{misfits, refusals, early, judged, Passed}
 
 pub faults-positive : (s : Settings) → Positive (faults s)

@@ -1,239 +1,22 @@
 // What every call with a key judges before it does anything: refusals 1 to 7, and the key's slot opened into a value.
 ghost use mathlib.Core.Path.{_≡_};
-ghost use Prim.Native.Nat.{_+_, _*_, _<_, _≤_};
-ghost use lib.ListN.{length};
+ghost use Prim.Native.Nat.{_<_};
 ghost use Rattle.settings.specs.Settings.{Proper};
-ghost use Rattle.rules.specs.Buckets.{windowTicks};
-ghost use Rattle.sweep.specs.Sweep.{passOf, unsound};
-ghost use Rattle.layout.specs.Layout.{fixedWords};
 ghost use Rattle.room.specs.Room.{Room};
-ghost use Rattle.judge.specs.Sound.{hasSeries, hasCached, rightUse, declinedRight, addressed, soundAt};
-ghost use Rattle.rules.specs.Both.{divisor};
-ghost use Rattle.judge.specs.Slot.{noSlot, pickPass, opened, slotOf};
-ghost use Rattle.judge.specs.Right.{seriesRight, cachedRight, slotRight, Addresses};
-ghost use Rattle.judge.specs.Judge.{judged, hasSlot};
-use ring::Bucket;
+ghost use Rattle.opened.specs.Sound.{addressed, soundAt};
+ghost use Rattle.opened.specs.Slot.{noSlot, opened};
+ghost use Rattle.opened.specs.Right.{Addresses};
+ghost use Rattle.judge.specs.Judge.{judged};
+use opened::Slot;
 use rules::RoomKind;
 use settings::Settings;
-use sweep::Pass;
 
 const LONGEST_KEY: usize = layout::LONGEST_KEY as usize;
-
-// A key's slot: where it is (the number of slots where there is none), its use, what it holds, and its words.
-pub struct Slot {
-    pub at: usize,
-    pub used: u64,
-    pub series: bool,
-    pub cached: bool,
-    pub limit: u64,
-    pub total: u64,
-    pub declined: u64,
-    pub factor: u64,
-    pub factor_time: u64,
-    pub pass: Pass,
-}
 
 // The first of refusals 1 to 7, or 0 with the slot.
 pub struct Judged {
     pub code: u64,
     pub slot: Slot,
-}
-
-// A pass that found nothing.
-fn no_pass() -> Pass
-    ensures { λ x. ⌜ x ≡ unsound ⌝ }
-{
-    let none = Bucket {
-        count: 0,
-        declined: 0,
-        time: 0,
-    };
-    Pass {
-        sound: false,
-        buckets: 0,
-        expired: 0,
-        live_total: 0,
-        live_declined: 0,
-        last_second: 0,
-        oldest: none,
-        newest: none,
-    }
-}
-
-pub fn no_slot(at: usize) -> Slot
-    ensures { λ x. ⌜ x ≡ noSlot at ⌝ }
-{
-    Slot {
-        at,
-        used: 0,
-        series: false,
-        cached: false,
-        limit: 0,
-        total: 0,
-        declined: 0,
-        factor: 0,
-        factor_time: 0,
-        pass: no_pass(),
-    }
-}
-
-// Whether the key has a slot: for a series, or for a lone cached factor.
-pub fn has_slot(x: Slot) -> bool
-    ensures { λ r. ⌜ r ≡ hasSlot x ⌝ }
-{
-    let series = x.series;
-    let cached = x.cached;
-    if series {
-        return true;
-    }
-    cached
-}
-
-pub fn has_series(u: u64) -> bool
-    ensures { λ x. ⌜ x ≡ hasSeries u ⌝ }
-{
-    if u == layout::SERIES {
-        return true;
-    }
-    u == layout::BOTH
-}
-
-fn has_cached(u: u64) -> bool
-    ensures { λ x. ⌜ x ≡ hasCached u ⌝ }
-{
-    if u == layout::CACHED {
-        return true;
-    }
-    u == layout::BOTH
-}
-
-fn series_pass(b: &[u64], r: usize, last: u64, reading: u64, window: u64, series: bool) -> Pass
-    requires { ⌜ window ≤ 33554432 ⌝ }
-    ensures { λ x. ⌜ x ≡ pickPass series (passOf r (now (b .entry)) last reading (windowTicks window)) ⌝ }
-{
-    if !series {
-        return no_pass();
-    }
-    sweep::pass(b, r, last, reading, sweep::TICKS_PER_SECOND * window)
-}
-
-// The body of slot `at`, of use `u`, opened: the one pass over its buckets is made here.
-fn open_body(b: &[u64], r: usize, last: u64, reading: u64, window: u64, at: usize, u: u64) -> Slot
-    requires { ⌜ (fixedWords ≤ length (now b)) × (window ≤ 33554432) ⌝ }
-    ensures { λ x. ⌜ x ≡ opened window r last reading at u (now (b .entry)) ⌝ }
-{
-    let series = has_series(u);
-    let pass = series_pass(b, r, last, reading, window, series);
-    Slot {
-        at,
-        used: u,
-        series,
-        cached: has_cached(u),
-        limit: b[layout::LIMIT],
-        total: b[layout::TOTAL],
-        declined: b[layout::DECLINED],
-        factor: b[layout::FACTOR],
-        factor_time: b[layout::FACTOR_TIME],
-        pass,
-    }
-}
-
-// Slot `at`, or none where there are fewer.
-pub fn open_at(w: &[u64], at: usize, reading: u64, window: u64) -> Slot
-    requires { ⌜ Room (now w) × (window ≤ 33554432) ⌝ }
-    ensures { λ x. ⌜ x ≡ slotOf window (now (w .entry)) reading at ⌝ }
-{
-    let slots = w[layout::SLOTS] as usize;
-    let r = w[layout::RING] as usize;
-    let last = w[layout::LAST];
-    if slots <= at {
-        return no_slot(slots);
-    }
-    let u = room::use_of(w, at);
-    let a = room::start(w, at);
-    let e = a + (layout::FIXED + layout::CELL * r);
-    open_body(&w[a..e], r, last, reading, window, at, u)
-}
-
-pub fn divisor(kind: RoomKind, factor: f64) -> f64
-    ensures { λ x. ⌜ x ≡ divisor kind factor ⌝ }
-{
-    match kind {
-        RoomKind::Absolute => 1.0,
-        RoomKind::Suppressed => factor,
-    }
-}
-
-fn declined_right(kind: RoomKind, declined: u64) -> bool
-    ensures { λ x. ⌜ x ≡ declinedRight kind declined ⌝ }
-{
-    match kind {
-        RoomKind::Absolute => declined == 0,
-        RoomKind::Suppressed => true,
-    }
-}
-
-fn use_right(kind: RoomKind, u: u64) -> bool
-    ensures { λ x. ⌜ x ≡ rightUse kind u ⌝ }
-{
-    match kind {
-        RoomKind::Absolute => u == layout::SERIES,
-        RoomKind::Suppressed => {
-            if has_series(u) {
-                return true;
-            }
-            has_cached(u)
-        }
-    }
-}
-
-fn series_right(kind: RoomKind, settings: Settings, x: Slot) -> bool
-    ensures { λ y. ⌜ y ≡ seriesRight kind settings x ⌝ }
-{
-    let series = x.series;
-    let pass = x.pass;
-    let sound = pass.sound;
-    if !series {
-        return true;
-    }
-    if !sound {
-        return false;
-    }
-    if !declined_right(kind, x.declined) {
-        return false;
-    }
-    common::is_limit(
-        x.limit,
-        settings.window_size,
-        divisor(kind, settings.hard_limit_factor),
-    )
-}
-
-fn cached_right(last: u64, x: Slot) -> bool
-    ensures { λ y. ⌜ y ≡ cachedRight last x ⌝ }
-{
-    let cached = x.cached;
-    let time = x.factor_time;
-    if !cached {
-        return true;
-    }
-    if !suppression::is_factor(x.factor) {
-        return false;
-    }
-    time <= last
-}
-
-// Whether an opened slot is sound; its key is judged elsewhere.
-pub fn slot_right(kind: RoomKind, settings: Settings, last: u64, u: u64, x: Slot) -> bool
-    ensures { λ y. ⌜ y ≡ slotRight kind settings last u x ⌝ }
-{
-    if !use_right(kind, u) {
-        return false;
-    }
-    if !series_right(kind, settings, x) {
-        return false;
-    }
-    cached_right(last, x)
 }
 
 // The lowest slot with the key, or the number of slots.
@@ -244,7 +27,7 @@ fn address(w: &[u64], key: &[u8]) -> usize
     if LONGEST_KEY < key.len() {
         return w[layout::SLOTS] as usize;
     }
-    room::find(w, room::key_of(key))
+    room::find(w, keys::key_of(key))
 }
 
 // Whether the slot addressed is sound, if there is one; its key is the one that was looked for.
@@ -257,7 +40,7 @@ fn sound_at(kind: RoomKind, settings: Settings, w: &[u64], key: &[u8], x: Slot) 
     if slots <= at {
         return true;
     }
-    slot_right(kind, settings, w[2], room::use_of(w, at), x)
+    opened::slot_right(kind, settings, w[2], room::use_of(w, at), x)
 }
 
 fn refused(code: u64) -> Judged
@@ -265,7 +48,7 @@ fn refused(code: u64) -> Judged
 {
     Judged {
         code,
-        slot: no_slot(0),
+        slot: opened::no_slot(0),
     }
 }
 
@@ -276,7 +59,7 @@ fn judge_room(kind: RoomKind, settings: Settings, w: &[u64], reading: u64, key: 
 {
     let window = settings.window_size;
     let at = address(w, key);
-    let x = open_at(w, at, reading, window.0);
+    let x = opened::open_at(w, at, reading, window.0);
     if !sound_at(kind, settings, w, key, x) {
         return refused(5);
     }

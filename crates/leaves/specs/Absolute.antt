@@ -26,20 +26,22 @@ use Rattle.ring.specs.Ring.{bucket, noBucket, sumOf, counts, declineds, deniedO
 use Rattle.ring.specs.Sound.{Sound}
 use Rattle.ring.specs.Sums.{sum-one, sum-split, sum-at}
 use Rattle.ring.specs.View.{view-length}
-use Rattle.room.specs.declared.Key.{Key}
-use Rattle.room.specs.Room.{slotsOf, ringOf, lastOf, useOf, keyAt, keyFits, keyOf, find, bodyOf, vacant, withReading}
+use Rattle.keys.specs.declared.Key.{Key}
+use Rattle.room.specs.Room.{slotsOf, ringOf, lastOf, useOf, keyAt, find, bodyOf, vacant, withReading}
+use Rattle.keys.specs.Keys.{keyFits, keyOf}
 use Rattle.frame.specs.Distinct.{find-key}
 use Rattle.frame.specs.Frame.{Changed, reading-change}
 use Rattle.frame.specs.Keys.{Bytes, key-fits}
 use Rattle.change.specs.declared.Change.{Change}
 use Rattle.change.specs.declared.Change.the-variants.{Keep, Update, Take}
-use Rattle.change.specs.declared.Edit.{Edit}
-use Rattle.change.specs.declared.Then.{Then}
-use Rattle.change.specs.declared.Then.the-variants.{Nothing, Increment}
-use Rattle.change.specs.Words.{EditsAt, startedView, actedView, editedView, applied}
+use Rattle.edit.specs.declared.Edit.{Edit}
+use Rattle.edit.specs.declared.Then.{Then}
+use Rattle.edit.specs.declared.Then.the-variants.{Nothing, Increment}
+use Rattle.change.specs.Words.{EditsAt, applied}
+use Rattle.edit.specs.Bodies.{startedView, actedView, editedView}
 use Rattle.rules.specs.declared.RoomKind.the-variants.{Absolute}
-use Rattle.judge.specs.declared.Slot.{Slot}
-use Rattle.judge.specs.Slot.{noSlot}
+use Rattle.opened.specs.declared.Slot.{Slot}
+use Rattle.opened.specs.Slot.{noSlot}
 use Rattle.judge.specs.Judge.{refusals, Passed, slotIn}
 use Rattle.judge.specs.Laws.{passed}
 use Rattle.base.specs.Decides.{other-true}
@@ -51,16 +53,17 @@ use Rattle.rules.specs.Held.{Held, lacksSlot}
 use Rattle.rules.specs.Both.{limitIn, liveOf, passes, ringFull}
 use Rattle.rules.specs.Absolute.{below, testsAgain, outIf, tested, allowedBy, wholeLimit, allowed, pickDecision, rejection, decided, outFor, foundFor, incTurns}
 use Rattle.judge.specs.Held.{heldIn, noneFree, held-here, held-none}
-use Rattle.judge.specs.Sound.{limitOf, factorOf, factorTimeOf, hasSeries, hasCached, rightUse, declinedRight, soundSeries, addressed}
+use Rattle.opened.specs.Sound.{limitOf, factorOf, factorTimeOf, hasSeries, hasCached, rightUse, declinedRight, soundSeries, addressed}
 use Rattle.judge.specs.Verdict.{Verdict}
 use Rattle.plan.specs.Plan.{placeOf, fullAfter, evicting, opening}
 use Rattle.plan.specs.Known.{Found, Known, found}
 use Rattle.plan.specs.Seen.{seen, has-is}
-use Rattle.absolute_opened.specs.Opened.{goneIf, totalIf, leaving, pickChange, getChange, askChange, incChange}
+use Rattle.absolute_opened.specs.Opened.{leaving, pickChange, getChange, askChange, incChange}
+use Rattle.absolute_test.specs.Test.{goneIf, totalIf}
 use Rattle.absolute_opened.specs.Laws.{counts-change}
-use Rattle.absolute.specs.Calls.{get, isAllowed, inc}
-use Rattle.absolute.specs.Seen.{use-one, has-series, limit-whole, total-out, rest-out, full-out}
-use Rattle.absolute.specs.Laws.{known, evict-applies, leaving-applies, opening-applies}
+use Rattle.absolute_verdicts.specs.Calls.{get, isAllowed, inc}
+use Rattle.absolute_verdicts.specs.Seen.{use-one, has-series, limit-whole, total-out, rest-out, full-out}
+use Rattle.absolute_verdicts.specs.Laws.{known, evict-applies, leaving-applies, opening-applies}
 use Rattle.leaves.specs.AbsoluteLeaves.{Left, GetLaw, AskLaw, IncLaw}
 use Rattle.leaves.specs.Follows.{Follows, follows, unrefused-early, unrefused-own}
 use Rattle.leaves.specs.Calls.{Stands, stands, implied, keep-words, update-changed, take-changed, none-right, series-right, limit-right, begins-view}

@@ -17,9 +17,10 @@ use Rattle.ring.specs.Ring.{bucket, counts}
 use Rattle.rules.specs.declared.RoomKind.the-variants.{Absolute}
 use Rattle.rules.specs.Both.{limitIn, liveOf}
 use Rattle.rules.specs.Absolute.{tested, wholeLimit, allowed, decided, foundFor}
-use Rattle.room.specs.Room.{ringOf, bodyOf, vacant, keyOf, withReading}
+use Rattle.room.specs.Room.{ringOf, bodyOf, vacant, withReading}
+use Rattle.keys.specs.Keys.{keyOf}
 use Rattle.judge.specs.Held.{heldIn}
-use Rattle.judge.specs.Sound.{factorOf, factorTimeOf, addressed}
+use Rattle.opened.specs.Sound.{factorOf, factorTimeOf, addressed}
 use Rattle.judge.specs.Verdict.{Verdict}
 use Rattle.leaves.specs.Calls.{Stands}
 

@@ -20,40 +20,40 @@ use Rattle.common.specs.declared.units.RateLimit.{RateLimit}
 use Rattle.answers.specs.declared.HistoryUpdateMode.{HistoryUpdateMode}
 use Rattle.answers.specs.declared.HistoryUpdateMode.the-variants as mode
 use Rattle.rules.specs.Buckets.{live, gone, joins, joined, replaced, preserved, windowTicks}
-use Rattle.history.specs.Preserves.{preserved-comes, replaced-comes}
+use Rattle.preserve.specs.Preserves.{preserved-comes, replaced-comes}
 use Rattle.ring.specs.declared.Bucket.{Bucket}
 use Rattle.layout.specs.Layout.{mostTotal}
 use Rattle.ring.specs.Ring.{bucket, deniedOf, declineds, declinedOf, buckets, counts}
 use Rattle.ring.specs.Sums.{sum-one, sum-split}
 use Rattle.ring.specs.Sound.{Sound, soundBuckets, true-sound}
-use Rattle.room.specs.declared.Key.{Key}
-use Rattle.room.specs.Room.{Room, slotsOf, ringOf, lastOf, useOf, keyAt, keyFits, keySound, keyOf, bodyOf, withReading}
+use Rattle.keys.specs.declared.Key.{Key}
+use Rattle.room.specs.Room.{Room, slotsOf, ringOf, lastOf, useOf, keyAt, keySound, bodyOf, withReading}
+use Rattle.keys.specs.Keys.{keyFits, keyOf}
 use Rattle.frame.specs.Frame.{Changed, put-reading, use-run}
 use Rattle.frame.specs.Keys.{Bytes, key-fits}
-use Rattle.change.specs.declared.Then.the-variants as then
-use Rattle.change.specs.declared.Edit.{Edit}
+use Rattle.edit.specs.declared.Then.the-variants as then
+use Rattle.edit.specs.declared.Edit.{Edit}
 use Rattle.change.specs.declared.Change.{Change}
 use Rattle.change.specs.declared.Change.the-variants.{Keep, Free, Update, Take}
-use Rattle.change.specs.Words.{startedView, actedView, editedView, edited, carried, applied, EditsAt}
-use Rattle.change.specs.Laws.{edited-is, update-change, take-change}
+use Rattle.change.specs.Words.{carried, applied, EditsAt}
+use Rattle.edit.specs.Bodies.{startedView, actedView, editedView, edited}
+use Rattle.change.specs.Laws.{update-change, take-change}
+use Rattle.edit.specs.BodyLaws.{edited-is}
 use Rattle.rules.specs.declared.RoomKind.{RoomKind}
 use Rattle.rules.specs.declared.RoomKind.the-variants.{Absolute, Suppressed}
-use Rattle.judge.specs.declared.Slot.{Slot}
-use Rattle.judge.specs.Sound.{limitOf, factorOf, factorTimeOf, hasSeries, hasCached, rightUse, declinedRight, soundSeries, soundCached, soundSlot}
+use Rattle.opened.specs.declared.Slot.{Slot}
+use Rattle.opened.specs.Sound.{limitOf, factorOf, factorTimeOf, hasSeries, hasCached, rightUse, declinedRight, soundSeries, soundCached, soundSlot}
 use Rattle.rules.specs.Sets.{resetTo}
-use Rattle.rules.specs.Both.{divisor}
-use Rattle.judge.specs.Judge.{Passed, hasSlot, slotIn}
-use Rattle.plan.specs.Plan.{keeping}
+use Rattle.rules.specs.Both.{divisor, limitIn}
+use Rattle.judge.specs.Judge.{Passed, slotIn}
+use Rattle.opened.specs.Slot.{hasSlot, noSlot, pickPass, opened, pickSlot, slotOf}
+use Rattle.plan.specs.Plan.{keeping, relimited, placeOf}
 use Rattle.plan.specs.Known.{Found, use-right, used-as, cached-is, cached-known, keeping-edits}
-use Rattle.judge.specs.Slot.{noSlot, pickPass, opened, pickSlot, slotOf}
 use Rattle.sweep.specs.Sweep.{passOf}
 use Rattle.answers.specs.declared.DeleteAnswer.the-variants.{Deleted, Unknown}
 use Rattle.calls.specs.Calls.{slot-within, found-at, known-at, true-or}
-use Rattle.shared_opened.specs.Opened.{deleting, deletedAt}
-use Rattle.rules.specs.Both.{limitIn}
-use Rattle.shared_opened.specs.Opened.{forgotten, usedWith, relimited, limiting, limiting-known}
-use Rattle.shared_opened.specs.Opened.{reset, begins, newly, stored, stored-known, setting, liveIn}
-use Rattle.plan.specs.Plan.{placeOf}
+use Rattle.shared_opened.specs.Opened.{deleting, deletedAt, forgotten, usedWith, limiting, limiting-known}
+use Rattle.sets_opened.specs.Sets.{reset, begins, newly, stored, stored-known, setting, liveIn}
 use Rattle.calls.specs.Applies.{known-has, cached-has, place-own, place-within, reset-applies, begins-applies}
 
 -- slot at of v has a series with buckets ys, and this limit, cached factor and use; v is w but for that slot, and for the reading t

@@ -19,19 +19,21 @@ use Rattle.ring.specs.declared.Bucket.{Bucket}
 use Rattle.layout.specs.Layout.{slotsWord, ringWord, lastWord}
 use Rattle.ring.specs.Ring.{buckets}
 use Rattle.ring.specs.Sound.{soundBuckets, sound-true, true-sound, sound-later}
-use Rattle.room.specs.declared.Key.{Key}
-use Rattle.room.specs.Room.{slotsOf, ringOf, lastOf, entryOf, Room, useOf, keyAt, keyFits, bodyOf, withReading}
+use Rattle.keys.specs.declared.Key.{Key}
+use Rattle.room.specs.Room.{slotsOf, ringOf, lastOf, entryOf, Room, useOf, keyAt, bodyOf, withReading}
+use Rattle.keys.specs.Keys.{keyFits}
 use Rattle.room.specs.Laws.{room-same}
 use Rattle.frame.specs.Frame.{key-ext, body-ext}
 use Rattle.frame.specs.Distinct.{Distinct}
 use Rattle.rules.specs.declared.RoomKind.{RoomKind}
 use Rattle.rules.specs.declared.RoomKind.the-variants.{Absolute, Suppressed}
-use Rattle.judge.specs.Sound.{factorOf, factorTimeOf, hasSeries, hasCached, rightUse, soundSeries, soundCached, soundSlot}
+use Rattle.opened.specs.Sound.{factorOf, factorTimeOf, hasSeries, hasCached, rightUse, soundSeries, soundCached, soundSlot}
 use Rattle.judge.specs.Verdict.{unlessRefused}
-use Rattle.cleanup.specs.Cleanup.{uses, useAfter, useNext, swept, cleaned, refusal, cleanup}
+use Rattle.cleanup.specs.Cleanup.{refusal, cleanup}
+use Rattle.stale.specs.Uses.{uses, useAfter, useNext, swept, cleaned}
 use Rattle.rules.specs.Stale.{seriesStays, factorStays}
 use Rattle.cleanup.specs.Laws.{Passed, SoundParts, passed, passed-sound, sound-parts, parts-sound}
-use Rattle.cleanup.specs.Swept.{swept-length, swept-other, swept-use}
+use Rattle.stale.specs.Swept.{swept-length, swept-other, swept-use}
 
 -- ---- every word
 

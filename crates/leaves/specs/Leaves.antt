@@ -20,39 +20,41 @@ use Rattle.rules.specs.Buckets.{ahead, live, joined}
 use Rattle.sweep.specs.declared.tally.Pass.{Pass}
 use Rattle.ring.specs.declared.Bucket.{Bucket}
 use Rattle.ring.specs.Ring.{buckets}
-use Rattle.room.specs.declared.Key.{Key}
-use Rattle.room.specs.Room.{slotsOf, ringOf, bodyOf, keyAt, keyOf, find, withReading}
+use Rattle.keys.specs.declared.Key.{Key}
+use Rattle.room.specs.Room.{slotsOf, ringOf, bodyOf, keyAt, find, withReading}
+use Rattle.keys.specs.Keys.{keyOf}
 use Rattle.frame.specs.Distinct.{find-key}
 use Rattle.frame.specs.Frame.{Changed}
 use Rattle.frame.specs.Keys.{Bytes, key-fits}
 use Rattle.rules.specs.declared.RoomKind.the-variants as kind
-use Rattle.judge.specs.declared.Slot.{Slot}
-use Rattle.judge.specs.Judge.{early, Passed, hasSlot, slotIn}
+use Rattle.opened.specs.declared.Slot.{Slot}
+use Rattle.judge.specs.Judge.{early, Passed, slotIn}
+use Rattle.opened.specs.Slot.{hasSlot}
 use Rattle.judge.specs.Laws.{passed}
-use Rattle.judge.specs.Right.{addressed-at}
-use Rattle.judge.specs.Sound.{addressed}
+use Rattle.opened.specs.Right.{addressed-at}
+use Rattle.opened.specs.Sound.{addressed}
 use Rattle.change.specs.declared.Change.the-variants.{Keep, Update, Take}
-use Rattle.change.specs.declared.Edit.{Edit}
-use Rattle.change.specs.declared.Then.the-variants.{Nothing, Increment}
-use Rattle.change.specs.Words.{EditsAt, Applies, applied, edited, startedView, actedView, editedView}
-use Rattle.plan.specs.Plan.{evicting, opening}
+use Rattle.edit.specs.declared.Edit.{Edit}
+use Rattle.edit.specs.declared.Then.the-variants.{Nothing, Increment}
+use Rattle.change.specs.Words.{EditsAt, Applies, applied}
+use Rattle.edit.specs.Bodies.{edited, startedView, actedView, editedView}
+use Rattle.plan.specs.Plan.{evicting, opening, placeOf, lacksAt}
 use Rattle.rules.specs.declared.Asked.{Asked}
 use Rattle.rules.specs.declared.Caching.{Caching}
 use Rattle.rules.specs.declared.Caching.the-variants.{Left, Cached}
 use Rattle.rules.specs.declared.FactorRule.{FactorRule}
 use Rattle.rules.specs.declared.FactorRule.the-variants.{Nil, One, Worked}
 use Rattle.rules.specs.declared.Outcome.{Outcome}
-use Rattle.suppressed_opened.specs.Opened.{left, acceptedAt, staysAt, usableAt, ruleAt, workedAt, askedAt}
+use Rattle.factor_opened.specs.Opened.{left, staysAt, usableAt, ruleAt, workedAt, askedAt}
+use Rattle.forecast_opened.specs.Forecast.{acceptedAt, forecastAt}
 use Rattle.rules.specs.Suppressed.{cachedAt, freshBy, blindBy}
-use Rattle.suppressed_opened.specs.Opened.{forecastAt}
 use Rattle.suppressed_edits.specs.Edits.{factorAfter, timeAfter, useAfter, recached, getChange, get-series, loneEdit, loneBy, loneChange, factorChange}
 use Rattle.suppressed_edits.specs.Edits.{factor-series, factor-lone, incEdit, incChange}
-use Rattle.plan.specs.Plan.{placeOf, lacksAt}
-use Rattle.suppressed_edits.specs.Refusals.{incLate}
-use Rattle.suppressed.specs.Opened.{snapshotAt, limitAt, incOutcome}
-use Rattle.suppressed.specs.Calls.{get, getFactor, inc}
-use Rattle.suppressed.specs.Laws.{get-edits, get-done, factor-done, factor-applies, place-used, with-series, inc-done, inc-applies}
-use Rattle.suppressed.specs.Standing.{used, known, unknown, sums}
+use Rattle.suppressed_refusals.specs.Refusals.{incLate}
+use Rattle.suppressed_verdicts.specs.Opened.{snapshotAt, limitAt, incOutcome}
+use Rattle.suppressed_verdicts.specs.Calls.{get, getFactor, inc}
+use Rattle.suppressed_verdicts.specs.Laws.{get-edits, get-done, factor-done, factor-applies, place-used, with-series, inc-done, inc-applies}
+use Rattle.suppressed_verdicts.specs.Standing.{used, known, unknown, sums}
 use Rattle.leaves.specs.Calls.{Stands, keep-words, update-changed, take-changed}
 use Rattle.leaves.specs.Unit.{AskedOk, DecisionOk, CachingOk, asked-ok, outcome-ok}
 use Rattle.leaves.specs.Suppressed.{stood, cached-there, evicted-right, inc-right, lone-right}

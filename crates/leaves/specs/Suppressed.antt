@@ -18,24 +18,26 @@ use Rattle.settings.specs.declared.Settings.{Settings}
 use Rattle.common.specs.declared.units.RateLimit.{RateLimit}
 use Rattle.ring.specs.declared.Bucket.{Bucket}
 use Rattle.ring.specs.Ring.{buckets}
-use Rattle.room.specs.declared.Key.{Key}
-use Rattle.room.specs.Room.{ringOf, bodyOf, keyFits}
+use Rattle.keys.specs.declared.Key.{Key}
+use Rattle.room.specs.Room.{ringOf, bodyOf}
+use Rattle.keys.specs.Keys.{keyFits}
 use Rattle.frame.specs.Frame.{Changed}
 use Rattle.rules.specs.declared.RoomKind.the-variants as kind
-use Rattle.judge.specs.declared.Slot.{Slot}
+use Rattle.opened.specs.declared.Slot.{Slot}
 use Rattle.judge.specs.Judge.{Passed, slotIn}
-use Rattle.judge.specs.Sound.{hasSeries, hasCached, rightUse}
-use Rattle.change.specs.declared.Edit.{Edit}
-use Rattle.change.specs.declared.Then.the-variants.{Nothing, Increment}
-use Rattle.change.specs.Words.{edited, editedView, EditsAt}
+use Rattle.opened.specs.Sound.{hasSeries, hasCached, rightUse}
+use Rattle.edit.specs.declared.Edit.{Edit}
+use Rattle.edit.specs.declared.Then.the-variants.{Nothing, Increment}
+use Rattle.change.specs.Words.{EditsAt}
+use Rattle.edit.specs.Bodies.{edited, editedView}
 use Rattle.plan.specs.Known.{cached-known}
 use Rattle.plan.specs.Plan.{evicting, opening}
 use Rattle.rules.specs.declared.Caching.{Caching}
 use Rattle.rules.specs.declared.Caching.the-variants.{Left, Cached}
-use Rattle.suppressed.specs.Opened.{limitAt}
+use Rattle.suppressed_verdicts.specs.Opened.{limitAt}
 use Rattle.suppressed_edits.specs.Edits.{useLeft, factorAfter, timeAfter, useAfter, recached, loneEdit}
-use Rattle.suppressed_opened.specs.Opened.{staysAt}
-use Rattle.suppressed.specs.Standing.{used, known}
+use Rattle.factor_opened.specs.Opened.{staysAt}
+use Rattle.suppressed_verdicts.specs.Standing.{used, known}
 use Rattle.leaves.specs.Calls.{Stands, stands-so}
 use Rattle.leaves.specs.Unit.{CachingOk}
 

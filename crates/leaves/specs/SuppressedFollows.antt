@@ -33,9 +33,10 @@ use Rattle.rules.specs.Held.{Held}
 use Rattle.rules.specs.Both.{liveOf}
 use Rattle.rules.specs.Suppressed.{limitFor, usable, asked, asking, forecast, reachOf, declinedBy, outcomeOf, outcome, admits, incTurns, getTurns, factorTurns}
 use Rattle.rules.specs.Laws.{unseen, blind-is, reach-admits, reach-soft, reach-hard, reach-over, declined-all}
-use Rattle.room.specs.Room.{ringOf, keyOf, withReading}
+use Rattle.room.specs.Room.{ringOf, withReading}
+use Rattle.keys.specs.Keys.{keyOf}
 use Rattle.frame.specs.Keys.{Bytes}
-use Rattle.judge.specs.declared.Slot.{Slot}
+use Rattle.opened.specs.declared.Slot.{Slot}
 use Rattle.judge.specs.Held.{heldIn, noneFree}
 use Rattle.judge.specs.Judge.{refusals, early, Passed, slotIn}
 use Rattle.judge.specs.Laws.{passed}
@@ -43,14 +44,15 @@ use Rattle.judge.specs.Verdict.{Verdict}
 use Rattle.change.specs.Words.{applied}
 use Rattle.plan.specs.Plan.{placeOf, lacksAt}
 use Rattle.plan.specs.Seen.{Seen, seen, lacks-is}
-use Rattle.suppressed_opened.specs.Opened.{usableAt, askedAt, forecastAt}
+use Rattle.factor_opened.specs.Opened.{usableAt, askedAt}
+use Rattle.forecast_opened.specs.Forecast.{forecastAt}
 use Rattle.suppressed_edits.specs.Edits.{factorAfter, timeAfter, useAfter, getChange, factorChange, incChange}
-use Rattle.suppressed_edits.specs.Refusals.{incLate}
-use Rattle.suppressed.specs.Calls.{get, getFactor, inc}
-use Rattle.suppressed.specs.Opened.{unperceived, askingAt, snapshotAt, limitAt, incOutcome}
-use Rattle.suppressed.specs.Laws.{get-done, factor-done, inc-done}
-use Rattle.suppressed.specs.Seen.{usable-is, asking-is, limit-is, decides, late-is}
-use Rattle.suppressed.specs.Standing.{sums, unperceived-is}
+use Rattle.suppressed_refusals.specs.Refusals.{incLate}
+use Rattle.suppressed_verdicts.specs.Calls.{get, getFactor, inc}
+use Rattle.suppressed_verdicts.specs.Opened.{unperceived, askingAt, snapshotAt, limitAt, incOutcome}
+use Rattle.suppressed_verdicts.specs.Laws.{get-done, factor-done, inc-done}
+use Rattle.suppressed_verdicts.specs.Seen.{usable-is, asking-is, limit-is, decides, late-is}
+use Rattle.suppressed_verdicts.specs.Standing.{sums, unperceived-is}
 use Rattle.leaves.specs.Calls.{Stands}
 use Rattle.leaves.specs.Follows.{Follows, call-follows}
 use Rattle.leaves.specs.Unit.{DecisionOk}

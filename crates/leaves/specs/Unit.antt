@@ -16,7 +16,7 @@ use Rattle.settings.specs.Settings.{windowIn, factorIn, cacheIn, Proper}
 use Rattle.settings.specs.declared.Settings.{Settings}
 use Rattle.answers.specs.declared.RateLimitDecision.{RateLimitDecision}
 use Rattle.answers.specs.declared.RateLimitDecision.the-variants.{Allowed, Rejected, Suppressed, Refused}
-use Rattle.judge.specs.declared.Slot.{Slot}
+use Rattle.opened.specs.declared.Slot.{Slot}
 use Rattle.rules.specs.declared.FactorRule.{FactorRule}
 use Rattle.rules.specs.declared.FactorRule.the-variants.{Nil, One, Worked}
 use Rattle.rules.specs.declared.Caching.{Caching}
@@ -24,11 +24,10 @@ use Rattle.rules.specs.declared.Caching.the-variants.{Left, Cached}
 use Rattle.rules.specs.declared.Asked.{Asked}
 use Rattle.rules.specs.declared.Reach.{Reach}
 use Rattle.rules.specs.declared.Reach.the-variants.{Hard, Soft, Over, Between}
-use Rattle.suppressed_opened.specs.Opened.{acceptedAt, left, staysAt, usableAt, ruleAt, workedAt, askedAt}
-use Rattle.rules.specs.Suppressed.{freshBy, blindBy}
-use Rattle.rules.specs.Suppressed.{reachOf, drawn, outcomeOf}
-use Rattle.suppressed_opened.specs.Opened.{outcomeAt}
-use Rattle.suppressed.specs.Standing.{Sums}
+use Rattle.factor_opened.specs.Opened.{left, staysAt, usableAt, ruleAt, workedAt, askedAt}
+use Rattle.forecast_opened.specs.Forecast.{acceptedAt, outcomeAt}
+use Rattle.rules.specs.Suppressed.{freshBy, blindBy, reachOf, drawn, outcomeOf}
+use Rattle.suppressed_verdicts.specs.Standing.{Sums}
 
 -- ---- 0 and 1
 

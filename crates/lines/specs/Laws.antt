@@ -1,18 +1,20 @@
 -- Reading and showing whole lines undo each other: a line is read exactly where values in range show as it, and as these values.
 -- Assumes nothing.
 use mathlib.Core.Path.{_≡_, refl, sym, ap, subst, _∙_}
-use mathlib.Core.Bool.{Bool, true, false, cond, _&&_}
-use mathlib.Core.List.{List, [], _∷_, _++_, append-nil}
+use mathlib.Core.Bool.{Bool, true, false}
+use mathlib.Core.List.{List, [], _++_, append-nil}
 use Prim.Native.Nat.{ℕ, _+_, _-_, _≤_}
 use native.Mathlib.Omega.{arith}
 use lib.ListN.{length, take, drop, length-append, length-drop, drop-of-length-le}
 use lib.Dec.{leb, eqb}
 use borrow.Author.Tests.{le-leb, leb-true, eq-eqb, eqb-true}
-use Rattle.lines.specs.Bytes.{counts, classOf}
-use Rattle.lines.specs.Numbers.{showNumber}
-use Rattle.lines.specs.Shown.{windowText, bucketText, factorText, cacheText, tText, opText, keyText, rateText, nText, drawText, largest, exactLargest}
-use Rattle.lines.specs.Shown.{Key, showSettings, SettingsFit, showCall, CallFits, keyStart}
-use Rattle.lines.specs.Reading.{fieldAt, textAt, keyAt, opAt, closes, amountsAt, readSettings, readCall}
+use Rattle.fields.specs.Bytes.{counts, classOf}
+use Rattle.fields.specs.Numbers.{showNumber}
+use Rattle.lines.specs.Shown.{windowText, bucketText, factorText, cacheText, tText, opText, keyText, rateText, nText, drawText}
+use Rattle.fields.specs.Ranges.{largest, exactLargest}
+use Rattle.lines.specs.Shown.{showSettings, SettingsFit, showCall, CallFits, keyStart}
+use Rattle.lines.specs.Reading.{opAt, closes, amountsAt, readSettings, readCall}
+use Rattle.fields.specs.Parts.{fieldAt, textAt, keyAt}
 use Rattle.lines.specs.ReadLaws.{Stops, Field, KeyRead, each-number, each-place, each-name, each-amounts, each-test, both, past-part, past-field}
 use Rattle.lines.specs.ReadLaws.{text-shown, text-read, field-shown, field-read, key-shown, key-read, op-shown, op-read}
 use Rattle.lines.specs.declared.Op.{Op}

@@ -2,23 +2,25 @@
 -- Assumes nothing.
 use mathlib.Core.Path.{_≡_, refl, sym, ap, subst, _∙_}
 use mathlib.Core.Bool.{Bool, true, false, cond, _&&_, false≢true}
-use mathlib.Core.List.{List, [], _∷_, _++_, append-assoc, append-nil}
+use mathlib.Core.List.{List, [], _∷_, _++_}
 use Prim.Native.Nat.{ℕ, zero, suc, _+_, _-_, _≤_, _<_}
 use native.Mathlib.Decide.{decLt}
 use native.Mathlib.Omega.{arith}
-use lib.ListN.{length, getD, take, drop, length-append, length-drop, length-take, take-append-drop, List·getD-append}
+use lib.ListN.{length, getD, take, drop, take-append-drop, List·getD-append}
 use lib.Seq.{take-append-seam, drop-append-seam, drop-drop, length-take-le}
 use lib.Dec.{leb, ltb, eqb}
-use borrow.Author.Tests.{le-leb, leb-true, lt-ltb, le-ltb, ltb-false, eq-eqb, ne-eqb, eqb-true, eqb-false}
-use Rattle.lines.specs.Bytes.{counts, classOf}
-use Rattle.lines.specs.Numbers.{showNumber, value, Each, show-digits, value-show, show-value, show-length, show-first, show-small}
-use Rattle.lines.specs.Shown.{opText, Key, largest}
-use Rattle.lines.specs.Reading.{run, begins, textAt, numberOf, numberAt, numberIn, keyAt, fieldAt, opAt, onNumber, onPlace, onName, onAmounts}
-use Rattle.lines.specs.Turns.{run-length}
-use Rattle.lines.specs.declared.Number.{Number}
-use Rattle.lines.specs.declared.Number.the-variants.{Found, NoNumber}
-use Rattle.lines.specs.declared.Place.{Place}
-use Rattle.lines.specs.declared.Place.the-variants.{At, Missing}
+use borrow.Author.Tests.{le-leb, leb-true, le-ltb, ltb-false, eq-eqb, ne-eqb, eqb-true, eqb-false}
+use Rattle.fields.specs.Bytes.{counts}
+use Rattle.fields.specs.Numbers.{showNumber, value, Each, show-digits, value-show, show-value, show-length, show-first, show-small}
+use Rattle.lines.specs.Shown.{opText}
+use Rattle.fields.specs.Ranges.{Key, largest}
+use Rattle.lines.specs.Reading.{opAt, onName, onAmounts}
+use Rattle.fields.specs.Parts.{run, begins, textAt, numberOf, numberAt, keyAt, fieldAt, onNumber, onPlace}
+use Rattle.fields.specs.Turns.{run-length}
+use Rattle.fields.specs.declared.Number.{Number}
+use Rattle.fields.specs.declared.Number.the-variants.{Found, NoNumber}
+use Rattle.fields.specs.declared.Place.{Place}
+use Rattle.fields.specs.declared.Place.the-variants.{At, Missing}
 use Rattle.lines.specs.declared.Op.{Op}
 use Rattle.lines.specs.declared.Op.the-variants.{AbsoluteInc, AbsoluteGet, SuppressedInc, SuppressedGet}
 use Rattle.lines.specs.declared.Amounts.{Amounts}

@@ -1,14 +1,13 @@
 -- The lines that `desk` reads, as bytes, in 01's words: these are the definitions to hold beside the page.
 -- Assumes nothing.
-use mathlib.Core.Path.{_≡_}
-use mathlib.Core.Bool.{true}
 use mathlib.Core.List.{List, [], _∷_, _++_}
-use Prim.Native.Nat.{ℕ, zero, suc, _+_, _≤_}
+use Prim.Native.Nat.{ℕ, _+_, _≤_}
 use lib.ListN.{length}
-use Rattle.lines.specs.Bytes.{counts}
-use Rattle.lines.specs.Numbers.{showNumber, Each}
+use Rattle.fields.specs.Bytes.{counts}
+use Rattle.fields.specs.Numbers.{showNumber}
 use Rattle.lines.specs.declared.Op.{Op}
 use Rattle.lines.specs.declared.Op.the-variants.{AbsoluteInc, AbsoluteGet, SuppressedInc, SuppressedGet}
+use Rattle.fields.specs.Ranges.{largest, exactLargest, Key}
 
 -- ---- words of a line, by their bytes
 
@@ -54,22 +53,6 @@ nText = 32 ∷ 110 ∷ 61 ∷ []
 --  draw=
 abbrev pub drawText : List ℕ
 drawText = 32 ∷ 100 ∷ 114 ∷ 97 ∷ 119 ∷ 61 ∷ []
-
--- ---- ranges
-
--- 01: "All numbers are u64"
-abbrev pub largest : ℕ
-largest = 18446744073709551615
-
--- 01: "rate and factor at most 2^53"
-abbrev pub exactLargest : ℕ
-exactLargest = 9007199254740992
-
--- 01: "keys there are 1 to 32 small letters or digits"
-pub record Key (key : List ℕ) : Type 0 where
-  pub some : 1 ≤ length key
-  pub short : length key ≤ 32
-  pub plain : Each (counts true) key
 
 -- ---- the lines that are read
 

@@ -7,11 +7,11 @@ use mathlib.Core.Logic.{_≢_}
 use Prim.Native.Nat.{ℕ, _<_}
 use native.Mathlib.Decide.{ℕ-discrete, decLt}
 use native.Mathlib.Omega.{arith}
-use Rattle.room.specs.declared.Key.{Key}
+use Rattle.keys.specs.declared.Key.{Key}
 use Rattle.room.specs.Room.{slotsOf, ringOf, lastOf, useOf, keyAt, find, bodyOf}
 use Rattle.frame.specs.Distinct.{Distinct, find-key, find-where}
 use Rattle.frame.specs.Frame.{Changed, other-use, other-key}
-use Rattle.judge.specs.Sound.{hasSeries}
+use Rattle.opened.specs.Sound.{hasSeries}
 
 -- slot i has key k's series
 pub record Has (w : List ℕ) (k : Key) (i : ℕ) : Type 0 where

@@ -6,14 +6,16 @@ use mathlib.Core.Bool.{Bool, true, false, cond}
 use mathlib.Core.List.{List}
 use mathlib.Core.Logic.{_≢_}
 use Prim.Native.Nat.{ℕ, _≤_}
-use Rattle.room.specs.declared.Key.{Key}
-use Rattle.room.specs.Room.{Room, slotsOf, ringOf, useOf, keyAt, keyOf, find, bodyOf, withReading}
+use Rattle.keys.specs.declared.Key.{Key}
+use Rattle.room.specs.Room.{Room, slotsOf, ringOf, useOf, keyAt, find, bodyOf, withReading}
+use Rattle.keys.specs.Keys.{keyOf}
 use Rattle.frame.specs.Distinct.{Distinct, find-none, distinct-taken, distinct-kept, distinct-freed, distinct-still}
 use Rattle.frame.specs.Frame.{Changed, read-run}
 use Rattle.change.specs.declared.Change.{Change}
 use Rattle.change.specs.declared.Change.the-variants.{Keep, Free, Update, Take}
-use Rattle.change.specs.declared.Edit.{Edit}
-use Rattle.change.specs.Words.{edited, applied, Applies, EditsAt}
+use Rattle.edit.specs.declared.Edit.{Edit}
+use Rattle.change.specs.Words.{applied, Applies, EditsAt}
+use Rattle.edit.specs.Bodies.{edited}
 use Rattle.leaves.specs.Calls.{keep-words, free-changed, update-changed, take-changed}
 use Rattle.places.specs.Has.{Has, free-has, Same, changed-same, still-same}
 

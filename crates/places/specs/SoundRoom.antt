@@ -12,12 +12,13 @@ use lib.ListN.{length}
 use borrow.Author.Tests.{ltb-true}
 use Rattle.base.specs.Decides.{true-and}
 use Rattle.settings.specs.declared.Settings.{Settings}
-use Rattle.room.specs.Room.{Room, slotsOf, ringOf, lastOf, useOf, keyFits, keyOf, find, bodyOf, sized, fits, empty}
+use Rattle.room.specs.Room.{Room, slotsOf, ringOf, lastOf, useOf, find, bodyOf, sized, fits, empty}
+use Rattle.keys.specs.Keys.{keyFits, keyOf}
 use Rattle.room.specs.Laws.{room-sized}
 use Rattle.frame.specs.Distinct.{find-use}
 use Rattle.frame.specs.Whole.{empty-free, empty-room}
 use Rattle.rules.specs.declared.RoomKind.{RoomKind}
-use Rattle.judge.specs.Sound.{rightUse, hasSeries, hasCached, soundSeries, soundCached, soundSlot, addressed, soundAt}
+use Rattle.opened.specs.Sound.{rightUse, hasSeries, hasCached, soundSeries, soundCached, soundSlot, addressed, soundAt}
 use Rattle.cleanup.specs.Laws.{sound-parts, parts-sound}
 use Rattle.leaves.specs.Cleanup.{series-later, cached-later}
 use Rattle.places.specs.Has.{Untouched}

@@ -21,17 +21,18 @@ use Rattle.ring.specs.Ring.{counts, declineds, totalOf, declinedOf, buckets}
 use Rattle.ring.specs.Sound.{Sound, soundBuckets, sound-true, sound-later}
 use Rattle.room.specs.Room.{Room, slotsOf, ringOf, lastOf, useOf, bodyOf, keySound}
 use Rattle.room.specs.Laws.{body-length}
-use Rattle.change.specs.declared.Edit.{Edit}
-use Rattle.change.specs.declared.Then.{Then}
-use Rattle.change.specs.Words.{ActsOn, startedView, EditsAt}
+use Rattle.edit.specs.declared.Edit.{Edit}
+use Rattle.edit.specs.declared.Then.{Then}
+use Rattle.change.specs.Words.{EditsAt}
+use Rattle.edit.specs.Bodies.{ActsOn, startedView}
 use Rattle.rules.specs.declared.RoomKind.{RoomKind}
-use Rattle.judge.specs.declared.Slot.{Slot}
-use Rattle.judge.specs.Sound.{limitOf, factorOf, factorTimeOf, hasSeries, hasCached, rightUse, declinedRight, soundSeries, soundCached, soundSlot, addressed}
-use Rattle.judge.specs.Sound.{soundAt}
+use Rattle.opened.specs.declared.Slot.{Slot}
+use Rattle.opened.specs.Sound.{limitOf, factorOf, factorTimeOf, hasSeries, hasCached, rightUse, declinedRight, soundSeries, soundCached, soundSlot, addressed}
+use Rattle.opened.specs.Sound.{soundAt}
 use Rattle.rules.specs.Both.{divisor}
-use Rattle.judge.specs.Slot.{noSlot, pickPass, opened, slotOf}
+use Rattle.opened.specs.Slot.{noSlot, pickPass, opened, slotOf}
 use Rattle.judge.specs.Judge.{Passed}
-use Rattle.judge.specs.Right.{slot-here, slot-none}
+use Rattle.opened.specs.Right.{slot-here, slot-none}
 use Rattle.plan.specs.Plan.{opening}
 
 -- the slot of a key that has a slot

@@ -5,10 +5,10 @@ use mathlib.Core.List.{List}
 use Prim.Native.Nat.{ℕ, _-_}
 use lib.Dec.{leb, ltb}
 use Rattle.room.specs.Room.{slotsOf, vacant}
-use Rattle.judge.specs.Judge.{hasSlot}
-use Rattle.change.specs.declared.Edit.{Edit}
-use Rattle.change.specs.declared.Then.{Then}
-use Rattle.judge.specs.declared.Slot.{Slot}
+use Rattle.opened.specs.Slot.{hasSlot}
+use Rattle.edit.specs.declared.Edit.{Edit}
+use Rattle.edit.specs.declared.Then.{Then}
+use Rattle.opened.specs.declared.Slot.{Slot}
 
 -- ---- where
 
@@ -85,3 +85,7 @@ restored e limit factor time used = record {
   «factor_time» = time;
   used = used;
 }
+
+-- an edit with another limit and use
+abbrev pub relimited : Edit → ℕ → ℕ → Edit
+relimited e limit used = restored e limit (e .factor) (e .«factor_time») used

@@ -11,7 +11,7 @@ use borrow.Author.Tests.{lt-ltb, le-ltb, ltb-true, ltb-false}
 use Rattle.settings.specs.Settings.{windowIn}
 use Rattle.settings.specs.declared.Settings.{Settings}
 use Rattle.rules.specs.Buckets.{windowTicks, older, recent, ahead, gone, live, newest, joins, lastSecond}
-use Rattle.sweep.specs.Measured.{newest-drop}
+use Rattle.rules.specs.Laws.{newest-drop}
 use Rattle.sweep.specs.Sweep.{passOf, unsound}
 use Rattle.sweep.specs.declared.tally.Pass.{Pass}
 use Rattle.ring.specs.declared.Bucket.{Bucket}
@@ -21,11 +21,11 @@ use Rattle.rules.specs.declared.RoomKind.{RoomKind}
 use Rattle.rules.specs.Held.{Held, nothing, hasAny, lacksSlot}
 use Rattle.rules.specs.Both.{ringFull}
 use Rattle.room.specs.Room.{slotsOf, ringOf, lastOf, useOf, bodyOf, vacant}
-use Rattle.judge.specs.declared.Slot.{Slot}
-use Rattle.judge.specs.Sound.{limitOf, factorOf, factorTimeOf, hasSeries, hasCached, addressed}
-use Rattle.judge.specs.Slot.{noSlot, pickPass, opened}
+use Rattle.opened.specs.declared.Slot.{Slot}
+use Rattle.opened.specs.Sound.{limitOf, factorOf, factorTimeOf, hasSeries, hasCached, addressed}
+use Rattle.opened.specs.Slot.{noSlot, pickPass, opened, hasSlot}
 use Rattle.judge.specs.Held.{heldBy, heldOf, heldIn, noneFree, held-here, held-none}
-use Rattle.judge.specs.Judge.{Passed, hasSlot, slotIn}
+use Rattle.judge.specs.Judge.{Passed, slotIn}
 use Rattle.plan.specs.Plan.{placeOf, lacksAt, joinsAfter, fullAfter}
 use Rattle.plan.specs.Known.{Found, Known, found, none, at-as, series-known, series-is, cached-is}
 

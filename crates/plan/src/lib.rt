@@ -4,10 +4,10 @@ ghost use mathlib.Core.Path.{_≡_};
 ghost use Prim.Native.Nat.{_-_};
 ghost use Rattle.rules.specs.Both.{passes};
 ghost use Rattle.room.specs.Room.{Room};
-ghost use Rattle.plan.specs.Plan.{placeOf, lacksAt, joinsAfter, fullAfter, keeping, evicting, opening, restored};
-use change::Edit;
-use change::Then;
-use judge::Slot;
+ghost use Rattle.plan.specs.Plan.{placeOf, lacksAt, joinsAfter, fullAfter, keeping, evicting, opening, restored, relimited};
+use edit::Edit;
+use edit::Then;
+use opened::Slot;
 
 // ---- where
 
@@ -16,7 +16,7 @@ pub fn place(w: &[u64], x: Slot) -> usize
     requires { ⌜ Room (now w) ⌝ }
     ensures { λ n. ⌜ n ≡ placeOf (now (w .entry)) x ⌝ }
 {
-    if judge::has_slot(x) {
+    if opened::has_slot(x) {
         return x.at;
     }
     room::vacant(w)
@@ -28,7 +28,7 @@ pub fn lacks_slot(w: &[u64], at: usize, x: Slot) -> bool
     ensures { λ y. ⌜ y ≡ lacksAt (now (w .entry)) at x ⌝ }
 {
     let slots = w[layout::SLOTS] as usize;
-    if judge::has_slot(x) {
+    if opened::has_slot(x) {
         return false;
     }
     slots <= at
@@ -148,4 +148,11 @@ pub fn restored(e: Edit, limit: u64, factor: u64, factor_time: u64, used: u64) -
         factor_time,
         used,
     }
+}
+
+// An edit with another limit and use.
+pub fn relimited(e: Edit, limit: u64, used: u64) -> Edit
+    ensures { λ r. ⌜ r ≡ relimited e limit used ⌝ }
+{
+    restored(e, limit, e.factor, e.factor_time, used)
 }

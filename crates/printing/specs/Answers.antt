@@ -5,7 +5,7 @@ use mathlib.Core.List.{List, [], _∷_, _++_}
 use Prim.Native.Nat.{ℕ, zero, suc, _+_, _/_, _%_}
 use lib.ListN.{length, drop}
 use lib.Dec.{ltb}
-use Rattle.lines.specs.Numbers.{showNumber}
+use Rattle.fields.specs.Numbers.{showNumber}
 use Rattle.lines.specs.Shown.{tText, factorText}
 use Rattle.printing.specs.declared.Answer.{Answer}
 use Rattle.printing.specs.declared.Answer.the-variants.{Allowed, Rejected, Yes, No, Value, Refused}

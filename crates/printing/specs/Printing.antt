@@ -10,7 +10,7 @@ use lib.ListN.{length, getD, take, drop, set, length-append, length-take, length
 use lib.Seq.{length-take-le, take-at, drop-at, set-at, drop-cons, drop-drop, append-snoc, take-length, paste, paste-zero, paste-suc}
 use lib.Dec.{ltb}
 use borrow.Author.Tests.{lt-ltb, le-ltb}
-use Rattle.lines.specs.Numbers.{showNumber, show-small, show-more, show-longer}
+use Rattle.fields.specs.Numbers.{showNumber, show-small, show-more, show-longer}
 use Rattle.printing.specs.Answers.{showAnswer, showVerdict, showCounts, printed, printedLength, longest, hexDigits, hexDigit}
 use Rattle.printing.specs.declared.AnswerLine.{AnswerLine}
 

@@ -3,7 +3,7 @@ ghost use mathlib.Core.Path.{_≡_};
 ghost use Prim.Native.Nat.{_+_, _≤_, _<_};
 ghost use mathlib.Core.List.{_++_};
 ghost use lib.ListN.{length};
-ghost use Rattle.lines.specs.Numbers.{showNumber};
+ghost use Rattle.fields.specs.Numbers.{showNumber};
 ghost use Rattle.lines.specs.Shown.{factorText};
 ghost use Rattle.printing.specs.Answers.{showField, answerText, showHex16, hexDigit, hexDigits, showVerdict, showCounts, longest};
 ghost use Rattle.printing.specs.Printing.{Put, PutField, PutFour, Printed};

@@ -32,17 +32,21 @@ use Rattle.ring.specs.Sound as RingSound
 use Rattle.rules.specs.Buckets as Rules
 use Rattle.sweep.specs.Sweep as Sweep
 use Rattle.history.specs.Words as HistoryWords
+use Rattle.preserve.specs.Preserving as Preserving
 use Rattle.room.specs.Room as Room
+use Rattle.keys.specs.Keys as Keys
 use Rattle.room.specs.Room.{useOf, bodyOf}
 use Rattle.judge.specs.Judge as Judge
-use Rattle.judge.specs.Slot as Slot
-use Rattle.judge.specs.Sound as Sound
+use Rattle.opened.specs.Slot as Slot
+use Rattle.opened.specs.Sound as Sound
 use Rattle.judge.specs.Verdict as Verdicts
 use Rattle.change.specs.Words as Words
+use Rattle.edit.specs.Bodies as Bodies
 use Rattle.calls.specs.Set as Sets
 use Rattle.cleanup.specs.Cleanup as Cleanup
+use Rattle.stale.specs.Uses as Uses
 use Rattle.cleanup.specs.Every as Every
-use Rattle.absolute.specs.Calls as Absolute
+use Rattle.absolute_verdicts.specs.Calls as Absolute
 use Rattle.absolute_opened.specs.Opened as AbsoluteEdits
 use Rattle.rules.specs.Both as Both
 use Rattle.rules.specs.Absolute as AbsoluteRules
@@ -51,13 +55,13 @@ use Rattle.rules.specs.Sets as SetRules
 use Rattle.rules.specs.Stale as Stale
 use Rattle.judge.specs.Held as Held
 use Rattle.plan.specs.Plan as Plan
-use Rattle.shared_opened.specs.Opened as SetEdits
-use Rattle.suppressed.specs.Calls as SuppressedCalls
+use Rattle.sets_opened.specs.Sets as SetsOpened
+use Rattle.suppressed_verdicts.specs.Calls as SuppressedCalls
 use Rattle.suppressed_edits.specs.Edits as Edits
-use Rattle.suppressed_opened.specs.Opened as SuppressedSlots
+use Rattle.factor_opened.specs.Opened as SuppressedSlots
 use Rattle.demand3.specs.History.{hardOf}
-use Rattle.readout.specs.ReadOut as ReadOut
-use Rattle.readout.specs.ReadOut.{bucketsOf}
+use Rattle.finding.specs.Finding as Finding
+use Rattle.finding.specs.Finding.{bucketsOf}
 use Rattle.steps.specs.Table.{suppressedInc}
 use Rattle.promises.specs.Cases.{half, hardBy, perSecond, key, room, ainc, aget, ten, sinc, factorAt, sget, eightAndTwo, single, twenty, clean}
 use Rattle.promises.specs.Cases.{sevenFive, preserve, twentieth}
@@ -131,16 +135,16 @@ pub computed : Computed
 unfolding Seek.seek Splice.splice Tab.tab Factor.freshFactor Factor.perceivesNothing Factor.factorWordOk Factor.admitted Limits.absoluteWord Limits.hardWord
     Limits.cutWord Limits.softWord Limits.limitOk Ranges.rateOk Ranges.factorOk Refusals.first Settings.faults Share.mulDiv Order.fine Ring.sumOf Ring.wrap
     Ring.bucketAt Ring.buckets Ring.shaped Ring.pushed Ring.rewritten Ring.without RingSound.soundBuckets Rules.older Rules.recent Rules.ahead Rules.joins
-    Rules.partial Sweep.passOf HistoryWords.incremented HistoryWords.wholes HistoryWords.partWords HistoryWords.shrunkWords HistoryWords.preservedWords
-    Room.fits Room.empty Room.keyOf Room.sameKey Room.unusedZero Room.keyFits Room.keyAt Room.free Room.has Room.bodyFrom Room.entered Room.withUse
+    Rules.partial Sweep.passOf HistoryWords.incremented Preserving.wholes Preserving.partWords Preserving.shrunkWords Preserving.preservedWords
+    Room.fits Room.empty Keys.keyOf Keys.sameKey Keys.unusedZero Keys.keyFits Room.keyAt Room.free Room.has Room.bodyFrom Room.entered Room.withUse
     Room.withReading Judge.misfits Slot.opened Slot.slotOf Sound.rightUse Sound.soundSeries Sound.soundCached Sound.soundSlot Sound.addressed Sound.soundAt
-    Verdicts.unlessRefused Words.begun Words.started Words.acted Words.fixed Words.edited Words.withEdit Words.updated Words.taken Words.carried
-    Words.applied Every.every Cleanup.useAfter Cleanup.swept Cleanup.cleaned Cleanup.slotPasses Cleanup.misfits Cleanup.cleanup Absolute.get Absolute.inc
-    Edits.recached Edits.getChange Edits.factorChange Edits.incEdit Edits.incChange ReadOut.bucketsOf Ieee.le Ieee.lt Ieee.eq Ieee.mul Ieee.div Ieee.sub
+    Verdicts.unlessRefused Bodies.begun Bodies.started Bodies.acted Bodies.fixed Bodies.edited Words.withEdit Words.updated Words.taken Words.carried
+    Words.applied Every.every Uses.useAfter Uses.swept Uses.cleaned Cleanup.slotPasses Cleanup.misfits Cleanup.cleanup Absolute.get Absolute.inc
+    Edits.recached Edits.getChange Edits.factorChange Edits.incEdit Edits.incChange Finding.bucketsOf Ieee.le Ieee.lt Ieee.eq Ieee.mul Ieee.div Ieee.sub
     Ieee.add Ieee.ofInt Ieee.ofBits Ieee.ofFields Ieee.toBits Ieee.toUnsigned Ieee.fits SuppressedCalls.get SuppressedCalls.getFactor SuppressedCalls.inc
     Sets.set Held.heldIn Plan.placeOf Both.passes Both.ringFull AbsoluteRules.below AbsoluteRules.tested AbsoluteRules.allowed AbsoluteRules.decided
     AbsoluteRules.takesOut AbsoluteEdits.getChange AbsoluteEdits.incChange SuppressedRules.stays SuppressedRules.asked SuppressedRules.reachOf
-    SuppressedRules.drawn SuppressedRules.outcome SuppressedSlots.staysAt SetRules.already SetRules.idle SetRules.outcome SetEdits.stored SetEdits.setting
+    SuppressedRules.drawn SuppressedRules.outcome SuppressedSlots.staysAt SetRules.already SetRules.idle SetRules.outcome SetsOpened.stored SetsOpened.setting
     Stale.seriesStays Stale.factorStays
 computed = record {
   table = record {

@@ -23,8 +23,8 @@ use Rattle.rules.specs.declared.RoomKind.the-variants as kind
 use Rattle.judge.specs.Verdict.{Verdict}
 use Rattle.calls.specs.Set as Sets
 use Rattle.cleanup.specs.Cleanup as Cleanup
-use Rattle.absolute.specs.Calls as Absolute
-use Rattle.suppressed.specs.Calls as Suppressed
+use Rattle.absolute_verdicts.specs.Calls as Absolute
+use Rattle.suppressed_verdicts.specs.Calls as Suppressed
 
 -- ---- settings, rates, the room and the key
 

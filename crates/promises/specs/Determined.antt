@@ -22,9 +22,11 @@ use Rattle.rows.specs.Plain.{Given}
 use Rattle.abi.specs.Faces.{Face, Faced}
 use Rattle.desk_step.specs.Desk.{Step, Answered}
 use Rattle.desk_feed.specs.declared.Progress.{Progress}
-use Rattle.desk_feed.specs.declared.Turn.{Turn}
-use Rattle.desk_feed.specs.Feed.{Effect, Whole, whole, feed}
-use Rattle.desk_feed.specs.Contracts.{Took, Feeding, BothMade}
+use Rattle.desk_turn.specs.declared.Turn.{Turn}
+use Rattle.desk_feed.specs.Feed.{Whole, whole, feed}
+use Rattle.desk_turn.specs.Lines.{Effect}
+use Rattle.desk_feed.specs.Contracts.{Feeding, BothMade}
+use Rattle.desk_turn.specs.Taking.{Took}
 use Rattle.printing.specs.Printing.{pasted, Printed}
 use Rattle.printing.specs.declared.AnswerLine.{AnswerLine}
 use Rattle.steps.specs.Ops.{Op, verdictOf}

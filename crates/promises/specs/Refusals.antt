@@ -17,9 +17,10 @@ use Rattle.settings.specs.declared.Settings.{Settings}
 use Rattle.ring.specs.declared.Bucket.{Bucket}
 use Rattle.room.specs.Room.{sized}
 use Rattle.rules.specs.declared.RoomKind.{RoomKind}
-use Rattle.judge.specs.Sound.{addressed, soundAt}
+use Rattle.opened.specs.Sound.{addressed, soundAt}
 use Rattle.provider.specs.Provider as Provider
 use Rattle.readout.specs.ReadOut as ReadOut
+use Rattle.finding.specs.Finding as Finding
 use Rattle.readout.specs.declared.ReadOutAnswer.{ReadOutAnswer}
 use Rattle.readout.specs.declared.ReadOutAnswer.the-variants as readOut
 use Rattle.steps.specs.Lowest.{TurnedBy, turned-by}
@@ -51,8 +52,8 @@ pub record Demand1 : Type 0 where
   pub read-out : (kind : RoomKind) (s : Settings) (w key : List ℕ) (cells : List Bucket) →
       TurnedBy (reads kind s w key) (readOutRow (ReadOut.readOut kind s w key cells .answer)) cells (ReadOut.readOut kind s w key cells .row)
 
-pub reads-number : (kind : RoomKind) (s : Settings) (w key : List ℕ) → ReadOut.refusal kind s w key ≡ first (reads kind s w key)
-unfolding ReadOut.refusal
+pub reads-number : (kind : RoomKind) (s : Settings) (w key : List ℕ) → Finding.refusal kind s w key ≡ first (reads kind s w key)
+unfolding Finding.refusal
 reads-number kind s w key = refl
 
 read-turned : (kind : RoomKind) (s : Settings) (w key : List ℕ) (cells : List Bucket) →

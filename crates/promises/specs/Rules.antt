@@ -20,14 +20,15 @@ use Rattle.frame.specs.Keys.{Bytes}
 use Rattle.rules.specs.declared.RoomKind.{RoomKind}
 use Rattle.rules.specs.declared.RoomKind.the-variants as kind
 use Rattle.judge.specs.Judge.{slotIn}
-use Rattle.calls.specs.Clear as Clear
+use Rattle.clearing.specs.Clear as Clear
 use Rattle.calls.specs.Delete as Delete
 use Rattle.calls.specs.Rate as Rate
 use Rattle.calls.specs.Set as Sets
 use Rattle.cleanup.specs.Cleanup as Cleanup
+use Rattle.stale.specs.Uses as Uses
 use Rattle.leaves.specs.Cleanup.{done-answer, done-words}
-use Rattle.absolute.specs.Calls as Absolute
-use Rattle.suppressed.specs.Calls as Suppressed
+use Rattle.absolute_verdicts.specs.Calls as Absolute
+use Rattle.suppressed_verdicts.specs.Calls as Suppressed
 use Rattle.leaves.specs.AbsoluteLeaves.{GetLaw, AskLaw, IncLaw}
 use Rattle.leaves.specs.Absolute as Absolutely
 use Rattle.leaves.specs.SuppressedFollows as Own
@@ -38,7 +39,8 @@ use Rattle.judge.specs.Held.{heldIn}
 use Rattle.provider.specs.Provider as Provider
 use Rattle.provider.specs.Laws.{lowest-none, both-by-table}
 use Rattle.readout.specs.ReadOut as ReadOut
-use Rattle.readout.specs.ReadOut.{bucketsOf}
+use Rattle.finding.specs.Finding as Finding
+use Rattle.finding.specs.Finding.{bucketsOf}
 use Rattle.readout.specs.Row.{laid}
 use Rattle.readout.specs.declared.ReadOutAnswer.the-variants as readOut
 use Rattle.steps.specs.Table.{absoluteInc, plain, suppressedInc, suppressedGet, suppressedFactor, setRate, sets, clears, cleans, cleansBoth}
@@ -109,16 +111,16 @@ cleans-both s a b t stale e =
     let y : true ≡ eqb (Provider.refusalOfBoth s a b t) 0 = sym (eq-eqb _ 0 n) in
     record {
       answer = rw n;
-      absolute = subst (λ (x : Bool). CleanRule kind.Absolute s a (cond x (Cleanup.cleaned a t stale) a) t stale) y
+      absolute = subst (λ (x : Bool). CleanRule kind.Absolute s a (cond x (Uses.cleaned a t stale) a) t stale) y
           (clean-follows kind.Absolute s a t stale (z .0));
-      suppressed = subst (λ (x : Bool). CleanRule kind.Suppressed s b (cond x (Cleanup.cleaned b t stale) b) t stale) y
+      suppressed = subst (λ (x : Bool). CleanRule kind.Suppressed s b (cond x (Uses.cleaned b t stale) b) t stale) y
           (clean-follows kind.Suppressed s b t stale (z .1));
     }
 
 reads-out : (kind : RoomKind) (s : Settings) (w key : List ℕ) (row : List Bucket) → first (reads kind s w key) ≡ 0 → ReadsOut kind s w key row
 unfolding ReadOut.readOut
 reads-out kind s w key row e =
-    let z = eq-eqb (ReadOut.refusal kind s w key) 0 (reads-number kind s w key ∙ e) in
+    let z = eq-eqb (Finding.refusal kind s w key) 0 (reads-number kind s w key ∙ e) in
     record { answer = rw z; fills = rw z }
 
 pub demand2 : Demand2

@@ -32,28 +32,31 @@ use Rattle.rules.specs.declared.RoomKind.{RoomKind}
 use Rattle.rules.specs.Held.{Held, hasAny}
 use Rattle.rules.specs.Both.{limitIn}
 use Rattle.rules.specs.Sets as rules
-use Rattle.room.specs.Room.{slotsOf, useOf, keyAt, keyOf, bodyOf, withReading, cleared}
+use Rattle.room.specs.Room.{slotsOf, useOf, keyAt, bodyOf, withReading, cleared}
+use Rattle.keys.specs.Keys.{keyOf}
 use Rattle.frame.specs.Frame.{Changed}
 use Rattle.frame.specs.Keys.{Bytes}
 use Rattle.frame.specs.Whole.{Cleared, clear-read-run}
-use Rattle.judge.specs.declared.Slot.{Slot}
+use Rattle.opened.specs.declared.Slot.{Slot}
 use Rattle.judge.specs.Held.{heldIn, noneFree}
 use Rattle.judge.specs.Judge.{refusals, Passed, slotIn}
 use Rattle.judge.specs.Laws.{passed}
-use Rattle.judge.specs.Sound.{soundSlot}
+use Rattle.opened.specs.Sound.{soundSlot}
 use Rattle.judge.specs.Verdict.{Verdict, verdict}
 use Rattle.change.specs.declared.Change.the-variants.{Keep, Update}
-use Rattle.change.specs.declared.Then.the-variants.{Nothing}
+use Rattle.edit.specs.declared.Then.the-variants.{Nothing}
 use Rattle.change.specs.Words.{applied}
-use Rattle.plan.specs.Plan.{placeOf, lacksAt, keeping}
+use Rattle.plan.specs.Plan.{placeOf, lacksAt, keeping, relimited}
 use Rattle.plan.specs.Seen.{Seen, seen, held-there, has-is, lacks-is}
-use Rattle.shared_opened.specs.Opened.{usedWith, relimited, limiting, setting}
+use Rattle.shared_opened.specs.Opened.{usedWith, limiting}
+use Rattle.sets_opened.specs.Sets.{setting}
 use Rattle.calls.specs.Applies.{place-free}
-use Rattle.calls.specs.Clear as Clear
+use Rattle.clearing.specs.Clear as Clear
 use Rattle.calls.specs.Delete as Delete
 use Rattle.calls.specs.Rate as Rate
 use Rattle.calls.specs.Set as Sets
 use Rattle.cleanup.specs.Cleanup as Cleanup
+use Rattle.stale.specs.Uses as Uses
 use Rattle.cleanup.specs.Laws as CleanupLaws
 use Rattle.leaves.specs.Calls.{Stands, keep-words, delete-frees, delete-keeps, rate-stands, set-keeps, set-frees, set-stands, set-begins-lone, set-begins}
 use Rattle.leaves.specs.Cleanup.{Cleaned, clean-run, clean-sound}
@@ -219,8 +222,8 @@ clear-follows s w t e =
 
 -- a room that is not turned away, cleaned
 pub clean-follows : (kind : RoomKind) (s : Settings) (w : List ℕ) (t stale : ℕ) → Cleanup.refusal kind s w t ≡ 0 →
-    CleanRule kind s w (Cleanup.cleaned w t stale) t stale
+    CleanRule kind s w (Uses.cleaned w t stale) t stale
 clean-follows kind s w t stale e =
     let p = CleanupLaws.passed kind s w t e in
     let c = clean-run w t stale (p .room) in
-    record { leaves = c; sound = clean-sound kind s w (Cleanup.cleaned w t stale) t stale c p }
+    record { leaves = c; sound = clean-sound kind s w (Uses.cleaned w t stale) t stale c p }

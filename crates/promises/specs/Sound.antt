@@ -8,7 +8,7 @@ use Prim.Native.Nat.{ℕ}
 use Rattle.settings.specs.declared.Settings.{Settings}
 use Rattle.room.specs.Room.{sized, fits, empty}
 use Rattle.rules.specs.declared.RoomKind.{RoomKind}
-use Rattle.judge.specs.Sound.{addressed, soundAt}
+use Rattle.opened.specs.Sound.{addressed, soundAt}
 use Rattle.places.specs.SoundRoom.{SoundRoom, five-unmet}
 use Rattle.steps.specs.Each.{step}
 use Rattle.steps.specs.History.{empty-sane, history}

@@ -22,12 +22,12 @@ use Rattle.room.specs.Room.{useOf}
 use Rattle.rules.specs.declared.RoomKind.the-variants.{Suppressed}
 use Rattle.judge.specs.Verdict.{Verdict, Told}
 use Rattle.frame.specs.Keys.{Bytes}
-use Rattle.suppressed.specs.Calls as Own
+use Rattle.suppressed_verdicts.specs.Calls as Own
 use Rattle.admissions.specs.Log.{Entry, noted, pick, pick-all, inSpan}
 use Rattle.steps.specs.Ops.{Call, draws, words}
 use Rattle.demand3.specs.History.{admitsCount, admitted, AllSpare}
 use Rattle.demand3.specs.Demand3.{lessBucket, ceiling}
-use Rattle.readout.specs.ReadOut.{bucketsOf}
+use Rattle.finding.specs.Finding.{bucketsOf}
 use Rattle.steps.specs.Lowest.{Lowest, TurnedBy, numberOf, lowest-first, lowest-positive, first-lowest}
 use Rattle.steps.specs.Table.{suppressedInc, rises}
 use Rattle.promises.specs.Refusals.{demand1}

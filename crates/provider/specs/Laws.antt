@@ -18,7 +18,8 @@ use Rattle.room.specs.Room.{sized, lastOf}
 use Rattle.judge.specs.Laws.{faults-positive}
 use Rattle.rules.specs.declared.RoomKind.{RoomKind}
 use Rattle.rules.specs.declared.RoomKind.the-variants.{Absolute, Suppressed}
-use Rattle.cleanup.specs.Cleanup.{cleaned, Ready, allPass, misfits, refusal}
+use Rattle.cleanup.specs.Cleanup.{allPass, misfits, refusal}
+use Rattle.stale.specs.Uses.{cleaned, Ready}
 use Rattle.cleanup.specs.Laws.{Passed, passed, passed-ready}
 use Rattle.provider.specs.Provider.{lowest, refusalOfBoth, Verdict, decided, cleanup, Told}
 

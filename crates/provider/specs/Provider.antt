@@ -10,7 +10,8 @@ use Rattle.answers.specs.declared.DoneAnswer.{DoneAnswer}
 use Rattle.answers.specs.declared.DoneAnswer.the-variants.{Done, Refused}
 use Rattle.settings.specs.declared.Settings.{Settings}
 use Rattle.rules.specs.declared.RoomKind.the-variants.{Absolute, Suppressed}
-use Rattle.cleanup.specs.Cleanup.{cleaned, refusal}
+use Rattle.cleanup.specs.Cleanup.{refusal}
+use Rattle.stale.specs.Uses.{cleaned}
 
 -- the lower of two refusals, where 0 is none
 unfoldable pub lowest : ℕ → ℕ → ℕ

@@ -45,7 +45,7 @@ pub fn cleanup(
     if code != 0 {
         return DoneAnswer::Refused(code);
     }
-    cleanup::clean(absolute, reading, stale);
-    cleanup::clean(suppressed, reading, stale);
+    stale::clean(absolute, reading, stale);
+    stale::clean(suppressed, reading, stale);
     DoneAnswer::Done
 }

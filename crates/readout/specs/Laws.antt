@@ -1,116 +1,30 @@
--- What `judge` says at the room's own last reading is what the read-out finds; and what the found slot's buckets are.
+-- What `decide` says, and the row place by place.
 -- Assumes nothing.
-use mathlib.Core.Path.{_≡_, refl, sym, ap, subst, _∙_}
-use mathlib.Core.Bool.{Bool, true, false, not, _&&_, _||_, cond}
-use mathlib.Core.List.{List, [], _∷_, _++_}
+use mathlib.Core.Path.{_≡_, refl, ap, _∙_}
+use mathlib.Core.Bool.{Bool, true, false}
+use mathlib.Core.List.{List}
 use Prim.Native.Nat.{ℕ, _+_, _≤_, _<_, min}
 use native.Mathlib.Omega.{arith}
 use lib.ListN.{length, getD, set}
-use lib.Dec.{ltb, eqb}
-use borrow.Author.Tests.{le-ltb, lt-ltb, ltb-true, ltb-false, eqb-true}
-use Rattle.base.specs.Decides.{and-true}
-use Rattle.common.specs.Refusals.{first}
-use Rattle.settings.specs.Settings.{windowIn, faults}
+use lib.Dec.{eqb}
 use Rattle.settings.specs.declared.Settings.{Settings}
-use Rattle.sweep.specs.Sweep.{passOf}
 use Rattle.rules.specs.declared.RoomKind.{RoomKind}
-use Rattle.judge.specs.declared.Judged.{Judged}
-use Rattle.judge.specs.declared.Slot.{Slot}
-use Rattle.judge.specs.Sound.{hasSeries, rightUse, soundSeries, soundSlot, addressed, soundAt}
-use Rattle.judge.specs.Slot.{opened, slotOf}
-use Rattle.judge.specs.Judge.{misfits, early, judged, Passed}
-use Rattle.judge.specs.Laws.{passed}
-use Rattle.judge.specs.Right.{addressed-at}
 use Rattle.ring.specs.declared.Bucket.{Bucket}
 use Rattle.ring.specs.Ring.{noBucket, buckets}
-use Rattle.ring.specs.Sound.{soundBuckets, sound-true}
-use Rattle.ring.specs.View.{view-length}
-use Rattle.room.specs.Room.{slotsOf, ringOf, lastOf, useOf, bodyOf, keySound}
-use Rattle.readout.specs.declared.Found.{Found}
+use Rattle.room.specs.Room.{ringOf, bodyOf}
+use Rattle.finding.specs.declared.Found.{Found}
 use Rattle.readout.specs.declared.Plan.{Plan}
 use Rattle.readout.specs.declared.ReadOutAnswer.{ReadOutAnswer}
 use Rattle.readout.specs.Row.{laid, laid-nothing, upTo-length, upTo-more}
-use Rattle.readout.specs.ReadOut.{refusal, bucketsOf, readOut, Shown, shown, found, answerOf, planOf, rowAt, Readable, Reads}
-
-found-path : {x y : Found} → x .code ≡ y .code → x .slot ≡ y .slot → x .count ≡ y .count → x ≡ y
-found-path p q s = λ i. record { code = p i; slot = q i; count = s i }
+use Rattle.readout.specs.ReadOut.{readOut, Shown, answerOf, planOf, rowAt}
+use Rattle.finding.specs.Finding.{refusal, shown, found, Readable, Reads}
+use Rattle.finding.specs.FindingLaws.{readable}
 
 plan-path : {r r′ : ReadOutAnswer} {at n n′ : ℕ} → r ≡ r′ → n ≡ n′ →
     _≡_ {A = Plan} (record { answer = r; slot = at; fitting = n }) (record { answer = r′; slot = at; fitting = n′ })
 plan-path {at = at} p q = λ i. record { answer = p i; slot = at; fitting = q i }
 
 module _ (kind : RoomKind) (s : Settings) (w key : List ℕ) where
-  -- refusal 6 is not met at the last reading
-  pub number : early kind s w (lastOf w) key ≡ refusal kind s w key
-  unfolding misfits refusal faults first
-  number = rw (le-ltb (lastOf w) (lastOf w) (omega arith))
-
-  -- ---- the slot of a call that is not refused
-  module _ (p : Passed kind s w (lastOf w) key) where
-    -- a series that is there is sound
-    series-sound : addressed w key < slotsOf w → hasSeries (useOf w (addressed w key)) ≡ true →
-        soundBuckets (ringOf w) (bodyOf w (addressed w key)) (lastOf w) ≡ true
-    unfolding soundAt soundSlot soundSeries
-    series-sound h e =
-        let at = addressed w key in
-        let a : soundSlot kind s w at ≡ true = rw (lt-ltb at (slotsOf w) h) at (p .sound) in
-        let b = and-true (keySound w at) _ a in
-        let c = and-true (rightUse kind (useOf w at)) _ (b .1) in
-        let d = and-true (not (hasSeries (useOf w at)) || soundSeries kind s (ringOf w) (lastOf w) (bodyOf w at)) _ (c .1) in
-        let f : soundSeries kind s (ringOf w) (lastOf w) (bodyOf w at) ≡ true = rw e at (d .0) in
-        and-true (soundBuckets (ringOf w) (bodyOf w at) (lastOf w)) _ f .0
-
-    slot-at : slotOf (windowIn s) w (lastOf w) (addressed w key) .at ≡ addressed w key
-    slot-at = addressed-at w key s _ (record { room = p .room; reading = lastOf w; is = refl })
-
-    slot-count : (x y : Bool) → ltb (addressed w key) (slotsOf w) ≡ x → hasSeries (useOf w (addressed w key)) ≡ y →
-        slotOf (windowIn s) w (lastOf w) (addressed w key) .pass .buckets ≡ length (bucketsOf w key)
-    unfolding slotOf opened passOf bucketsOf
-    slot-count false y e f = rw e
-    slot-count true false e f = rw (e, f)
-    slot-count true true e f = rw (e, f, series-sound (ltb-true _ _ e) f) (sym (view-length (ringOf w) (bodyOf w (addressed w key))))
-
-  -- ---- what is found
-
-  judged-at : (b : Bool) → eqb (refusal kind s w key) 0 ≡ b → judged kind s w (lastOf w) key .slot .at ≡ cond b (addressed w key) 0
-  unfolding judged
-  judged-at true e = rw (number, e) (slot-at (passed kind s w (lastOf w) key (number ∙ eqb-true _ _ e)))
-  judged-at false e = rw (number, e)
-
-  judged-count : (b : Bool) → eqb (refusal kind s w key) 0 ≡ b → judged kind s w (lastOf w) key .slot .pass .buckets ≡ length (cond b (bucketsOf w key) [])
-  unfolding judged
-  judged-count true e = rw (number, e) (slot-count (passed kind s w (lastOf w) key (number ∙ eqb-true _ _ e)) _ _ refl refl)
-  judged-count false e = rw (number, e)
-
-  pub found-is : (t : ℕ) → t ≡ lastOf w → (j : Judged) → j ≡ judged kind s w t key →
-      record { code = j .code; slot = j .slot .at; count = j .slot .pass .buckets } ≡ found kind s w key
-  unfolding judged found shown
-  found-is t q j e =
-      let f : j ≡ judged kind s w (lastOf w) key = e ∙ ap (λ (n : ℕ). judged kind s w n key) q in
-      found-path
-      (ap (λ (x : Judged). x .code) f ∙ number)
-      (ap (λ (x : Judged). x .slot .at) f ∙ judged-at _ refl)
-      (ap (λ (x : Judged). x .slot .pass .buckets) f ∙ judged-count _ refl)
-
-  -- ---- what is read of it
-
-  -- the first bucket is there: so the slot can be read, and its buckets are those to show
-  readable : (b x y : Bool) → eqb (refusal kind s w key) 0 ≡ b → ltb (addressed w key) (slotsOf w) ≡ x → hasSeries (useOf w (addressed w key)) ≡ y →
-      0 < length (shown kind s w key) → Reads w (found kind s w key .slot) (shown kind s w key)
-  unfolding shown found bucketsOf
-  readable false x y e f g h = absurd (omega (arith, rw e at h))
-  readable true false y e f g h = absurd (omega (arith, rw (e, f) at h))
-  readable true true false e f g h = absurd (omega (arith, rw (e, f, g) at h))
-  readable true true true e f g h =
-      let p = passed kind s w (lastOf w) key (number ∙ eqb-true _ _ e) in
-      let l = ltb-true (addressed w key) (slotsOf w) f in
-      rw (e, f, g) (record {
-        readable =
-            record { room = p .room; inside = l; shape = sound-true (ringOf w) (bodyOf w (addressed w key)) (lastOf w) (series-sound p l g) .shape };
-        view =
-            refl;
-      })
-
   -- ---- what `decide` says
 
   pub plan-is : (x : Found) → x ≡ found kind s w key → (r : ReadOutAnswer) → r ≡ answerOf x → (n m : ℕ) → m ≡ min (x .count) n →
@@ -129,7 +43,7 @@ module _ (kind : RoomKind) (s : Settings) (w key : List ℕ) where
 
     -- while a bucket fits, the slot can be read
     reads : (i : ℕ) → i < fitting → Reads w (found kind s w key .slot) (shown kind s w key)
-    reads i h = readable _ _ _ refl refl refl (omega (arith, count-is))
+    reads i h = readable kind s w key _ _ _ refl refl refl (omega (arith, count-is))
 
     pub row-readable : (i : ℕ) → i < fitting → Readable w (found kind s w key .slot)
     row-readable i h = reads i h .readable

@@ -2,10 +2,9 @@
 // the first store, by functions on plain words; `read_out` alone has the row.
 ghost use mathlib.Core.Path.{_≡_};
 ghost use Prim.Native.Nat.{min};
-ghost use lib.ListN.{getD};
-ghost use Rattle.ring.specs.Ring.{noBucket, buckets};
-ghost use Rattle.room.specs.Room.{ringOf, lastOf, bodyOf};
-ghost use Rattle.readout.specs.ReadOut.{Readable, found, answerOf, planOf, readOut, Shown};
+ghost use Rattle.readout.specs.ReadOut.{answerOf, planOf, readOut, Shown};
+ghost use Rattle.finding.specs.Finding.{found};
+use finding::Found;
 use ring::Bucket;
 use rules::RoomKind;
 use settings::Settings;
@@ -16,53 +15,11 @@ pub enum ReadOutAnswer {
     Refused(u64),
 }
 
-// The refusal, or 0; the key's slot, and how many buckets there are to read.
-pub struct Found {
-    pub code: u64,
-    pub slot: usize,
-    pub count: usize,
-}
-
 // What the read-out is to do: what it answers, and how many buckets of which slot it writes.
 pub struct Plan {
     pub answer: ReadOutAnswer,
     pub slot: usize,
     pub fitting: usize,
-}
-
-// The room's last reading, or 0 where the words are too few to have one.
-fn last_reading(room: &[u64]) -> u64
-    ensures { λ x. ⌜ x ≡ lastOf (now (room .entry)) ⌝ }
-{
-    if room.len() <= layout::LAST {
-        return 0;
-    }
-    room[layout::LAST]
-}
-
-// The read-out has no reading: it judges at the room's own last one, so that refusal 6 is never met.
-pub fn find_series(kind: RoomKind, settings: Settings, room: &[u64], key: &[u8]) -> Found
-    ensures { λ x. ⌜ x ≡ found kind settings (now (room .entry)) (now (key .entry)) ⌝ }
-{
-    let judged = judge::judge(kind, settings, room, last_reading(room), key);
-    let slot = judged.slot;
-    let pass = slot.pass;
-    Found {
-        code: judged.code,
-        slot: slot.at,
-        count: pass.buckets,
-    }
-}
-
-// Bucket `i` of a slot, from the oldest.
-pub fn bucket_at(room: &[u64], slot: usize, i: usize) -> Bucket
-    requires { ⌜ Readable (now room) slot ⌝ }
-    ensures { λ x. ⌜ x ≡ getD (buckets (ringOf (now (room .entry))) (bodyOf (now (room .entry)) slot)) i noBucket ⌝ }
-{
-    let ring = room[layout::RING] as usize;
-    let start = room::start(room, slot);
-    let end = start + (layout::FIXED + layout::CELL * ring);
-    ring::nth_or_none(&room[start..end], ring, i)
 }
 
 // The smaller of two.
@@ -86,7 +43,7 @@ fn answer(found: Found) -> ReadOutAnswer
 fn decide(kind: RoomKind, settings: Settings, room: &[u64], key: &[u8], places: usize) -> Plan
     ensures { λ x. ⌜ x ≡ planOf (found kind settings (now (room .entry)) (now (key .entry))) places ⌝ }
 {
-    let found = find_series(kind, settings, room, key);
+    let found = finding::find_series(kind, settings, room, key);
     Plan {
         answer: answer(found),
         slot: found.slot,
@@ -109,7 +66,7 @@ pub fn read_out(
     let fitting = plan.fitting;
     let mut i = 0;
     while i < fitting {
-        row[i] = bucket_at(room, slot, i);
+        row[i] = finding::bucket_at(room, slot, i);
         i += 1;
     }
     plan.answer

@@ -143,64 +143,75 @@ fn settings_of(n: [u64; 6]) -> Settings {
     }
 }
 
+// A call with all its arguments, those too that it has no use for.
+struct Call {
+    op: u64,
+    reading: u64,
+    rate: RateLimit,
+    count: u64,
+    draw: u64,
+    comparator: RateLimitComparator,
+    mode: HistoryUpdateMode,
+    stale: u64,
+}
+
+fn call_of(n: [u64; 24]) -> Call {
+    Call {
+        op: n[0],
+        reading: n[1],
+        rate: RateLimit(common::double_of(n[7])),
+        count: n[8],
+        draw: n[9],
+        comparator: comparator(n[10], n[11]),
+        mode: mode(n[12]),
+        stale: n[13],
+    }
+}
+
 // The calls that both limiters have, by the number below 10.
-fn shared(kind: RoomKind, s: Settings, w: &mut [u64], key: &[u8], op: u64, n: [u64; 24]) -> Row {
-    let rate = RateLimit(common::double_of(n[7]));
+fn shared(kind: RoomKind, s: Settings, w: &mut [u64], key: &[u8], op: u64, c: Call) -> Row {
+    let t = c.reading;
+    let comparator = c.comparator;
+    let mode = c.mode;
     match op {
-        4 => rate_row(calls::set_rate_limit(kind, s, w, n[1], key, rate)),
-        5 => delete_row(calls::delete(kind, s, w, n[1], key)),
-        6 => done_row(calls::clear(s, w, n[1])),
-        7 => set_row(calls::set(
-            kind,
-            s,
-            w,
-            n[1],
-            key,
-            rate,
-            comparator(n[10], n[11]),
-            n[8],
-            mode(n[12]),
-        )),
-        _ => done_row(cleanup::cleanup(kind, s, w, n[1], n[13])),
+        4 => rate_row(calls::set_rate_limit(kind, s, w, t, key, c.rate)),
+        5 => delete_row(calls::delete(kind, s, w, t, key)),
+        6 => done_row(clearing::clear(s, w, t)),
+        7 => set_row(calls::set(kind, s, w, t, key, c.rate, comparator, c.count, mode)),
+        _ => done_row(cleanup::cleanup(kind, s, w, t, c.stale)),
     }
 }
 
-fn absolute_row(s: Settings, w: &mut [u64], key: &[u8], n: [u64; 24]) -> Row {
-    let op = n[0];
+fn absolute_row(s: Settings, w: &mut [u64], key: &[u8], c: Call) -> Row {
+    let op = c.op;
+    let t = c.reading;
     match op {
-        1 => decision_row(absolute::inc(s, w, n[1], key, RateLimit(common::double_of(n[7])), n[8])),
-        2 => decision_row(absolute::is_allowed(s, w, n[1], key)),
-        3 => total_row(absolute::get(s, w, n[1], key)),
-        _ => shared(RoomKind::Absolute, s, w, key, op, n),
+        1 => decision_row(absolute::inc(s, w, t, key, c.rate, c.count)),
+        2 => decision_row(absolute::is_allowed(s, w, t, key)),
+        3 => total_row(absolute::get(s, w, t, key)),
+        _ => shared(RoomKind::Absolute, s, w, key, op, c),
     }
 }
 
-fn suppressed_row(s: Settings, w: &mut [u64], key: &[u8], op: u64, n: [u64; 24]) -> Row {
+fn suppressed_row(s: Settings, w: &mut [u64], key: &[u8], op: u64, c: Call) -> Row {
+    let t = c.reading;
     match op {
-        1 => decision_row(suppressed::inc(
-            s,
-            w,
-            n[1],
-            key,
-            RateLimit(common::double_of(n[7])),
-            n[8],
-            n[9],
-        )),
-        2 => factor_row(suppressed::get_suppression_factor(s, w, n[1], key)),
-        3 => snapshot_row(suppressed::get(s, w, n[1], key)),
-        _ => shared(RoomKind::Suppressed, s, w, key, op, n),
+        1 => decision_row(suppressed::inc(s, w, t, key, c.rate, c.count, c.draw)),
+        2 => factor_row(suppressed::get_suppression_factor(s, w, t, key)),
+        3 => snapshot_row(suppressed::get(s, w, t, key)),
+        _ => shared(RoomKind::Suppressed, s, w, key, op, c),
     }
 }
 
-fn called(s: Settings, a: &mut [u64], b: &mut [u64], key: &[u8], n: [u64; 24]) -> Row {
-    let op = n[0];
+fn called(s: Settings, a: &mut [u64], b: &mut [u64], key: &[u8], c: Call) -> Row {
+    let op = c.op;
     if op == 9 {
-        return done_row(provider::cleanup(s, a, b, n[1], n[13]));
+        return done_row(provider::cleanup(s, a, b, c.reading, c.stale));
     }
     if op < 10 {
-        return absolute_row(s, a, key, n);
+        return absolute_row(s, a, key, c);
     }
-    suppressed_row(s, b, key, op - 10, n)
+    suppressed_row(s, b, key, op - 10, c)
 }
 
 // ---- the key's slot after the call: use, total, declined, buckets, factor bits and factor time, 0 where it has none
@@ -250,7 +261,7 @@ fn state_of(w: &[u64], key: &[u8]) -> State {
     if !room::sized(w) {
         return nothing();
     }
-    let at = room::find(w, room::key_of(key));
+    let at = room::find(w, keys::key_of(key));
     let slots = w[0] as usize;
     if slots <= at {
         return nothing();
@@ -379,36 +390,51 @@ fn counted(run: Run, same: bool) -> Run {
     next
 }
 
-fn same_row(r: Row, n: [u64; 24]) -> bool {
-    if r.kind != n[14] {
-        return false;
-    }
-    if r.x != n[15] {
-        return false;
-    }
-    if r.y != n[16] {
-        return false;
-    }
-    r.z == n[17]
+fn row_in(n: [u64; 24]) -> Row {
+    answer(n[14], n[15], n[16], n[17])
 }
 
-fn same_state(x: State, n: [u64; 24]) -> bool {
-    if x.used != n[18] {
+fn state_in(n: [u64; 24]) -> State {
+    State {
+        used: n[18],
+        total: n[19],
+        declined: n[20],
+        buckets: n[21],
+        factor: n[22],
+        time: n[23],
+    }
+}
+
+fn same_row(r: Row, e: Row) -> bool {
+    if r.kind != e.kind {
         return false;
     }
-    if x.total != n[19] {
+    if r.x != e.x {
         return false;
     }
-    if x.declined != n[20] {
+    if r.y != e.y {
         return false;
     }
-    if x.buckets != n[21] {
+    r.z == e.z
+}
+
+fn same_state(x: State, e: State) -> bool {
+    if x.used != e.used {
         return false;
     }
-    if x.factor != n[22] {
+    if x.total != e.total {
         return false;
     }
-    x.time == n[23]
+    if x.declined != e.declined {
+        return false;
+    }
+    if x.buckets != e.buckets {
+        return false;
+    }
+    if x.factor != e.factor {
+        return false;
+    }
+    x.time == e.time
 }
 
 fn put(name: &[u8], n: u64) {
@@ -432,14 +458,15 @@ fn show(r: Row, x: State) {
 
 // Whether a call's answer and the key's state after it are the list's; else they are shown.
 fn is_same(s: Settings, a: &mut [u64], b: &mut [u64], key: &[u8], n: [u64; 24]) -> bool {
-    let r = called(s, a, b, key, n);
-    let x = if n[0] < 10 {
+    let c = call_of(n);
+    let r = called(s, a, b, key, c);
+    let x = if c.op < 10 {
         state_of(a, key)
     } else {
         state_of(b, key)
     };
-    if same_row(r, n) {
-        if same_state(x, n) {
+    if same_row(r, row_in(n)) {
+        if same_state(x, state_in(n)) {
             return true;
         }
     }

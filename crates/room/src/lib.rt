@@ -1,19 +1,11 @@
 // A lent room: its lengths, its directory, and where a slot's body starts. What a body holds is not known here.
 ghost use mathlib.Core.Path.{_≡_};
-ghost use Prim.Native.Nat.{_+_, _*_, _^_, _<_, _≤_};
-ghost use lib.ListN.{length, getD, replicate};
+ghost use Prim.Native.Nat.{_+_, _*_, _<_};
+ghost use lib.ListN.{length, replicate};
 ghost use Rattle.base.specs.Decides.{Decides};
-ghost use Rattle.room.specs.Room.{Room, Directory, Lengths, Made, Starts, slotsOf, ringOf, startOf, useOf, keyAt, pack, keyOf, sameKey, unusedZero};
-ghost use Rattle.room.specs.Room.{keyFits, keySound, free, has, find, vacant, entered, withUse, withReading, cleared};
-
-// A key as the directory has it: its length, and its bytes in four words, the first one lowest.
-pub struct Key {
-    pub len: u64,
-    pub a: u64,
-    pub b: u64,
-    pub c: u64,
-    pub d: u64,
-}
+ghost use Rattle.room.specs.Room.{Room, Directory, Lengths, Made, Starts, slotsOf, useOf, keyAt};
+ghost use Rattle.room.specs.Room.{keySound, has, find, vacant, entered, withUse, withReading, cleared};
+use keys::Key;
 
 // Whether a room of these slots and ring has `len` words.
 fn fits(slots: u64, ring: u64, len: usize) -> bool
@@ -83,67 +75,6 @@ pub fn start(w: &[u64], s: usize) -> usize
     layout::HEADER + layout::ENTRY * slots + s * (layout::FIXED + layout::CELL * r)
 }
 
-// Byte `i` of a key, or 0 past its end.
-fn byte(key: &[u8], i: usize) -> u64
-    ensures { λ x. ⌜ (x ≡ getD (now (key .entry)) i 0) × (x < 256) ⌝ }
-{
-    if i < key.len() { key[i] as u64 } else { 0 }
-}
-
-fn packed(key: &[u8], i: usize) -> u64
-    requires { ⌜ i ≤ 24 ⌝ }
-    ensures { λ x. ⌜ x ≡ pack (now (key .entry)) i ⌝ }
-{
-    byte(key, i)
-        + 256 * byte(key, i + 1)
-        + 65536 * byte(key, i + 2)
-        + 16777216 * byte(key, i + 3)
-        + 4294967296 * byte(key, i + 4)
-        + 1099511627776 * byte(key, i + 5)
-        + 281474976710656 * byte(key, i + 6)
-        + 72057594037927936 * byte(key, i + 7)
-}
-
-pub fn key_of(key: &[u8]) -> Key
-    ensures { λ x. ⌜ x ≡ keyOf (now (key .entry)) ⌝ }
-{
-    Key {
-        len: key.len() as u64,
-        a: packed(key, 0),
-        b: packed(key, 8),
-        c: packed(key, 16),
-        d: packed(key, 24),
-    }
-}
-
-// 256 to the `n`.
-fn top(n: u64) -> u64
-    requires { ⌜ n < 8 ⌝ }
-    ensures { λ x. ⌜ x ≡ 256 ^ n ⌝ }
-{
-    let mut x = 1;
-    let mut k = 0;
-    while k < n {
-        x *= 256;
-        k += 1;
-    }
-    x
-}
-
-// Whether a word with a key's bytes from `i` on is 0 in the bytes that a key of `len` bytes does not have.
-fn is_unused_zero(len: u64, i: u64, word: u64) -> bool
-    ensures { λ x. ⌜ x ≡ unusedZero len i word ⌝ }
-{
-    if len <= i {
-        return word == 0;
-    }
-    let n = len - i;
-    if 8 <= n {
-        return true;
-    }
-    word < top(n)
-}
-
 fn key_at(w: &[u64], s: usize) -> Key
     requires { ⌜ Directory (now w) × (s < slotsOf (now w)) ⌝ }
     ensures { λ x. ⌜ x ≡ keyAt (now (w .entry)) s ⌝ }
@@ -168,34 +99,16 @@ pub fn key_fits(w: &[u64], s: usize) -> bool
     if layout::LONGEST_KEY < len {
         return false;
     }
-    if !is_unused_zero(len, 0, k.a) {
+    if !keys::is_unused_zero(len, 0, k.a) {
         return false;
     }
-    if !is_unused_zero(len, 8, k.b) {
+    if !keys::is_unused_zero(len, 8, k.b) {
         return false;
     }
-    if !is_unused_zero(len, 16, k.c) {
+    if !keys::is_unused_zero(len, 16, k.c) {
         return false;
     }
-    is_unused_zero(len, 24, k.d)
-}
-
-fn same_key(k: Key, l: Key) -> bool
-    ensures { λ x. ⌜ x ≡ sameKey k l ⌝ }
-{
-    if k.len != l.len {
-        return false;
-    }
-    if k.a != l.a {
-        return false;
-    }
-    if k.b != l.b {
-        return false;
-    }
-    if k.c != l.c {
-        return false;
-    }
-    k.d == l.d
+    keys::is_unused_zero(len, 24, k.d)
 }
 
 // Slot `slot`'s use: 0 where it is free.
@@ -214,7 +127,7 @@ fn holds(w: &[u64], k: Key, s: usize) -> bool
     if use_of(w, s) == layout::FREE {
         return false;
     }
-    same_key(key_at(w, s), k)
+    keys::same_key(key_at(w, s), k)
 }
 
 // The lowest slot with key `k`, or the number of slots.

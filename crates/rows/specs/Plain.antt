@@ -1,21 +1,9 @@
--- What crosses as plain numbers: settings, comparators and modes in, answer rows out. An answer's row is the one that `answers`' Rows gives it.
+-- Answer rows that go out as plain numbers. An answer's row is the one that `answers`' Rows gives it.
 -- Assumes nothing.
 use mathlib.Core.Path.{_≡_}
-use mathlib.Core.Bool.{cond}
 use mathlib.Core.List.{List}
 use Prim.Native.Nat.{ℕ}
-use lib.Dec.{eqb}
-use lib.Ieee.{Float}
 use lib.ListN.{getD}
-use Rattle.common.specs.declared.comparator.RateLimitComparator.the-variants as comparator
-use Rattle.answers.specs.declared.HistoryUpdateMode.the-variants as mode
-use Rattle.answers.specs.declared.HistoryPreservation.the-variants as preservation
-use Rattle.settings.specs.declared.Settings.{Settings}
-use Rattle.common.specs.declared.units.RateLimit.{RateLimit}
-use Rattle.rows.specs.declared.inputs.Comparison.{Comparison}
-use Rattle.rows.specs.declared.inputs.Comparison.the-variants as compared
-use Rattle.rows.specs.declared.inputs.Mode.{Mode}
-use Rattle.rows.specs.declared.inputs.Mode.the-variants as chosen
 
 -- ---- a row that goes out
 
@@ -31,34 +19,3 @@ badCall = 14
 pub record Given (row : List ℕ) (n : ℕ) (a : List ℕ) : Type 0 where
   pub number : n ≡ numberOf row
   pub answer : a ≡ row
-
--- ---- what comes in as numbers
-
-abbrev pub settings : ℕ → ℕ → ℕ → Float → Settings
-settings window bucket cache factor = record {
-  «window_size» = record { 0 = window };
-  «bucket_size» = record { 0 = bucket };
-  «hard_limit_factor» = factor;
-  «suppression_factor_cache_period» = record { 0 = cache };
-}
-
-abbrev pub rated : Float → RateLimit
-rated rate = record { 0 = rate }
-
--- 0 Always, 1 Eq, 2 Lt, 3 Gt, 4 Ne, x being what the total is compared with
-unfoldable pub comparisonOf : ℕ → ℕ → Comparison
-comparisonOf n x =
-    cond (eqb n 0) (compared.Named comparator.Always) (
-    cond (eqb n 1) (compared.Named (comparator.Eq x)) (
-    cond (eqb n 2) (compared.Named (comparator.Lt x)) (
-    cond (eqb n 3) (compared.Named (comparator.Gt x)) (
-    cond (eqb n 4) (compared.Named (comparator.Ne x)) compared.Unnamed))))
-
-abbrev pub replacing : Mode
-replacing = chosen.Named mode.Replace
-
--- 0 the newest buckets stay, 1 the oldest
-unfoldable pub preserving : ℕ → Mode
-preserving n =
-    cond (eqb n 0) (chosen.Named (mode.Preserve preservation.PreserveNewest)) (
-    cond (eqb n 1) (chosen.Named (mode.Preserve preservation.PreserveOldest)) chosen.Unnamed)

@@ -7,7 +7,8 @@ use Prim.Native.Nat.{ℕ, zero, suc, _+_, _-_, _^_, _≤_, _<_}
 use native.Mathlib.Decide.{decLt}
 use native.Mathlib.Omega.{arith}
 use lib.Dec.{leb, ltb, eqb}
-use lib.ListN.{length, drop}
+use lib.ListN.{length, getD, drop, length-drop}
+use lib.Seq.{getD-drop}
 use borrow.Author.Tests.{eq-eqb, ne-eqb, le-leb, lt-leb, lt-ltb, le-ltb, eqb-true, leb-true, leb-false, ltb-true, ltb-false}
 use Rattle.base.specs.Decides.{and-true}
 use Rattle.suppression.specs.Factor.{perceivesNothing}
@@ -19,10 +20,11 @@ use Rattle.settings.specs.declared.Settings.{Settings}
 use Rattle.answers.specs.declared.HistoryUpdateMode.{HistoryUpdateMode}
 use Rattle.common.specs.declared.units.RateLimit.{RateLimit}
 use Rattle.answers.specs.declared.RateLimitDecision.the-variants.{Allowed, Suppressed}
-use Rattle.rules.specs.Buckets.{gone, live, joins, lastSecond}
+use Rattle.rules.specs.Buckets.{gone, live, newest, joins, lastSecond}
 use Rattle.ring.specs.declared.Bucket.{Bucket}
 use Rattle.layout.specs.Layout.{mostTotal}
-use Rattle.ring.specs.Ring.{counts, declineds}
+use Rattle.ring.specs.Ring.{noBucket, counts, declineds}
+use Rattle.ring.specs.Sums.{sum-split}
 use Rattle.rules.specs.declared.Asked.{Asked}
 use Rattle.rules.specs.declared.FactorRule.{FactorRule}
 use Rattle.rules.specs.declared.FactorRule.the-variants.{Nil, One, Worked}
@@ -156,6 +158,38 @@ passes-over : (c n : ℕ) → passes c n ≡ true → mostTotal < n + c
 unfolding passes
 passes-over c n e = ltb-true mostTotal (n + c) e
 
+-- the newest stays the newest
+pub newest-drop : (k : ℕ) (xs : List Bucket) → k < length xs → newest (drop k xs) ≡ newest xs
+newest-drop k xs h =
+    let e : k + (length (drop k xs) - 1) ≡ length xs - 1 = omega (arith, length-drop k xs) in
+    getD-drop k xs (length (drop k xs) - 1) noBucket ∙ ap (λ (i : ℕ). getD xs i noBucket) e
+
+joins-drop : (b t k : ℕ) (xs : List Bucket) → k < length xs → joins b t (drop k xs) ≡ joins b t xs
+unfolding joins
+joins-drop b t k xs h =
+    ap₂ (λ (x : Bool) (y : Bucket). x && leb (t - y .time) b)
+    (lt-ltb 0 (length (drop k xs)) (omega (arith, length-drop k xs)) ∙ sym (lt-ltb 0 (length xs) (omega arith)))
+    (newest-drop k xs h)
+
+-- what does not meet 10 or 12 with all its buckets does not with the live ones
+passes-drop : (c k : ℕ) (xs : List Bucket) → passes c (counts xs) ≡ false → passes c (counts (drop k xs)) ≡ false
+unfolding passes
+passes-drop c k xs e =
+    le-ltb mostTotal (counts (drop k xs) + c) (omega (arith, ltb-false mostTotal (counts xs + c) e, sum-split (λ (x : Bucket). x .count) k xs))
+
+full-drop : (r b t k : ℕ) (xs : List Bucket) → 1 ≤ r → ringFull r b t xs ≡ false → ringFull r b t (drop k xs) ≡ false
+unfolding ringFull
+full-drop r b t k xs l e = go (not (joins b t (drop k xs)) && leb r (length (drop k xs))) refl
+  where
+    go : (z : Bool) → not (joins b t (drop k xs)) && leb r (length (drop k xs)) ≡ z → not (joins b t (drop k xs)) && leb r (length (drop k xs)) ≡ false
+    go false f = f
+    go true f =
+        let n = leb-true r (length (drop k xs)) (and-true (not (joins b t (drop k xs))) _ f .1) in
+        let h : k < length xs = omega (arith, length-drop k xs) in
+        let whole : not (joins b t xs) && leb r (length xs) ≡ true =
+        ap₂ (λ (x y : Bool). not x && y) (sym (joins-drop b t k xs h)) (le-leb r (length xs) (omega (arith, length-drop k xs)) ∙ sym (le-leb r _ n)) ∙ f in
+        absurd (false≢true (sym e ∙ whole))
+
 -- of either limiter, xs are the key's live buckets
 pub record Live (r c : ℕ) (ten twelve : Bool) (xs : List Bucket) : Type 0 where
   pub ten-live : ten ≡ true → mostTotal < counts xs + c
@@ -187,6 +221,20 @@ module _ (s : Settings) (r t c : ℕ) (h : Held) where
           let k = kept-fits e in
           record { ten-live = λ f. absurd (false≢true (sym (k .0) ∙ f)); twelve-live = λ f. absurd (false≢true (sym (k .1) ∙ f)) }
 
+  -- so whether they are out or not, it is the live ones that count
+  found-exactly : 1 ≤ r → (passes c (counts (absolute.foundFor s r t c h)) ≡ passes c (counts (liveOf s t h))) ×
+      (ringFull r (bucketIn s) t (absolute.foundFor s r t c h) ≡ ringFull r (bucketIn s) t (liveOf s t h))
+  found-exactly l = go (absolute.outFor s r t c h) refl
+    where
+      go : (z : Bool) → absolute.outFor s r t c h ≡ z →
+          (passes c (counts (absolute.outIf z (windowIn s) t (h .buckets))) ≡ passes c (counts (liveOf s t h))) ×
+          (ringFull r (bucketIn s) t (absolute.outIf z (windowIn s) t (h .buckets)) ≡ ringFull r (bucketIn s) t (liveOf s t h))
+      go true e = (refl, refl)
+      go false e =
+          let k = kept-fits e in
+          let n = gone (windowIn s) t (h .buckets) in
+          (k .0 ∙ sym (passes-drop c n (h .buckets) (k .0)), k .1 ∙ sym (full-drop r (bucketIn s) t n (h .buckets) l (k .1)))
+
 -- the condition of a number in a list of refusals, false where it does not stand there
 abbrev pub condition : ℕ → List (ℕ × Bool) → Bool
 condition n [] = false
@@ -205,6 +253,20 @@ absolute-live s r full t rate c h =
 pub suppressed-live : (s : Settings) (r : ℕ) (full : Bool) (t : ℕ) (rate : RateLimit) (c draw : ℕ) (h : Held) →
     let turns = suppressed.incTurns s r full t rate c draw h in Live r c (condition 10 turns) (condition 12 turns) (liveOf s t h)
 suppressed-live s r full t rate c draw h = by-live s r t c h
+
+-- and exactly there: the key is allowed, and its live buckets meet the number
+pub absolute-exactly : (s : Settings) (r : ℕ) (full : Bool) (t : ℕ) (rate : RateLimit) (c : ℕ) (h : Held) → 1 ≤ r →
+    let turns = absolute.incTurns s r full t rate c h in
+    (condition 10 turns ≡ (absolute.allowed s t h && passes c (counts (liveOf s t h)))) ×
+    (condition 12 turns ≡ (absolute.allowed s t h && ringFull r (bucketIn s) t (liveOf s t h)))
+absolute-exactly s r full t rate c h l =
+    let o = found-exactly s r t c h l in
+    (ap (λ (z : Bool). absolute.allowed s t h && z) (o .0), ap (λ (z : Bool). absolute.allowed s t h && z) (o .1))
+
+pub suppressed-exactly : (s : Settings) (r : ℕ) (full : Bool) (t : ℕ) (rate : RateLimit) (c draw : ℕ) (h : Held) →
+    let turns = suppressed.incTurns s r full t rate c draw h in
+    (condition 10 turns ≡ passes c (counts (liveOf s t h))) × (condition 12 turns ≡ ringFull r (bucketIn s) t (liveOf s t h))
+suppressed-exactly s r full t rate c draw h = (refl, refl)
 
 -- ---- a set of a key that is unknown, or has an expired bucket, or another limit: what changes nothing
 

@@ -27,20 +27,21 @@ use Rattle.frame.specs.Keys.{Bytes}
 use Rattle.change.specs.declared.Change.{Change}
 use Rattle.rules.specs.declared.RoomKind.{RoomKind}
 use Rattle.rules.specs.declared.RoomKind.the-variants as kind
-use Rattle.judge.specs.declared.Slot.{Slot}
+use Rattle.opened.specs.declared.Slot.{Slot}
 use Rattle.judge.specs.Laws.{passed, faults-positive}
 use Rattle.judge.specs.Verdict.{Verdict, call, unlessRefused, call-either}
-use Rattle.calls.specs.Clear as Clear
+use Rattle.clearing.specs.Clear as Clear
 use Rattle.calls.specs.Delete as Delete
 use Rattle.calls.specs.Rate as Rate
 use Rattle.calls.specs.Set as Set
 use Rattle.cleanup.specs.Cleanup as Cleanup
+use Rattle.stale.specs.Uses as Uses
 use Rattle.cleanup.specs.Laws as Cleans
-use Rattle.absolute.specs.Calls as OnAbsolute
+use Rattle.absolute_verdicts.specs.Calls as OnAbsolute
 use Rattle.rules.specs.declared.Asked.{Asked}
 use Rattle.rules.specs.declared.Outcome.{Outcome}
 use Rattle.suppressed_edits.specs.Edits.{getChange, factorChange, incChange}
-use Rattle.suppressed_edits.specs.Refusals.{incLate}
+use Rattle.suppressed_refusals.specs.Refusals.{incLate}
 use Rattle.answers.specs.declared.SetAnswer.the-variants as answers
 use Rattle.rules.specs.Held.{Held, lacksSlot}
 use Rattle.rules.specs.Both.{limitIn}
@@ -52,18 +53,20 @@ use Rattle.judge.specs.Judge.{early, Passed, slotIn}
 use Rattle.plan.specs.Plan.{placeOf, lacksAt}
 use Rattle.plan.specs.Seen.{Seen, seen, lacks-is}
 use Rattle.absolute_opened.specs.Opened as edits
-use Rattle.shared_opened.specs.Opened.{deleting, limiting, setting}
+use Rattle.shared_opened.specs.Opened.{deleting, limiting}
+use Rattle.sets_opened.specs.Sets.{setting}
 use Rattle.calls.specs.Applies.{delete-applies, rate-applies, set-applies}
 use Rattle.calls.specs.Seen.{idle-is}
-use Rattle.absolute.specs.Laws.{get-applies, ask-applies, inc-applies, may-unknown}
-use Rattle.absolute.specs.Opened.{mayIn, outIn}
-use Rattle.absolute.specs.Seen.{own-is, makes-is}
-use Rattle.suppressed_opened.specs.Opened.{askedAt, forecastAt}
-use Rattle.suppressed.specs.Opened.{limitAt, incOutcome}
-use Rattle.suppressed.specs.Seen.{asking-is, limit-is, decides, late-is}
-use Rattle.suppressed.specs.Standing.{unperceived-is, place-inside}
-use Rattle.suppressed.specs.Calls as OnSuppressed
-use Rattle.suppressed.specs.Laws as suppressed
+use Rattle.absolute_verdicts.specs.Laws.{get-applies, ask-applies, inc-applies, may-unknown}
+use Rattle.absolute_verdicts.specs.Opened.{mayIn, outIn}
+use Rattle.absolute_verdicts.specs.Seen.{own-is, makes-is}
+use Rattle.factor_opened.specs.Opened.{askedAt}
+use Rattle.forecast_opened.specs.Forecast.{forecastAt}
+use Rattle.suppressed_verdicts.specs.Opened.{limitAt, incOutcome}
+use Rattle.suppressed_verdicts.specs.Seen.{asking-is, limit-is, decides, late-is}
+use Rattle.suppressed_verdicts.specs.Standing.{unperceived-is, place-inside}
+use Rattle.suppressed_verdicts.specs.Calls as OnSuppressed
+use Rattle.suppressed_verdicts.specs.Laws as suppressed
 use Rattle.provider.specs.Provider as Provider
 use Rattle.provider.specs.Laws.{both-passed}
 use Rattle.leaves.specs.Cleanup.{done-words, refused-words}
@@ -360,13 +363,13 @@ unfolding Provider.decided
 both-step kind.Absolute s w t other stale = go (eqb (Provider.refusalOfBoth s w other t) 0) refl
   where
     go : (z : Bool) → eqb (Provider.refusalOfBoth s w other t) 0 ≡ z →
-        Step kind.Absolute s w t (cleanupBoth other stale) (cond z (Cleanup.cleaned w t stale) w)
+        Step kind.Absolute s w t (cleanupBoth other stale) (cond z (Uses.cleaned w t stale) w)
     go true e = cleaned stale refl (both-passed s w other t (eqb-true _ 0 e) .0) refl
     go false e = refused refl
 both-step kind.Suppressed s w t other stale = go (eqb (Provider.refusalOfBoth s other w t) 0) refl
   where
     go : (z : Bool) → eqb (Provider.refusalOfBoth s other w t) 0 ≡ z →
-        Step kind.Suppressed s w t (cleanupBoth other stale) (cond z (Cleanup.cleaned w t stale) w)
+        Step kind.Suppressed s w t (cleanupBoth other stale) (cond z (Uses.cleaned w t stale) w)
     go true e = cleaned stale refl (both-passed s other w t (eqb-true _ 0 e) .1) refl
     go false e = refused refl
 

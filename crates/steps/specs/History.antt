@@ -13,10 +13,10 @@ use Rattle.ring.specs.Ring.{buckets}
 use Rattle.room.specs.Room.{slotsOf, ringOf, bodyOf, fits, empty}
 use Rattle.frame.specs.Distinct.{Distinct}
 use Rattle.frame.specs.Whole.{empty-free, empty-distinct}
-use Rattle.change.specs.declared.Then.{Then}
-use Rattle.change.specs.Words.{actedView}
+use Rattle.edit.specs.declared.Then.{Then}
+use Rattle.edit.specs.Bodies.{actedView}
 use Rattle.rules.specs.declared.RoomKind.{RoomKind}
-use Rattle.judge.specs.Sound.{hasSeries}
+use Rattle.opened.specs.Sound.{hasSeries}
 use Rattle.places.specs.SoundRoom.{SoundRoom, empty-sound}
 use Rattle.steps.specs.Ops.{Op, Call, after, words, AllKeyed}
 use Rattle.steps.specs.Each.{step}

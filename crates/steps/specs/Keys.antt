@@ -14,8 +14,9 @@ use Rattle.settings.specs.Settings.{windowIn, bucketIn}
 use Rattle.settings.specs.declared.Settings.{Settings}
 use Rattle.ring.specs.declared.Bucket.{Bucket}
 use Rattle.ring.specs.Ring.{buckets}
-use Rattle.room.specs.declared.Key.{Key}
-use Rattle.room.specs.Room.{slotsOf, ringOf, useOf, keyAt, keyOf, find, bodyOf}
+use Rattle.keys.specs.declared.Key.{Key}
+use Rattle.room.specs.Room.{slotsOf, ringOf, useOf, keyAt, find, bodyOf}
+use Rattle.keys.specs.Keys.{keyOf}
 use Rattle.frame.specs.Distinct.{Distinct, find-use, find-key, find-where, find-beside, find-still}
 use Rattle.frame.specs.Frame.{read-run}
 use Rattle.frame.specs.Whole.{clear-read-run}
@@ -23,7 +24,7 @@ use Rattle.change.specs.declared.Change.{Change}
 use Rattle.change.specs.declared.Change.the-variants.{Keep, Free, Update, Take}
 use Rattle.change.specs.Words.{applied}
 use Rattle.rules.specs.declared.RoomKind.{RoomKind}
-use Rattle.judge.specs.Sound.{hasSeries}
+use Rattle.opened.specs.Sound.{hasSeries}
 use Rattle.leaves.specs.Calls.{keep-words, free-changed, update-changed, take-changed}
 use Rattle.leaves.specs.Cleanup.{clean-run, was-used}
 use Rattle.places.specs.Placed.{Lacks, placed-same}

@@ -15,27 +15,29 @@ use Rattle.settings.specs.declared.Settings.{Settings}
 use Rattle.rules.specs.Buckets.{live, gone, joined, replaced, preserved}
 use Rattle.ring.specs.declared.Bucket.{Bucket}
 use Rattle.ring.specs.Ring.{buckets}
-use Rattle.room.specs.declared.Key.{Key}
-use Rattle.room.specs.Room.{Room, slotsOf, ringOf, lastOf, useOf, keyAt, keyOf, bodyOf, withReading, cleared as clearedWords}
+use Rattle.keys.specs.declared.Key.{Key}
+use Rattle.room.specs.Room.{Room, slotsOf, ringOf, lastOf, useOf, keyAt, bodyOf, withReading, cleared as clearedWords}
+use Rattle.keys.specs.Keys.{keyOf}
 use Rattle.frame.specs.Distinct.{Distinct}
 use Rattle.frame.specs.Frame.{Changed, read-run}
 use Rattle.frame.specs.Whole.{clear-read-run, cleared-distinct}
 use Rattle.change.specs.declared.Change.{Change}
 use Rattle.change.specs.declared.Change.the-variants.{Keep, Free, Update, Take}
-use Rattle.change.specs.declared.Edit.{Edit}
-use Rattle.change.specs.declared.Then.{Then}
-use Rattle.change.specs.declared.Then.the-variants as then
-use Rattle.change.specs.Words.{applied, edited, startedView, actedView, editedView, EditsAt}
-use Rattle.change.specs.Laws.{edited-is}
+use Rattle.edit.specs.declared.Edit.{Edit}
+use Rattle.edit.specs.declared.Then.{Then}
+use Rattle.edit.specs.declared.Then.the-variants as then
+use Rattle.change.specs.Words.{applied, EditsAt}
+use Rattle.edit.specs.Bodies.{edited, startedView, actedView, editedView}
+use Rattle.edit.specs.BodyLaws.{edited-is}
 use Rattle.rules.specs.declared.RoomKind.{RoomKind}
-use Rattle.judge.specs.declared.Slot.{Slot}
+use Rattle.opened.specs.declared.Slot.{Slot}
 use Rattle.judge.specs.Judge.{Passed, slotIn}
-use Rattle.judge.specs.Sound.{hasSeries}
+use Rattle.opened.specs.Sound.{hasSeries}
 use Rattle.plan.specs.Known.{series-is}
 use Rattle.calls.specs.Calls.{found-at, known-at}
 use Rattle.calls.specs.Applies.{known-has}
 use Rattle.rules.specs.Stale.{seriesStays}
-use Rattle.cleanup.specs.Cleanup as Cleanup
+use Rattle.stale.specs.Uses as Uses
 use Rattle.leaves.specs.Calls.{keep-words, free-changed, update-changed, take-changed}
 use Rattle.leaves.specs.Cleanup.{clean-run, series-kept, clean-distinct}
 use Rattle.places.specs.Has.{Untouched, changed-untouched}
@@ -275,7 +277,7 @@ module _ (kind : RoomKind) (s : Settings) (w : List ℕ) (t : ℕ) (op : Op kind
   step-becomes (changed key who at change d e) i h =
       subst (λ (y : List ℕ). Becomes (windowIn s) (bucketIn s) t (seriesAt w i) (seriesAt y i)) (sym e) (change-becomes kind s w t key at change d i h)
   step-becomes (cleaned stale z p e) i h =
-      let y = Cleanup.cleaned w t stale in
+      let y = Uses.cleaned w t stale in
       let c = clean-run w t stale (p .room) in
       let stood = seriesStays (buckets (ringOf w) (bodyOf w i)) t stale in
       let q : seriesAt y i ≡ cond (hasSeries (useOf w i) && stood) (buckets (ringOf y) (bodyOf y i)) [] =

@@ -10,19 +10,19 @@ use Rattle.suppression.specs.Factor.{factorWordOk}
 use Rattle.common.specs.Limits.{limitOk}
 use Rattle.settings.specs.Settings.{windowIn, bucketIn, factorIn}
 use Rattle.settings.specs.declared.Settings.{Settings}
-use Rattle.room.specs.declared.Key.{Key}
-use Rattle.room.specs.Room.{keyOf, keyFits}
+use Rattle.keys.specs.declared.Key.{Key}
+use Rattle.keys.specs.Keys.{keyOf, keyFits}
 use Rattle.change.specs.declared.Change.{Change}
 use Rattle.change.specs.declared.Change.the-variants.{Keep, Free, Update, Take}
-use Rattle.change.specs.declared.Edit.{Edit}
-use Rattle.change.specs.declared.Then.{Then}
-use Rattle.change.specs.declared.Then.the-variants as then
+use Rattle.edit.specs.declared.Edit.{Edit}
+use Rattle.edit.specs.declared.Then.{Then}
+use Rattle.edit.specs.declared.Then.the-variants as then
 use Rattle.change.specs.Words.{Applies}
 use Rattle.rules.specs.declared.RoomKind.{RoomKind}
 use Rattle.rules.specs.declared.RoomKind.the-variants.{Absolute, Suppressed}
-use Rattle.judge.specs.declared.Slot.{Slot}
+use Rattle.opened.specs.declared.Slot.{Slot}
 use Rattle.judge.specs.Judge.{Passed, slotIn}
-use Rattle.judge.specs.Sound.{hasSeries, hasCached, rightUse}
+use Rattle.opened.specs.Sound.{hasSeries, hasCached, rightUse}
 use Rattle.rules.specs.Both.{divisor}
 use Rattle.places.specs.Placed.{Owns, Lacks, Placed}
 

@@ -21,13 +21,13 @@ use Rattle.frame.specs.Keys.{Bytes}
 use Rattle.rules.specs.declared.RoomKind.{RoomKind}
 use Rattle.rules.specs.declared.RoomKind.the-variants.{Absolute, Suppressed}
 use Rattle.judge.specs.Verdict.{Verdict, verdict}
-use Rattle.calls.specs.Clear as Clear
+use Rattle.clearing.specs.Clear as Clear
 use Rattle.calls.specs.Delete as Delete
 use Rattle.calls.specs.Rate as Rate
 use Rattle.calls.specs.Set as Set
 use Rattle.cleanup.specs.Cleanup as Cleanup
-use Rattle.absolute.specs.Calls as OnAbsolute
-use Rattle.suppressed.specs.Calls as OnSuppressed
+use Rattle.absolute_verdicts.specs.Calls as OnAbsolute
+use Rattle.suppressed_verdicts.specs.Calls as OnSuppressed
 use Rattle.provider.specs.Provider as Provider
 
 pub data Op : RoomKind → Type 0 where

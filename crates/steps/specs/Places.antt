@@ -15,33 +15,32 @@ use Rattle.common.specs.declared.comparator.RateLimitComparator.{RateLimitCompa
 use Rattle.answers.specs.declared.HistoryUpdateMode.{HistoryUpdateMode}
 use Rattle.answers.specs.declared.HistoryUpdateMode.the-variants as mode
 use Rattle.settings.specs.declared.Settings.{Settings}
-use Rattle.room.specs.Room.{slotsOf, useOf, keyOf, find, vacant}
+use Rattle.room.specs.Room.{slotsOf, useOf, find, vacant}
+use Rattle.keys.specs.Keys.{keyOf}
 use Rattle.frame.specs.Distinct.{Distinct, find-use, find-key, find-where, vacant-free}
 use Rattle.frame.specs.Keys.{Bytes, key-fits}
 use Rattle.change.specs.declared.Change.{Change}
 use Rattle.change.specs.declared.Change.the-variants.{Keep, Free, Update, Take}
-use Rattle.change.specs.declared.Edit.{Edit}
-use Rattle.change.specs.declared.Then.the-variants as then
+use Rattle.edit.specs.declared.Edit.{Edit}
+use Rattle.edit.specs.declared.Then.the-variants as then
 use Rattle.change.specs.Words.{Applies}
 use Rattle.rules.specs.declared.RoomKind.{RoomKind}
 use Rattle.rules.specs.declared.RoomKind.the-variants as kind
-use Rattle.judge.specs.declared.Slot.{Slot}
-use Rattle.judge.specs.Judge.{Passed, hasSlot, slotIn}
-use Rattle.judge.specs.Right.{addressed-at}
-use Rattle.judge.specs.Sound.{hasSeries, rightUse, addressed}
+use Rattle.opened.specs.declared.Slot.{Slot}
+use Rattle.judge.specs.Judge.{Passed, slotIn}
+use Rattle.opened.specs.Slot.{hasSlot}
+use Rattle.opened.specs.Right.{addressed-at}
+use Rattle.opened.specs.Sound.{hasSeries, rightUse, addressed}
 use Rattle.plan.specs.Known.{Found, found, series-is, cached-is, use-right}
-use Rattle.plan.specs.Plan.{keeping, evicting, opening}
+use Rattle.plan.specs.Plan.{keeping, evicting, opening, relimited, placeOf}
 use Rattle.calls.specs.Calls.{found-at, slot-within, true-or}
-use Rattle.shared_opened.specs.Opened.{deleting}
-use Rattle.shared_opened.specs.Opened.{usedWith, relimited, limiting}
-use Rattle.shared_opened.specs.Opened.{idleAt, reset, begins, stored, setting}
-use Rattle.plan.specs.Plan.{placeOf}
+use Rattle.shared_opened.specs.Opened.{deleting, usedWith, limiting}
+use Rattle.sets_opened.specs.Sets.{idleAt, reset, begins, stored, setting}
 use Rattle.calls.specs.Applies.{busy-known, known-has, cached-has}
 use Rattle.absolute_opened.specs.Opened as absolute
 use Rattle.rules.specs.declared.Caching.{Caching}
 use Rattle.rules.specs.declared.Caching.the-variants.{Left, Cached}
 use Rattle.suppressed_edits.specs.Edits.{recached, getChange, loneBy, loneChange, factorChange, incEdit, incChange}
-use Rattle.plan.specs.Plan.{placeOf}
 use Rattle.places.specs.Has.{Has, free-has}
 use Rattle.places.specs.Placed.{Owns, Lacks}
 use Rattle.steps.specs.Moves.{Plain, From, opens, keeps, evicts, Updates, Takes, Moves}

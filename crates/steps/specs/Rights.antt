@@ -18,28 +18,27 @@ use Rattle.answers.specs.declared.HistoryUpdateMode.the-variants as mode
 use Rattle.settings.specs.declared.Settings.{Settings}
 use Rattle.common.specs.declared.units.RateLimit.{RateLimit}
 use Rattle.change.specs.declared.Change.the-variants.{Keep, Free, Update, Take}
-use Rattle.change.specs.declared.Edit.{Edit}
-use Rattle.change.specs.declared.Then.{Then}
-use Rattle.change.specs.declared.Then.the-variants as then
+use Rattle.edit.specs.declared.Edit.{Edit}
+use Rattle.edit.specs.declared.Then.{Then}
+use Rattle.edit.specs.declared.Then.the-variants as then
 use Rattle.rules.specs.declared.RoomKind.{RoomKind}
 use Rattle.rules.specs.declared.RoomKind.the-variants as kind
-use Rattle.judge.specs.declared.Slot.{Slot}
-use Rattle.judge.specs.Judge.{Passed, hasSlot, slotIn}
-use Rattle.judge.specs.Sound.{hasCached, rightUse}
-use Rattle.rules.specs.Both.{divisor}
+use Rattle.opened.specs.declared.Slot.{Slot}
+use Rattle.judge.specs.Judge.{Passed, slotIn}
+use Rattle.opened.specs.Slot.{hasSlot}
+use Rattle.opened.specs.Sound.{hasCached, rightUse}
+use Rattle.rules.specs.Both.{divisor, limitIn}
 use Rattle.plan.specs.Known.{use-right, used-as, cached-is, cached-known}
-use Rattle.plan.specs.Plan.{keeping, evicting}
+use Rattle.plan.specs.Plan.{keeping, evicting, relimited}
 use Rattle.calls.specs.Calls.{found-at, known-at}
-use Rattle.shared_opened.specs.Opened.{deleting}
-use Rattle.rules.specs.Both.{limitIn}
-use Rattle.shared_opened.specs.Opened.{usedWith, relimited, limiting}
-use Rattle.shared_opened.specs.Opened.{reset, stored, setting}
+use Rattle.shared_opened.specs.Opened.{deleting, usedWith, limiting}
+use Rattle.sets_opened.specs.Sets.{reset, stored, setting}
 use Rattle.calls.specs.Applies.{known-has}
 use Rattle.absolute_opened.specs.Opened as absolute
 use Rattle.rules.specs.declared.Caching.{Caching}
 use Rattle.rules.specs.declared.Caching.the-variants.{Left, Cached}
 use Rattle.suppressed_edits.specs.Edits.{recached, getChange, loneEdit, loneChange, factorChange, incEdit, incChange}
-use Rattle.suppressed.specs.Opened.{limitAt}
+use Rattle.suppressed_verdicts.specs.Opened.{limitAt}
 use Rattle.leaves.specs.Calls.{series-right, limit-right}
 use Rattle.leaves.specs.Suppressed as suppressed
 use Rattle.leaves.specs.Unit.{CachingOk}

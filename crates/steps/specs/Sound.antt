@@ -12,26 +12,28 @@ use borrow.Author.Tests.{eq-eqb, eqb-true}
 use Rattle.settings.specs.Settings.{bucketIn}
 use Rattle.settings.specs.declared.Settings.{Settings}
 use Rattle.history.specs.Changes.{joined-declineds}
-use Rattle.history.specs.Preserves.{preserved-comes}
+use Rattle.preserve.specs.Preserves.{preserved-comes}
 use Rattle.rules.specs.Buckets.{joined}
 use Rattle.ring.specs.declared.Bucket.{Bucket}
 use Rattle.ring.specs.Ring.{bucket, deniedOf, declineds, buckets}
 use Rattle.ring.specs.Sums.{sum-one, sum-none, sum-split}
-use Rattle.room.specs.declared.Key.{Key}
-use Rattle.room.specs.Room.{slotsOf, ringOf, useOf, keyAt, keyFits, keyOf, bodyOf}
+use Rattle.keys.specs.declared.Key.{Key}
+use Rattle.room.specs.Room.{slotsOf, ringOf, useOf, keyAt, bodyOf}
+use Rattle.keys.specs.Keys.{keyFits, keyOf}
 use Rattle.frame.specs.Frame.{Changed}
 use Rattle.frame.specs.Whole.{clear-read-run}
 use Rattle.change.specs.declared.Change.{Change}
 use Rattle.change.specs.declared.Change.the-variants.{Keep, Free, Update, Take}
-use Rattle.change.specs.declared.Edit.{Edit}
-use Rattle.change.specs.declared.Then.{Then}
-use Rattle.change.specs.declared.Then.the-variants as then
-use Rattle.change.specs.Words.{applied, edited, startedView, actedView, editedView, EditsAt}
+use Rattle.edit.specs.declared.Edit.{Edit}
+use Rattle.edit.specs.declared.Then.{Then}
+use Rattle.edit.specs.declared.Then.the-variants as then
+use Rattle.change.specs.Words.{applied, EditsAt}
+use Rattle.edit.specs.Bodies.{edited, startedView, actedView, editedView}
 use Rattle.rules.specs.declared.RoomKind.{RoomKind}
 use Rattle.rules.specs.declared.RoomKind.the-variants.{Absolute, Suppressed}
-use Rattle.judge.specs.declared.Slot.{Slot}
+use Rattle.opened.specs.declared.Slot.{Slot}
 use Rattle.judge.specs.Judge.{Passed, slotIn}
-use Rattle.judge.specs.Sound.{declinedRight, soundSlot}
+use Rattle.opened.specs.Sound.{declinedRight, soundSlot}
 use Rattle.calls.specs.Calls.{known-at}
 use Rattle.cleanup.specs.Laws.{sound-parts}
 use Rattle.leaves.specs.Calls.{none-right, stands-so, free-changed, update-changed, take-changed}

@@ -9,7 +9,7 @@ use Rattle.room.specs.Room as Room
 use Rattle.change.specs.declared.Change.{Change}
 use Rattle.change.specs.Words.{applied}
 use Rattle.rules.specs.declared.RoomKind.{RoomKind}
-use Rattle.cleanup.specs.Cleanup as Cleanup
+use Rattle.stale.specs.Uses as Uses
 use Rattle.cleanup.specs.Laws.{Passed}
 use Rattle.steps.specs.Moves.{Does}
 use Rattle.steps.specs.Ops.{Op, slotOf, staleBy, whole, touches}
@@ -19,5 +19,5 @@ pub data Step (kind : RoomKind) (s : Settings) (w : List ℕ) (t : ℕ) (op : Op
   refused : v ≡ w → Step kind s w t op v
   changed : (key : List ℕ) → touches op ≡ slotOf key → (at : ℕ) (change : Change) → Does kind s w t key at change →
       v ≡ applied w at key (bucketIn s) t change → Step kind s w t op v
-  cleaned : (stale : ℕ) → touches op ≡ staleBy stale → Passed kind s w t → v ≡ Cleanup.cleaned w t stale → Step kind s w t op v
+  cleaned : (stale : ℕ) → touches op ≡ staleBy stale → Passed kind s w t → v ≡ Uses.cleaned w t stale → Step kind s w t op v
   cleared : touches op ≡ whole → Room.Room w → Room.lastOf w ≤ t → v ≡ Room.withReading (Room.cleared w) t → Step kind s w t op v

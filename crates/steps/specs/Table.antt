@@ -28,12 +28,12 @@ use Rattle.common.specs.declared.units.RateLimit.{RateLimit}
 use Rattle.common.specs.declared.units.WindowSize.{WindowSize}
 use Rattle.rules.specs.declared.RoomKind.{RoomKind}
 use Rattle.rules.specs.declared.RoomKind.the-variants as kind
-use Rattle.calls.specs.Clear as Clear
+use Rattle.clearing.specs.Clear as Clear
 use Rattle.calls.specs.Delete as Delete
 use Rattle.calls.specs.Rate as Rate
 use Rattle.calls.specs.Set as Set
 use Rattle.cleanup.specs.Cleanup as Cleanup
-use Rattle.absolute.specs.Calls as Absolute
+use Rattle.absolute_verdicts.specs.Calls as Absolute
 use Rattle.ring.specs.declared.Bucket.{Bucket}
 use Rattle.rules.specs.Held.{Held}
 use Rattle.rules.specs.Both.{liveOf}
@@ -44,7 +44,7 @@ use Rattle.rules.specs.Sets as shared
 use Rattle.room.specs.Room.{ringOf}
 use Rattle.judge.specs.Held.{heldIn, noneFree}
 use Rattle.judge.specs.Judge.{misfits, refusals}
-use Rattle.suppressed.specs.Calls as Suppressed
+use Rattle.suppressed_verdicts.specs.Calls as Suppressed
 use Rattle.rules.specs.declared.Asked.{Asked}
 use Rattle.rules.specs.declared.Reach.{Reach}
 use Rattle.rules.specs.declared.Reach.the-variants.{Hard, Soft, Over, Between}

@@ -1,19 +1,19 @@
 -- What the suppressed limiter's own calls change of a key's slot x, once the factor is known. t is the reading, c the count, d how much of it is declined.
 -- Assumes nothing.
 use mathlib.Core.Path.{_≡_, sym, ap}
-use mathlib.Core.Bool.{Bool, true, false, _||_, cond}
+use mathlib.Core.Bool.{Bool, true, false, cond}
 use Prim.Native.Nat.{ℕ}
 use lib.Ieee.{binary64, toBits}
 use Rattle.change.specs.declared.Change.{Change}
 use Rattle.change.specs.declared.Change.the-variants.{Keep, Update, Take}
-use Rattle.change.specs.declared.Edit.{Edit}
-use Rattle.change.specs.declared.Then.the-variants.{Nothing, Increment}
-use Rattle.judge.specs.declared.Slot.{Slot}
-use Rattle.judge.specs.Judge.{hasSlot}
+use Rattle.edit.specs.declared.Edit.{Edit}
+use Rattle.edit.specs.declared.Then.the-variants.{Nothing, Increment}
+use Rattle.opened.specs.declared.Slot.{Slot}
+use Rattle.opened.specs.Slot.{hasSlot}
 use Rattle.plan.specs.Plan.{evicting, opening, restored}
 use Rattle.rules.specs.declared.Caching.{Caching}
 use Rattle.rules.specs.declared.Caching.the-variants.{Left, Cached}
-use Rattle.suppressed_opened.specs.Opened.{staysAt}
+use Rattle.factor_opened.specs.Opened.{staysAt}
 
 -- ---- the cached factor's words and the use, of a slot with a series: 1, or 3 with a cached factor
 

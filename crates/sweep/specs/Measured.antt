@@ -73,9 +73,3 @@ ahead-after w t (x ∷ xs) = go (older w t x) refl (ahead-after w t xs)
     go : (o : Bool) → older w t x ≡ o → ahead w t (drop (ahead w t xs) xs) ≡ 0 → ahead w t (drop (cond o (suc (ahead w t xs)) 0) (x ∷ xs)) ≡ 0
     go true e i = i
     go false e i = ap (λ (o : Bool). cond o (suc (ahead w t xs)) 0) e
-
--- the newest stays the newest
-pub newest-drop : (k : ℕ) (xs : List Bucket) → k < length xs → newest (drop k xs) ≡ newest xs
-newest-drop k xs h =
-    let e : k + (length (drop k xs) - 1) ≡ length xs - 1 = omega (arith, length-drop k xs) in
-    getD-drop k xs (length (drop k xs) - 1) noBucket ∙ ap (λ (i : ℕ). getD xs i noBucket) e

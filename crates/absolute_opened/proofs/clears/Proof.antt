@@ -1,7 +1,8 @@
 -- Where the test takes them out they are out; else where the increment is crowded.
 use mathlib.Core.Path.{_≡_, _∙_, sym}
 use mathlib.Core.Bool.{true, false}
-use Rattle.absolute_opened.specs.Opened.{evicts, clearsAt}
+use Rattle.absolute_opened.specs.Opened.{clearsAt}
+use Rattle.absolute_test.specs.Test.{evicts}
 use borrow.Author.Needs.{needs}
 use Rattle.absolute_opened.proofs.clears.Statement.{statement}
 use Rattle.absolute_opened.proofs.clears.Tie as tie

@@ -4,7 +4,7 @@ use Rattle.settings.specs.Settings.{bucketIn}
 use Rattle.answers.specs.declared.OldRateAnswer.the-variants.{Refused}
 use Rattle.change.specs.declared.Change.{Change}
 use Rattle.change.specs.Words.{applied, Applies}
-use Rattle.judge.specs.declared.Slot.{Slot}
+use Rattle.opened.specs.declared.Slot.{Slot}
 use Rattle.calls.specs.Calls.{judged-passed, judged-applies, judged-early, judged-own, judged-done}
 use Rattle.judge.specs.Verdict.{told-as}
 use Rattle.shared_opened.specs.Opened.{limiting}

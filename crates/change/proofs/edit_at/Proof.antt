@@ -5,7 +5,8 @@ use Prim.Native.Nat.{ℕ, _+_, _*_, _-_}
 use borrow.Rule.Slice.PartMut.{same-len-mid}
 use Rattle.room.specs.Room.{ringOf, bodyOf, withBody}
 use Rattle.room.specs.Laws.{part-body, part-home}
-use Rattle.change.specs.Words.{Edits, edited, withEdit}
+use Rattle.change.specs.Words.{withEdit}
+use Rattle.edit.specs.Bodies.{Edits, edited}
 use borrow.Author.Needs.{needs}
 use Rattle.change.proofs.edit_at.Statement.{statement}
 use Rattle.change.proofs.edit_at.Tie as tie

@@ -3,7 +3,7 @@ use Rattle.room.specs.Laws.{room-directory}
 use mathlib.Core.Path.{sym, ap, ap₂, subst, _∙_}
 use mathlib.Core.List.{List}
 use Prim.Native.Nat.{ℕ, _<_}
-use Rattle.room.specs.declared.Key.{Key}
+use Rattle.keys.specs.declared.Key.{Key}
 use Rattle.room.specs.Room.{Directory, slotsOf, entered}
 use Rattle.frame.specs.Frame.{inside-after}
 use Rattle.change.specs.Words.{taken}

@@ -1,7 +1,8 @@
 -- The line is that of the answer.
 -- Assumes nothing.
 use mathlib.Core.Path.{ap, _∙_}
-use Rattle.desk_step.specs.Desk.{totalLine, absoluteGet}
+use Rattle.desk_step.specs.Desk.{absoluteGet}
+use Rattle.desk_lines.specs.Lines.{totalLine}
 use borrow.Author.Needs.{needs}
 use Rattle.desk_step.proofs.absolute_get.Statement.{statement}
 use Rattle.desk_step.proofs.absolute_get.Tie as tie

@@ -1,7 +1,8 @@
 -- The line is that of the decision and of what the room then holds.
 -- Assumes nothing.
-use Rattle.absolute.specs.Calls as Absolute
-use Rattle.desk_step.specs.Desk.{decisionLine, perMinute, absoluteInc}
+use Rattle.absolute_verdicts.specs.Calls as Absolute
+use Rattle.desk_step.specs.Desk.{absoluteInc}
+use Rattle.desk_lines.specs.Lines.{decisionLine, perMinute}
 use Rattle.desk_step.specs.Laws.{line-told}
 use borrow.Author.Needs.{needs}
 use Rattle.desk_step.proofs.absolute_inc.Statement.{statement}

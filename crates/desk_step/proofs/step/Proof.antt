@@ -17,13 +17,13 @@ enum-known-t c = search needs
 enum-told : tie.Need-enum-told
 enum-told c = search needs
 
-refused-requires : tie.Need-refused-requires
-refused-requires c κs = search needs
+bad-line-requires : tie.Need-bad-line-requires
+bad-line-requires c κs = search needs
 
 returns : tie.Need-returns
 unfolding stepped
 returns c = rw (sym (c .before .before .before .read-call .ensures) ∙ c .before .enum-told .given .1)
-    (record { answer = c .refused .ensures; absolute = refl; suppressed = refl })
+    (record { answer = c .bad-line .ensures; absolute = refl; suppressed = refl })
 
 sub-call : tie.Need-sub-call
 sub-call c = let k = read-inside _ _ _ _ _ _ _ _ (sym (c .before .before .before .before .before .read-call .ensures) ∙
@@ -58,7 +58,7 @@ step-spec =
     read-call-requires
     enum-known-t
     enum-told
-    refused-requires
+    bad-line-requires
     returns
     sub-call
     part-call-start

@@ -1,7 +1,8 @@
 -- The line is that of the snapshot and of what the room then holds.
 -- Assumes nothing.
-use Rattle.suppressed.specs.Calls as Suppressed
-use Rattle.desk_step.specs.Desk.{snapshotLine, suppressedGet}
+use Rattle.suppressed_verdicts.specs.Calls as Suppressed
+use Rattle.desk_step.specs.Desk.{suppressedGet}
+use Rattle.desk_lines.specs.Lines.{snapshotLine}
 use Rattle.desk_step.specs.Laws.{line-told}
 use borrow.Author.Needs.{needs}
 use Rattle.desk_step.proofs.suppressed_get.Statement.{statement}

@@ -1,7 +1,8 @@
 -- The line is that of the decision and of what the room then holds.
 -- Assumes nothing.
-use Rattle.suppressed.specs.Calls as Suppressed
-use Rattle.desk_step.specs.Desk.{decisionLine, perMinute, suppressedInc}
+use Rattle.suppressed_verdicts.specs.Calls as Suppressed
+use Rattle.desk_step.specs.Desk.{suppressedInc}
+use Rattle.desk_lines.specs.Lines.{decisionLine, perMinute}
 use Rattle.desk_step.specs.Laws.{line-told}
 use borrow.Author.Needs.{needs}
 use Rattle.desk_step.proofs.suppressed_inc.Statement.{statement}

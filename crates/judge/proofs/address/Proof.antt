@@ -1,6 +1,6 @@
 -- A key that is too long has no slot, and another's is looked for.
 use borrow.Author.Tests.{lt-ltb, le-ltb}
-use Rattle.judge.specs.Sound.{addressed}
+use Rattle.opened.specs.Sound.{addressed}
 use borrow.Author.Needs.{needs}
 use Rattle.judge.proofs.address.Statement.{statement}
 use Rattle.judge.proofs.address.Tie as tie

@@ -2,7 +2,7 @@
 use mathlib.Core.Path.{_∙_, sym, ap}
 use borrow.Author.Tests.{not-true, not-false}
 use native.Mathlib.Omega.{arith}
-use Rattle.judge.specs.Slot.{slotOf}
+use Rattle.opened.specs.Slot.{slotOf}
 use Rattle.settings.specs.Settings.{windowIn}
 use Rattle.judge.specs.Laws.{refused-is, passed-is, early-unsound, early-reading, early-key, early-none}
 use borrow.Author.Needs.{needs}

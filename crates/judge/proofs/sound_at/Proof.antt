@@ -4,7 +4,7 @@ use mathlib.Core.Path.{_∙_, ap}
 use Prim.Native.Nat.{ℕ}
 use native.Mathlib.Omega.{arith}
 use Rattle.room.specs.Room.{lastOf}
-use Rattle.judge.specs.Right.{slotRight, sound-none, sound-some}
+use Rattle.opened.specs.Right.{slotRight, sound-none, sound-some}
 use borrow.Author.Needs.{needs}
 use Rattle.judge.proofs.sound_at.Statement.{statement}
 use Rattle.judge.proofs.sound_at.Tie as tie

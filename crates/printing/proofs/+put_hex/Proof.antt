@@ -1,12 +1,11 @@
 -- `printing::put_hex` meets its contract: the word's last hex digit is put after those of a sixteenth of it. The measure is the count.
 -- Assumes nothing.
 use mathlib.Core.Path.{refl, sym, _∙_}
-use Prim.Native.Nat.{_-_, _/_}
+use Prim.Native.Nat.{_-_, _/_, ℕ, _<_}
 use lib.ListN.{length-set}
 use Rattle.printing.specs.Printing.{put-hex-none, put-hex-more, hex-length}
 use borrow.Author.Needs.{needs}
 use native.Mathlib.Omega.{arith}
-use Prim.Native.Nat.{ℕ, _<_}
 use borrow.Fn.Kinds.{In}
 use borrow.Fn.PlainCycle.{Measures, is, falls, and}
 use Rattle.printing.proofs.put_hex.Reads as put-hex

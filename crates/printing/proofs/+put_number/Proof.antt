@@ -2,7 +2,7 @@
 -- Assumes nothing.
 use mathlib.Core.Path.{refl, sym, _∙_}
 use lib.ListN.{length-set}
-use Rattle.lines.specs.Numbers.{show-length, show-longer}
+use Rattle.fields.specs.Numbers.{show-length, show-longer}
 use Rattle.printing.specs.Printing.{put-digit, put-more}
 use native.Mathlib.Omega.{arith}
 use Prim.Native.Nat.{ℕ, _<_}

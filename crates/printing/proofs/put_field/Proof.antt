@@ -2,7 +2,7 @@
 -- Assumes nothing.
 use Prim.Native.Nat.{_≤_}
 use native.Mathlib.Omega.{arith}
-use Rattle.lines.specs.Numbers.{show-short}
+use Rattle.fields.specs.Numbers.{show-short}
 use Rattle.printing.specs.Printing.{put-field}
 use borrow.Author.Needs.{needs}
 use Rattle.printing.proofs.put_field.Statement.{statement}

@@ -67,7 +67,8 @@ use Rattle.ring.proofs.Bucket as T
 use Rattle.ring.proofs.Bucket.Laws as T′
 use Rattle.room.specs.Room.{ringOf, bodyOf}
 use Rattle.readout.specs.declared.Plan.{Plan}
-use Rattle.readout.specs.ReadOut.{found, planOf, rowAt}
+use Rattle.readout.specs.ReadOut.{planOf, rowAt}
+use Rattle.finding.specs.Finding.{found}
 use Rattle.readout.specs.Laws.{row-readable, row-length, row-more, row-shown}
 use Rattle.readout.proofs.Plan as P
 use Rattle.readout.proofs.Plan.Laws as P′
@@ -77,10 +78,10 @@ use Rattle.readout.proofs.decide as decide
 use Rattle.readout.proofs.decide.Symbol as decide-def
 use Rattle.readout.proofs.decide.Symbol.{name as #readout·decide}
 use Rattle.readout.proofs.decide.Met as decide-thm
-use Rattle.readout.proofs.bucket_at as bucket-at
-use Rattle.readout.proofs.bucket_at.Symbol as bucket-at-def
-use Rattle.readout.proofs.bucket_at.Symbol.{name as #readout·bucket-at}
-use Rattle.readout.proofs.bucket_at.Met as bucket-at-thm
+use Rattle.finding.proofs.bucket_at as bucket-at
+use Rattle.finding.proofs.bucket_at.Symbol as bucket-at-def
+use Rattle.finding.proofs.bucket_at.Symbol.{name as #finding·bucket-at}
+use Rattle.finding.proofs.bucket_at.Met as bucket-at-thm
 use Rattle.readout.proofs.read_out.Key.{name as #readout·read-out}
 use Rattle.readout.proofs.read_out as read-out
 use Rattle.readout.proofs.read_out.Statement as stated
@@ -257,7 +258,7 @@ module _ {M : Type 1} (𝓤 : URA M) (H : Heap 𝓤) (A : Atoms 𝓤) (W : Given
       keep ! (0 ∷ 4 ∷ 5 ∷ 1 ∷ 3 ∷ []) $ done !
 
   module _ (𝓣 : Tables 𝓤 H) (known-decide : Triple 𝓤 (𝓣 .C #readout·decide) (Decide 𝓤 H A mem run))
-      (known-at : Triple 𝓤 (𝓣 .C #readout·bucket-at) (BucketAt 𝓤 H A mem run)) (l₀ l₁ l₂ l₃ l₄ l₅ l₆ l₇ l₈ l₉ l₁₀ l₁₁ l₁₂ l₁₃ l₁₄ : ℕ) where
+      (known-at : Triple 𝓤 (𝓣 .C #finding·bucket-at) (BucketAt 𝓤 H A mem run)) (l₀ l₁ l₂ l₃ l₄ l₅ l₆ l₇ l₈ l₉ l₁₀ l₁₁ l₁₂ l₁₃ l₁₄ : ℕ) where
     abbrev word : Ty
     word = tyInt w64
 
@@ -490,7 +491,7 @@ module _ {M : Type 1} (𝓤 : URA M) (H : Heap 𝓤) (A : Atoms 𝓤) (W : Given
         by ! asks
 
   module _ (𝓣 : Tables 𝓤 H) (known-decide : Triple 𝓤 (𝓣 .C #readout·decide) (Decide 𝓤 H A mem run))
-      (known-at : Triple 𝓤 (𝓣 .C #readout·bucket-at) (BucketAt 𝓤 H A mem run)) where
+      (known-at : Triple 𝓤 (𝓣 .C #finding·bucket-at) (BucketAt 𝓤 H A mem run)) where
     walk : ent 𝓤 (onEntry 𝓤 H A read-out.signature (κ₀, (κ₁, (κ₂, tt))) (q₀, (q₁, (q₂, tt))) a vals) (WpFn 𝓤 H (𝓣 .C) (𝓣 .Λ) code.function passed Post)
     walk = via 𝓤 _ opened (
         qed W Opened ∵ enter ! (𝓣 .C) (𝓣 .Λ) code.function passed _ $
@@ -504,7 +505,7 @@ module _ {M : Type 1} (𝓤 : URA M) (H : Heap 𝓤) (A : Atoms 𝓤) (W : Given
         (λ l₁₄. alloc0 ! $ stores 𝓣 known-decide known-at l₀ l₁ l₂ l₃ l₄ l₅ l₆ l₇ l₈ l₉ l₁₀ l₁₁ l₁₂ l₁₃ l₁₄))))))))))))))))
 
 module _ {M : Type 1} (𝓤 : URA M) (H : Heap 𝓤) (A : Atoms 𝓤) (W : Given 𝓤 H A) (mem : Memory → SProp 𝓤) (run : Routine → Fun 𝓤) (𝓣 : Tables 𝓤 H)
-    (known-decide : Triple 𝓤 (𝓣 .C #readout·decide) (Decide 𝓤 H A mem run)) (known-at : Triple 𝓤 (𝓣 .C #readout·bucket-at) (BucketAt 𝓤 H A mem run)) where
+    (known-decide : Triple 𝓤 (𝓣 .C #readout·decide) (Decide 𝓤 H A mem run)) (known-at : Triple 𝓤 (𝓣 .C #finding·bucket-at) (BucketAt 𝓤 H A mem run)) where
   read-out-walks : Walks 𝓤 H A read-out.ended stayed (WpFn 𝓤 H (𝓣 .C) (𝓣 .Λ) code.function) (read-out.clauses 𝓤 H A mem run)
   read-out-walks = walked 𝓤 H A read-out.ended stayed (read-out.clauses 𝓤 H A mem run) (WpFn 𝓤 H (𝓣 .C) (𝓣 .Λ) code.function)
       (λ κs. (EL.vals K.the-type K′.the-laws, (LL.vals S.the-type S′.the-laws, (slice-vals, (slice-vals, (slice-vals, tt))))))
@@ -541,5 +542,5 @@ read-out-spec 𝓤 H 𝓜 𝓖 𝓡 =
     (tables 𝓤 H 𝓜 𝓡 code.env .C) (tables 𝓤 H 𝓜 𝓡 code.env .Λ) #readout·read-out code.function (code.unfolded 𝓤 H 𝓜 𝓡)
     (read-out-meets 𝓤 H (𝓖 .A) (givenOf 𝓤 H 𝓜 𝓖) (𝓜 .mem) (𝓡 .run) (tablesOf 𝓤 H 𝓜 (tables 𝓤 H 𝓜 𝓡 code.env))
     (cited 𝓤 H (Decide 𝓤 H (𝓖 .A) (𝓜 .mem) (𝓡 .run)) 𝓜 𝓡 code.env #readout·decide decide-def.routine code.calls-readout·decide (decide-thm.met 𝓤 H 𝓜 𝓖 𝓡))
-    (cited 𝓤 H (BucketAt 𝓤 H (𝓖 .A) (𝓜 .mem) (𝓡 .run)) 𝓜 𝓡 code.env #readout·bucket-at bucket-at-def.routine code.calls-readout·bucket-at
+    (cited 𝓤 H (BucketAt 𝓤 H (𝓖 .A) (𝓜 .mem) (𝓡 .run)) 𝓜 𝓡 code.env #finding·bucket-at bucket-at-def.routine code.calls-finding·bucket-at
     (bucket-at-thm.met 𝓤 H 𝓜 𝓖 𝓡)))

@@ -10,7 +10,7 @@ use Rattle.replay.proofs.state_of.Lts as lts
 use Rattle.replay.proofs.body_state.Reads as body-state-reads
 use Rattle.replay.proofs.nothing.Reads as nothing-reads
 use Rattle.room.proofs.find.Reads as find-reads
-use Rattle.room.proofs.key_of.Reads as key-of-reads
+use Rattle.keys.proofs.key_of.Reads as key-of-reads
 use Rattle.room.proofs.sized.Reads as sized-reads
 use Rattle.room.proofs.start.Reads as start-reads
 use Rattle.room.proofs.use_of.Reads as use-of-reads

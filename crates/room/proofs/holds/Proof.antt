@@ -2,7 +2,7 @@
 -- Assumes nothing.
 use mathlib.Core.Path.{sym, ap, _∙_}
 use borrow.Author.Needs.{needs}
-use Rattle.room.specs.Room.{sameKey}
+use Rattle.keys.specs.Keys.{sameKey}
 use Rattle.room.specs.Entries.{has-free, has-used}
 use Rattle.room.proofs.holds.Statement.{statement}
 use Rattle.room.proofs.holds.Tie as tie

@@ -4,7 +4,7 @@ use mathlib.Core.Path.{_≡_, sym, ap, _∙_}
 use mathlib.Core.Bool.{false}
 use borrow.Author.Tests.{le-leb, lt-leb, not-true, not-false}
 use borrow.Author.Needs.{needs}
-use Rattle.room.specs.Room.{keyFits}
+use Rattle.keys.specs.Keys.{keyFits}
 use Rattle.room.proofs.key_fits.Statement.{statement}
 use Rattle.room.proofs.key_fits.Tie as tie
 

@@ -1,10 +1,10 @@
 -- By whether there is a series.
 use mathlib.Core.Path.{_∙_, ap}
-use Rattle.change.specs.declared.Then.the-variants.{Nothing}
-use Rattle.change.specs.declared.Edit.{Edit}
+use Rattle.edit.specs.declared.Then.the-variants.{Nothing}
+use Rattle.edit.specs.declared.Edit.{Edit}
 use Rattle.change.specs.declared.Change.the-variants.{Update}
-use Rattle.plan.specs.Plan.{keeping}
-use Rattle.shared_opened.specs.Opened.{relimited, limiting, limiting-known}
+use Rattle.plan.specs.Plan.{keeping, relimited}
+use Rattle.shared_opened.specs.Opened.{limiting, limiting-known}
 use borrow.Author.Needs.{needs}
 use Rattle.shared_opened.proofs.limiting.Statement.{statement}
 use Rattle.shared_opened.proofs.limiting.Tie as tie

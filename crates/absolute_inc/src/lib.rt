@@ -1,0 +1,46 @@
+// The absolute limiter's increment: counts for a key where it is allowed.
+ghost use Rattle.judge.specs.Verdict.{Told};
+ghost use Rattle.rules.specs.declared.RoomKind.the-variants.{Absolute};
+ghost use Rattle.absolute_verdicts.specs.Calls as Calls;
+use absolute_opened::clears;
+use absolute_opened::inc_change;
+use absolute_opened::late;
+use absolute_test::allows;
+use absolute_test::decided;
+use answers::RateLimitDecision;
+use common::RateLimit;
+use rules::RoomKind;
+use settings::Settings;
+
+// Counts `count` for a key, where it is allowed.
+pub fn inc(
+    settings: Settings,
+    room: &mut [u64],
+    reading: u64,
+    key: &[u8],
+    rate: RateLimit,
+    count: u64,
+) -> RateLimitDecision
+    ensures { λ r. ⌜ Told (Calls.inc settings (now (room .entry)) reading (now (key .entry)) rate count) r (now (room .exit)) ⌝ }
+{
+    let window = settings.window_size;
+    let bucket = settings.bucket_size;
+    let j = judge::judge(RoomKind::Absolute, settings, room, reading, key);
+    let code = j.code;
+    if code != 0 {
+        return RateLimitDecision::Refused(code);
+    }
+    let x = j.slot;
+    let at = plan::place(room, x);
+    let limit = common::cut_limit(x.limit);
+    let may = allows(limit, x);
+    let out = clears(room, limit, bucket.0, reading, count, x);
+    let number = late(room, bucket.0, reading, rate, count, at, may, out, x);
+    if number != 0 {
+        return RateLimitDecision::Refused(number);
+    }
+    let answer = decided(window, reading, may, x);
+    let change = inc_change(rate, window, count, may, out, x);
+    change::apply(room, at, key, bucket.0, reading, change);
+    answer
+}

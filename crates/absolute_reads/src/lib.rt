@@ -1,0 +1,53 @@
+// What the absolute limiter says of a key without counting: its live total, and whether it is allowed.
+ghost use Rattle.judge.specs.Verdict.{Told};
+ghost use Rattle.rules.specs.declared.RoomKind.the-variants.{Absolute};
+ghost use Rattle.absolute_verdicts.specs.Calls as Calls;
+use absolute_opened::ask_change;
+use absolute_opened::get_change;
+use absolute_test::allows;
+use absolute_test::decided;
+use absolute_test::evicts;
+use answers::RateLimitDecision;
+use answers::TotalAnswer;
+use rules::RoomKind;
+use settings::Settings;
+
+// A key's live total.
+pub fn get(settings: Settings, room: &mut [u64], reading: u64, key: &[u8]) -> TotalAnswer
+    ensures { λ r. ⌜ Told (Calls.get settings (now (room .entry)) reading (now (key .entry))) r (now (room .exit)) ⌝ }
+{
+    let bucket = settings.bucket_size;
+    let j = judge::judge(RoomKind::Absolute, settings, room, reading, key);
+    let code = j.code;
+    if code != 0 {
+        return TotalAnswer::Refused(code);
+    }
+    let x = j.slot;
+    let pass = x.pass;
+    change::apply(room, x.at, key, bucket.0, reading, get_change(x));
+    TotalAnswer::Total(pass.live_total)
+}
+
+// Whether a key is allowed, without counting.
+pub fn is_allowed(
+    settings: Settings,
+    room: &mut [u64],
+    reading: u64,
+    key: &[u8],
+) -> RateLimitDecision
+    ensures { λ r. ⌜ Told (Calls.isAllowed settings (now (room .entry)) reading (now (key .entry))) r (now (room .exit)) ⌝ }
+{
+    let window = settings.window_size;
+    let bucket = settings.bucket_size;
+    let j = judge::judge(RoomKind::Absolute, settings, room, reading, key);
+    let code = j.code;
+    if code != 0 {
+        return RateLimitDecision::Refused(code);
+    }
+    let x = j.slot;
+    let limit = common::cut_limit(x.limit);
+    let answer = decided(window, reading, allows(limit, x), x);
+    let again = evicts(limit, x);
+    change::apply(room, x.at, key, bucket.0, reading, ask_change(again, x));
+    answer
+}

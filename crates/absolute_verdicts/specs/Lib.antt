@@ -1,0 +1,5 @@
+pub mod Calls
+pub mod Laws
+pub mod Opened
+pub mod Seen
+pub mod Told

@@ -1,0 +1,64 @@
+-- The absolute limiter's calls as the code carries them out, on the key's slot as it is opened. They are the calls of `Calls.antt` (`get-opened`, `ask-opened`,
+-- `inc-opened` in `Seen.antt`), and no contract names them.
+-- Assumes nothing.
+use mathlib.Core.Bool.{Bool}
+use mathlib.Core.List.{List, []}
+use Prim.Native.Nat.{ℕ}
+use Rattle.common.specs.Limits.{absoluteWord, cutWord}
+use Rattle.common.specs.Ranges.{rateOk}
+use Rattle.settings.specs.Settings.{windowIn, bucketIn}
+use Rattle.settings.specs.declared.Settings.{Settings}
+use Rattle.answers.specs.declared.RateLimitDecision.{RateLimitDecision}
+use Rattle.answers.specs.declared.RateLimitDecision.the-variants as decision
+use Rattle.answers.specs.declared.TotalAnswer.{TotalAnswer}
+use Rattle.answers.specs.declared.TotalAnswer.the-variants as total
+use Rattle.common.specs.declared.units.RateLimit.{RateLimit}
+use Rattle.rules.specs.declared.RoomKind.the-variants.{Absolute}
+use Rattle.room.specs.Room.{ringOf}
+use Rattle.change.specs.declared.Change.{Change}
+use Rattle.change.specs.Words.{applied}
+use Rattle.opened.specs.declared.Slot.{Slot}
+use Rattle.judge.specs.Judge.{slotIn}
+use Rattle.judge.specs.Verdict.{Verdict, verdict, call}
+use Rattle.plan.specs.Plan.{placeOf, lacksAt}
+use Rattle.absolute_opened.specs.Opened.{clearsAt, incRefusals, getChange, askChange, incChange}
+use Rattle.absolute_test.specs.Test.{evicts, allowedAt, decidedAt}
+
+unfoldable pub get : Settings → List ℕ → ℕ → List ℕ → Verdict TotalAnswer
+get s w t key =
+    call total.Refused Absolute s w t key []
+    (verdict (total.Total (slotIn s w t key .pass .«live_total»)) (applied w (slotIn s w t key .at) key (bucketIn s) t (getChange (slotIn s w t key))))
+
+-- ---- of the key's slot x: whether it is allowed, tests again, and the decision
+
+abbrev pub mayIn : Slot → Bool
+mayIn x = allowedAt (cutWord (x .limit)) x
+
+abbrev pub againIn : Slot → Bool
+againIn x = evicts (cutWord (x .limit)) x
+
+abbrev pub decidedIn : Settings → ℕ → Slot → RateLimitDecision
+decidedIn s t x = decidedAt (s .«window_size») t (mayIn x) x
+
+unfoldable pub isAllowed : Settings → List ℕ → ℕ → List ℕ → Verdict RateLimitDecision
+isAllowed s w t key =
+    call decision.Refused Absolute s w t key []
+    (verdict (decidedIn s t (slotIn s w t key))
+    (applied w (slotIn s w t key .at) key (bucketIn s) t (askChange (againIn (slotIn s w t key)) (slotIn s w t key))))
+
+-- ---- an increment by c at rate
+
+abbrev pub outIn : Settings → List ℕ → ℕ → ℕ → Slot → Bool
+outIn s w t c x = clearsAt (ringOf w) (bucketIn s) t c (cutWord (x .limit)) x
+
+abbrev pub incOwn : Settings → List ℕ → ℕ → RateLimit → ℕ → Slot → List (ℕ × Bool)
+incOwn s w t rate c x = incRefusals (ringOf w) (bucketIn s) t c (rateOk (rate .0)) (mayIn x) (lacksAt w (placeOf w x) x) (outIn s w t c x) x
+
+abbrev pub incMakes : Settings → List ℕ → ℕ → RateLimit → ℕ → Slot → Change
+incMakes s w t rate c x = incChange (absoluteWord (rate .0) (windowIn s)) c (mayIn x) (outIn s w t c x) x
+
+unfoldable pub inc : Settings → List ℕ → ℕ → List ℕ → RateLimit → ℕ → Verdict RateLimitDecision
+inc s w t key rate c =
+    call decision.Refused Absolute s w t key (incOwn s w t rate c (slotIn s w t key))
+    (verdict (decidedIn s t (slotIn s w t key))
+    (applied w (placeOf w (slotIn s w t key)) key (bucketIn s) t (incMakes s w t rate c (slotIn s w t key))))

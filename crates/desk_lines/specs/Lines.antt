@@ -1,0 +1,73 @@
+-- What `desk` prints of an answer, in 01's words: these are the definitions to hold beside the page.
+-- t is the reading, x what is stored after the call.
+-- Assumes nothing.
+use mathlib.Core.Bool.{Bool, true, false, _&&_}
+use mathlib.Core.List.{List}
+use Prim.Native.Nat.{ℕ}
+use lib.Dec.{ltb}
+use lib.Ieee.{binary64, div, toBits}
+use Rattle.common.specs.Units.{minute, real}
+use Rattle.answers.specs.declared.RateLimitDecision.{RateLimitDecision}
+use Rattle.answers.specs.declared.RateLimitDecision.the-variants as decision
+use Rattle.answers.specs.declared.SnapshotAnswer.{SnapshotAnswer}
+use Rattle.answers.specs.declared.SnapshotAnswer.the-variants as snapshot
+use Rattle.answers.specs.declared.TotalAnswer.{TotalAnswer}
+use Rattle.answers.specs.declared.TotalAnswer.the-variants as total
+use Rattle.common.specs.declared.units.RateLimit.{RateLimit}
+use Rattle.ring.specs.Ring.{totalOf, declinedOf}
+use Rattle.room.specs.Room.{sized, slotsOf, useOf, find, bodyOf}
+use Rattle.keys.specs.Keys.{keyOf}
+use Rattle.opened.specs.Sound.{hasSeries}
+use Rattle.printing.specs.declared.Answer.{Answer}
+use Rattle.printing.specs.declared.Answer.the-variants as answer
+use Rattle.printing.specs.declared.AnswerLine.{AnswerLine}
+use Rattle.desk_lines.specs.declared.Stored.{Stored}
+
+abbrev pub noStored : Stored
+noStored = record { total = 0; declined = 0 }
+
+abbrev pub storedAt : List ℕ → ℕ → Stored
+storedAt w at = record { total = totalOf (bodyOf w at); declined = declinedOf (bodyOf w at) }
+
+abbrev pub pickStored : Bool → Stored → Stored
+pickStored true x = x
+pickStored false x = noStored
+
+unfoldable pub storedOf : List ℕ → List ℕ → Stored
+storedOf w key =
+    pickStored (sized w && (ltb (find w (keyOf key)) (slotsOf w) && hasSeries (useOf w (find w (keyOf key))))) (storedAt w (find w (keyOf key)))
+
+-- "Fields that do not apply, and on a refusal all after `answer`, are 0"
+abbrev pub refusedLine : ℕ → ℕ → AnswerLine
+refusedLine t n = record { t = t; code = n; answer = answer.Refused; factor = 0; wait = 0; left = 0; total = 0; declined = 0 }
+
+-- "14: a bad line"
+abbrev pub badLine : ℕ
+badLine = 14
+
+abbrev pub said : ℕ → Answer → ℕ → ℕ → ℕ → Stored → AnswerLine
+said t word factor wait left x = record { t = t; code = 0; answer = word; factor = factor; wait = wait; left = left; total = x .total; declined = x .declined }
+
+abbrev pub yesOrNo : Bool → Answer
+yesOrNo true = answer.Yes
+yesOrNo false = answer.No
+
+-- "`wait` (when to ask again, taken as the Rust's retry_after in ms), `left` (oldest bucket's count)"; x is what is stored after the call
+unfoldable pub decisionLine : ℕ → RateLimitDecision → Stored → AnswerLine
+decisionLine t decision.Allowed x = said t answer.Allowed 0 0 0 x
+decisionLine t (decision.Rejected window wait left) x = said t answer.Rejected 0 wait left x
+decisionLine t (decision.Suppressed factor admitted) x = said t (yesOrNo admitted) (toBits binary64 factor) 0 0 x
+decisionLine t (decision.Refused n) x = refusedLine t n
+
+-- "live for aget": the live total that it answers; an absolute room declines nothing
+unfoldable pub totalLine : ℕ → TotalAnswer → AnswerLine
+totalLine t (total.Total n) = said t answer.Value 0 0 0 (record { total = n; declined = 0 })
+totalLine t (total.Refused n) = refusedLine t n
+
+unfoldable pub snapshotLine : ℕ → SnapshotAnswer → Stored → AnswerLine
+snapshotLine t (snapshot.Snapshot y) x = said t answer.Value (toBits binary64 (y .«suppression_factor»)) 0 0 x
+snapshotLine t (snapshot.Refused n) x = refusedLine t n
+
+-- "`rate` is whole per minute": the arithmetic of `RateLimit::per_minute`
+unfoldable pub perMinute : ℕ → RateLimit
+perMinute rate = record { 0 = div binary64 (real rate) (real minute) }

@@ -1,0 +1,145 @@
+// A key's suppression factor: the cached one while it may be used, else a fresh one, which is then cached.
+ghost use mathlib.Core.Path.{_≡_};
+ghost use lib.Dec.{eqb};
+ghost use Rattle.settings.specs.Settings.{windowIn, factorIn, cacheIn};
+ghost use Rattle.rules.specs.Suppressed.{freshBy, blindBy};
+ghost use Rattle.factor_opened.specs.Opened.{left, staysAt, usableAt, keptAt, ruleAt, workedAt, askedAt};
+use common::WindowSize;
+use opened::Slot;
+use rules::Asked;
+use rules::Caching;
+use rules::FactorRule;
+use settings::Settings;
+use suppression::CachedFactor;
+
+// How many buckets are live.
+pub fn left(x: Slot) -> usize
+    ensures { λ r. ⌜ r ≡ left x ⌝ }
+{
+    let pass = x.pass;
+    let buckets = pass.buckets;
+    let expired = pass.expired;
+    if buckets < expired {
+        return 0;
+    }
+    buckets - expired
+}
+
+// Whether the slot's cached factor outlives eviction.
+pub fn stays(x: Slot) -> bool
+    ensures { λ r. ⌜ r ≡ staysAt x ⌝ }
+{
+    let cached = x.cached;
+    let pass = x.pass;
+    let expired = pass.expired;
+    if !cached {
+        return false;
+    }
+    expired == 0
+}
+
+// The cached factor that the slot's words hold.
+fn kept(x: Slot) -> CachedFactor
+    ensures { λ r. ⌜ r ≡ keptAt x ⌝ }
+{
+    CachedFactor {
+        suppression_factor: common::double_of(x.factor),
+        time: x.factor_time,
+    }
+}
+
+// Whether the slot's cached factor is used: it stays, and its age is below the cache period.
+fn is_usable(settings: Settings, x: Slot, reading: u64) -> bool
+    ensures { λ r. ⌜ r ≡ usableAt (cacheIn settings) reading x ⌝ }
+{
+    let period = settings.suppression_factor_cache_period;
+    let most = period.0;
+    if !stays(x) {
+        return false;
+    }
+    ring::less(reading, x.factor_time) < most
+}
+
+// The rule of the fresh factor, by its clauses in order.
+fn rule_of(x: Slot, soft: u64, hard: u64) -> FactorRule
+    ensures { λ r. ⌜ r ≡ ruleAt soft hard x ⌝ }
+{
+    let series = x.series;
+    let pass = x.pass;
+    let total = pass.live_total;
+    if !series {
+        return FactorRule::Nil;
+    }
+    if left(x) == 0 {
+        return FactorRule::Nil;
+    }
+    if hard <= total {
+        return FactorRule::One;
+    }
+    let accepted = ring::less(total, pass.live_declined);
+    if accepted < soft {
+        return FactorRule::Nil;
+    }
+    if accepted != soft {
+        return FactorRule::Worked;
+    }
+    if soft == hard {
+        return FactorRule::One;
+    }
+    FactorRule::Worked
+}
+
+fn fresh_by(by: FactorRule, soft: u64, total: u64, window: WindowSize, last_second: u64) -> f64
+    ensures { λ r. ⌜ r ≡ freshBy by soft total (window .0) «last_second» ⌝ }
+{
+    match by {
+        FactorRule::Nil => 0.0,
+        FactorRule::One => 1.0,
+        FactorRule::Worked => suppression::fresh_factor(soft, total, window, last_second),
+    }
+}
+
+// Whether the rule works a factor out where nothing is perceived.
+fn blind_by(by: FactorRule, nothing: bool) -> bool
+    ensures { λ r. ⌜ r ≡ blindBy by nothing ⌝ }
+{
+    match by {
+        FactorRule::Nil => false,
+        FactorRule::One => false,
+        FactorRule::Worked => nothing,
+    }
+}
+
+// The fresh factor of a slot at a limit, and that it is cached. The perceived rate is zero exactly where nothing was counted.
+fn work_out(settings: Settings, x: Slot, limit: u64, reading: u64) -> Asked
+    ensures { λ r. ⌜ r ≡ workedAt (factorIn settings) (windowIn settings) reading x limit (eqb (x .pass .«live_total») 0) ⌝ }
+{
+    let pass = x.pass;
+    let total = pass.live_total;
+    let soft = common::soft_limit(limit, settings.hard_limit_factor);
+    let by = rule_of(x, soft, common::cut_limit(limit));
+    let factor = fresh_by(by, soft, total, settings.window_size, pass.last_second);
+    Asked {
+        blind: blind_by(by, total == 0),
+        factor,
+        caching: Caching::Cached(CachedFactor {
+            suppression_factor: factor,
+            time: reading,
+        }),
+    }
+}
+
+// The factor of a slot at a limit: the cached one while it may be used, else a fresh one.
+pub fn ask(settings: Settings, x: Slot, limit: u64, reading: u64) -> Asked
+    ensures { λ r. ⌜ r ≡ askedAt settings reading x limit (eqb (x .pass .«live_total») 0) ⌝ }
+{
+    if is_usable(settings, x, reading) {
+        let cached = kept(x);
+        return Asked {
+            blind: false,
+            factor: cached.suppression_factor,
+            caching: Caching::Left,
+        };
+    }
+    work_out(settings, x, limit, reading)
+}

@@ -1,0 +1,5 @@
+pub mod Bytes
+pub mod Numbers
+pub mod Ranges
+pub mod Parts
+pub mod Turns

@@ -1,0 +1,113 @@
+// An increment's decision, by where its forecast stands to the soft and the hard limit.
+ghost use mathlib.Core.Path.{_≡_};
+ghost use Prim.Native.Nat.{_+_, _≤_};
+ghost use lib.Dec.{eqb};
+ghost use Rattle.layout.specs.Layout.{mostTotal};
+ghost use Rattle.rules.specs.Suppressed.{reachOf, fullAt, drawn, declinedBy};
+ghost use Rattle.forecast_opened.specs.Forecast.{forecastAt, outcomeAt};
+use answers::RateLimitDecision;
+use factor_opened::ask;
+use opened::Slot;
+use rules::Asked;
+use rules::Caching;
+use rules::Outcome;
+use rules::Reach;
+use settings::Settings;
+use suppression::CachedFactor;
+
+// What is admitted once the count is.
+pub fn forecast(x: Slot, count: u64) -> u64
+    requires { ⌜ x .pass .«live_total» + count ≤ mostTotal ⌝ }
+    ensures { λ r. ⌜ r ≡ forecastAt x count ⌝ }
+{
+    let pass = x.pass;
+    ring::less(pass.live_total, pass.live_declined) + count
+}
+
+fn reach_of(forecast: u64, soft: u64, hard: u64) -> Reach
+    ensures { λ r. ⌜ r ≡ reachOf forecast soft hard ⌝ }
+{
+    if forecast == hard {
+        return Reach::Hard;
+    }
+    if forecast <= soft {
+        return Reach::Soft;
+    }
+    if hard < forecast {
+        return Reach::Over;
+    }
+    Reach::Between
+}
+
+// Factor 1 is cached.
+fn full_at(reading: u64) -> Caching
+    ensures { λ r. ⌜ r ≡ fullAt reading ⌝ }
+{
+    Caching::Cached(CachedFactor {
+        suppression_factor: 1.0,
+        time: reading,
+    })
+}
+
+fn declined_by(is_allowed: bool, count: u64) -> u64
+    ensures { λ r. ⌜ r ≡ declinedBy «is_allowed» count ⌝ }
+{
+    if is_allowed { 0 } else { count }
+}
+
+// The factor is held against the draw.
+fn draw_by(a: Asked, count: u64, draw: u64) -> Outcome
+    ensures { λ r. ⌜ r ≡ drawn a count draw ⌝ }
+{
+    let factor = a.factor;
+    let caching = a.caching;
+    let is_allowed = suppression::admits(factor, draw);
+    Outcome {
+        blind: a.blind,
+        decision: RateLimitDecision::Suppressed {
+            suppression_factor: factor,
+            is_allowed,
+        },
+        declined: declined_by(is_allowed, count),
+        caching,
+    }
+}
+
+// The decision of a count whose forecast and limit are given.
+pub fn decide(
+    settings: Settings,
+    x: Slot,
+    limit: u64,
+    forecast: u64,
+    reading: u64,
+    count: u64,
+    draw: u64,
+) -> Outcome
+    ensures { λ r. ⌜ r ≡ outcomeAt settings reading x limit (eqb (x .pass .«live_total») 0) forecast count draw ⌝ }
+{
+    let soft = common::soft_limit(limit, settings.hard_limit_factor);
+    match reach_of(forecast, soft, common::cut_limit(limit)) {
+        Reach::Hard => Outcome {
+            blind: false,
+            decision: RateLimitDecision::Allowed,
+            declined: 0,
+            caching: full_at(reading),
+        },
+        Reach::Soft => Outcome {
+            blind: false,
+            decision: RateLimitDecision::Allowed,
+            declined: 0,
+            caching: Caching::Left,
+        },
+        Reach::Over => Outcome {
+            blind: false,
+            decision: RateLimitDecision::Suppressed {
+                suppression_factor: 1.0,
+                is_allowed: false,
+            },
+            declined: count,
+            caching: full_at(reading),
+        },
+        Reach::Between => draw_by(ask(settings, x, limit, reading), count, draw),
+    }
+}

@@ -1,0 +1,93 @@
+// A key in words: its length, and four words of eight bytes.
+ghost use mathlib.Core.Path.{_≡_};
+ghost use Prim.Native.Nat.{_+_, _*_, _^_, _<_, _≤_};
+ghost use lib.ListN.{getD};
+ghost use Rattle.keys.specs.Keys.{pack, keyOf, sameKey, unusedZero};
+
+// A key as the directory has it: its length, and its bytes in four words, the first one lowest.
+pub struct Key {
+    pub len: u64,
+    pub a: u64,
+    pub b: u64,
+    pub c: u64,
+    pub d: u64,
+}
+
+// Byte `i` of a key, or 0 past its end.
+fn byte(key: &[u8], i: usize) -> u64
+    ensures { λ x. ⌜ (x ≡ getD (now (key .entry)) i 0) × (x < 256) ⌝ }
+{
+    if i < key.len() { key[i] as u64 } else { 0 }
+}
+
+fn packed(key: &[u8], i: usize) -> u64
+    requires { ⌜ i ≤ 24 ⌝ }
+    ensures { λ x. ⌜ x ≡ pack (now (key .entry)) i ⌝ }
+{
+    byte(key, i)
+        + 256 * byte(key, i + 1)
+        + 65536 * byte(key, i + 2)
+        + 16777216 * byte(key, i + 3)
+        + 4294967296 * byte(key, i + 4)
+        + 1099511627776 * byte(key, i + 5)
+        + 281474976710656 * byte(key, i + 6)
+        + 72057594037927936 * byte(key, i + 7)
+}
+
+pub fn key_of(key: &[u8]) -> Key
+    ensures { λ x. ⌜ x ≡ keyOf (now (key .entry)) ⌝ }
+{
+    Key {
+        len: key.len() as u64,
+        a: packed(key, 0),
+        b: packed(key, 8),
+        c: packed(key, 16),
+        d: packed(key, 24),
+    }
+}
+
+// 256 to the `n`.
+fn top(n: u64) -> u64
+    requires { ⌜ n < 8 ⌝ }
+    ensures { λ x. ⌜ x ≡ 256 ^ n ⌝ }
+{
+    let mut x = 1;
+    let mut k = 0;
+    while k < n {
+        x *= 256;
+        k += 1;
+    }
+    x
+}
+
+// Whether a word with a key's bytes from `i` on is 0 in the bytes that a key of `len` bytes does not have.
+pub fn is_unused_zero(len: u64, i: u64, word: u64) -> bool
+    ensures { λ x. ⌜ x ≡ unusedZero len i word ⌝ }
+{
+    if len <= i {
+        return word == 0;
+    }
+    let n = len - i;
+    if 8 <= n {
+        return true;
+    }
+    word < top(n)
+}
+
+pub fn same_key(k: Key, l: Key) -> bool
+    ensures { λ x. ⌜ x ≡ sameKey k l ⌝ }
+{
+    if k.len != l.len {
+        return false;
+    }
+    if k.a != l.a {
+        return false;
+    }
+    if k.b != l.b {
+        return false;
+    }
+    if k.c != l.c {
+        return false;
+    }
+    k.d == l.d
+}

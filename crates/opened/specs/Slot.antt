@@ -1,0 +1,60 @@
+-- A key's slot opened into a value, which calls decide on: what it holds, its words, and what the pass over its buckets finds at reading t.
+-- Assumes nothing.
+use mathlib.Core.Bool.{Bool, true, false, _||_}
+use mathlib.Core.List.{List}
+use Prim.Native.Nat.{ℕ}
+use lib.Dec.{ltb}
+use Rattle.rules.specs.Buckets.{windowTicks}
+use Rattle.sweep.specs.Sweep.{passOf, unsound}
+use Rattle.sweep.specs.declared.tally.Pass.{Pass}
+use Rattle.ring.specs.Ring.{totalOf, declinedOf}
+use Rattle.room.specs.Room.{slotsOf, ringOf, lastOf, useOf, bodyOf}
+use Rattle.opened.specs.declared.Slot.{Slot}
+use Rattle.opened.specs.Sound.{limitOf, factorOf, factorTimeOf, hasSeries, hasCached}
+
+-- no slot at all
+abbrev pub noSlot : ℕ → Slot
+noSlot n = record {
+  at = n;
+  used = 0;
+  series = false;
+  cached = false;
+  limit = 0;
+  total = 0;
+  declined = 0;
+  factor = 0;
+  «factor_time» = 0;
+  pass = unsound;
+}
+
+abbrev pub pickPass : Bool → Pass → Pass
+pickPass true p = p
+pickPass false p = unsound
+
+-- a body b of use u
+unfoldable pub opened : ℕ → ℕ → ℕ → ℕ → ℕ → ℕ → List ℕ → Slot
+opened W r last t at u b = record {
+  at = at;
+  used = u;
+  series = hasSeries u;
+  cached = hasCached u;
+  limit = limitOf b;
+  total = totalOf b;
+  declined = declinedOf b;
+  factor = factorOf b;
+  «factor_time» = factorTimeOf b;
+  pass = pickPass (hasSeries u) (passOf r b last t (windowTicks W));
+}
+
+abbrev pub pickSlot : Bool → Slot → Slot → Slot
+pickSlot true x y = x
+pickSlot false x y = y
+
+-- the slot at, where there is one; W is the window in seconds
+unfoldable pub slotOf : ℕ → List ℕ → ℕ → ℕ → Slot
+slotOf W w t at =
+    pickSlot (ltb at (slotsOf w)) (opened W (ringOf w) (lastOf w) t at (useOf w at) (bodyOf w at)) (noSlot (slotsOf w))
+
+-- "A suppressed slot stays in use while it has a series or a cached factor"
+abbrev pub hasSlot : Slot → Bool
+hasSlot x = x .series || x .cached

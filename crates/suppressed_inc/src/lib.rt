@@ -1,0 +1,62 @@
+// The suppressed limiter's increment. Everything that is refused is settled before the first word is written.
+ghost use mathlib.Core.Path.{_≡_};
+ghost use Rattle.judge.specs.Verdict.{Told};
+ghost use Rattle.rules.specs.declared.RoomKind.the-variants.{Suppressed};
+ghost use Rattle.suppressed_verdicts.specs.Calls.{inc};
+ghost use Rattle.suppressed_verdicts.specs.Opened.{limitAt};
+use answers::RateLimitDecision;
+use common::RateLimit;
+use opened::Slot;
+use rules::RoomKind;
+use settings::Settings;
+
+// A series' own limit, or that of the rate.
+fn limit_for(settings: Settings, x: Slot, rate: RateLimit) -> u64
+    ensures { λ r. ⌜ r ≡ limitAt settings x rate ⌝ }
+{
+    let series = x.series;
+    if series {
+        return x.limit;
+    }
+    common::hard_limit(rate, settings.hard_limit_factor, settings.window_size)
+}
+
+// Counts, and decides by the forecast and the draw.
+pub fn inc(
+    settings: Settings,
+    room: &mut [u64],
+    reading: u64,
+    key: &[u8],
+    rate: RateLimit,
+    count: u64,
+    draw: u64,
+) -> RateLimitDecision
+    ensures { λ r. ⌜ Told (inc settings (now (room .entry)) reading (now (key .entry)) rate count draw) r (now (room .exit)) ⌝ }
+{
+    let judged = judge::judge(RoomKind::Suppressed, settings, room, reading, key);
+    let code = judged.code;
+    let x = judged.slot;
+    if code != 0 {
+        return RateLimitDecision::Refused(code);
+    }
+    let at = plan::place(room, x);
+    let lacks = plan::lacks_slot(room, at, x);
+    let ring = suppressed_refusals::ring_of(room);
+    let late = suppressed_refusals::inc_late(settings, x, lacks, ring, reading, rate, count, draw);
+    if late != 0 {
+        return RateLimitDecision::Refused(late);
+    }
+    let limit = limit_for(settings, x, rate);
+    let forecast = forecast_opened::forecast(x, count);
+    let outcome = forecast_opened::decide(settings, x, limit, forecast, reading, count, draw);
+    let blind = outcome.blind;
+    let decision = outcome.decision;
+    let caching = outcome.caching;
+    let size = settings.bucket_size;
+    if blind {
+        return RateLimitDecision::Refused(13);
+    }
+    let change = suppressed_edits::inc_change(x, limit, count, outcome.declined, caching);
+    change::apply(room, at, key, size.0, reading, change);
+    decision
+}

@@ -1,0 +1,94 @@
+// What the suppressed limiter says of a key without counting: its live totals with its factor, and the factor alone, which takes a slot.
+ghost use mathlib.Core.Path.{_≡_};
+ghost use Rattle.judge.specs.Verdict.{Told};
+ghost use Rattle.rules.specs.declared.RoomKind.the-variants.{Suppressed};
+ghost use Rattle.suppressed_verdicts.specs.Calls.{get, getFactor};
+ghost use Rattle.suppressed_verdicts.specs.Opened.{snapshotAt};
+use answers::FactorAnswer;
+use answers::SnapshotAnswer;
+use answers::SuppressedRateLimitSnapshot;
+use opened::Slot;
+use rules::RoomKind;
+use settings::Settings;
+
+// Live total, live declined and the factor; zeros for an unknown key.
+fn snapshot_of(x: Slot, factor: f64) -> SuppressedRateLimitSnapshot
+    ensures { λ r. ⌜ r ≡ snapshotAt x factor ⌝ }
+{
+    let series = x.series;
+    let pass = x.pass;
+    if !series {
+        return SuppressedRateLimitSnapshot::default();
+    }
+    SuppressedRateLimitSnapshot {
+        total: pass.live_total,
+        total_declined: pass.live_declined,
+        suppression_factor: factor,
+    }
+}
+
+// A key's live totals and its factor.
+pub fn get(settings: Settings, room: &mut [u64], reading: u64, key: &[u8]) -> SnapshotAnswer
+    ensures { λ r. ⌜ Told (get settings (now (room .entry)) reading (now (key .entry))) r (now (room .exit)) ⌝ }
+{
+    let judged = judge::judge(RoomKind::Suppressed, settings, room, reading, key);
+    let code = judged.code;
+    let x = judged.slot;
+    if code != 0 {
+        return SnapshotAnswer::Refused(code);
+    }
+    let asked = factor_opened::ask(settings, x, x.limit, reading);
+    let blind = asked.blind;
+    let caching = asked.caching;
+    let size = settings.bucket_size;
+    if blind {
+        return SnapshotAnswer::Refused(13);
+    }
+    let snapshot = snapshot_of(x, asked.factor);
+    change::apply(
+        room,
+        x.at,
+        key,
+        size.0,
+        reading,
+        suppressed_edits::get_change(x, caching),
+    );
+    SnapshotAnswer::Snapshot(snapshot)
+}
+
+// A key's factor, which is cached.
+pub fn get_suppression_factor(
+    settings: Settings,
+    room: &mut [u64],
+    reading: u64,
+    key: &[u8],
+) -> FactorAnswer
+    ensures { λ r. ⌜ Told (getFactor settings (now (room .entry)) reading (now (key .entry))) r (now (room .exit)) ⌝ }
+{
+    let judged = judge::judge(RoomKind::Suppressed, settings, room, reading, key);
+    let code = judged.code;
+    let x = judged.slot;
+    if code != 0 {
+        return FactorAnswer::Refused(code);
+    }
+    let at = plan::place(room, x);
+    if plan::lacks_slot(room, at, x) {
+        return FactorAnswer::Refused(11);
+    }
+    let asked = factor_opened::ask(settings, x, x.limit, reading);
+    let blind = asked.blind;
+    let caching = asked.caching;
+    let size = settings.bucket_size;
+    if blind {
+        return FactorAnswer::Refused(13);
+    }
+    change::apply(
+        room,
+        at,
+        key,
+        size.0,
+        reading,
+        suppressed_edits::factor_change(x, caching, reading),
+    );
+    FactorAnswer::Factor(asked.factor)
+}

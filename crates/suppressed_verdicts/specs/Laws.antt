@@ -1,0 +1,339 @@
+-- What the code of the calls has found, turned into what the calls are to answer; and that their changes can be carried out.
+-- Assumes nothing.
+use mathlib.Core.Path.{_≡_, refl, sym, ap, ap₂, subst, _∙_}
+use mathlib.Core.Bool.{Bool, true, false, not, _&&_, _||_, cond, false≢true}
+use mathlib.Core.List.{List, [], _∷_, _++_}
+use Prim.Native.Nat.{ℕ, _+_, _≤_, _<_}
+use native.Mathlib.Omega.{arith}
+use lib.Dec.{leb, ltb, eqb}
+use lib.ListN.{length, drop}
+use borrow.Author.Tests.{ltb-false, leb-false}
+use Rattle.common.specs.Refusals.{first, Positive, AllFalse, first-found, first-none, all-false}
+use Rattle.settings.specs.Settings.{bucketIn}
+use Rattle.answers.specs.declared.FactorAnswer.the-variants as factor
+use Rattle.answers.specs.declared.RateLimitDecision.the-variants as decision
+use Rattle.answers.specs.declared.SnapshotAnswer.the-variants as snapshot
+use Rattle.answers.specs.declared.SuppressedRateLimitSnapshot.{SuppressedRateLimitSnapshot}
+use Rattle.settings.specs.declared.Settings.{Settings}
+use Rattle.common.specs.declared.units.RateLimit.{RateLimit}
+use Rattle.rules.specs.Buckets.{joins}
+use Rattle.layout.specs.Layout.{mostTotal}
+use Rattle.ring.specs.Ring.{countOf, buckets}
+use Rattle.ring.specs.Sums.{sum-none}
+use Rattle.ring.specs.View.{view-length}
+use Rattle.room.specs.Room.{Room, slotsOf, ringOf, bodyOf}
+use Rattle.judge.specs.declared.Judged.{Judged}
+use Rattle.rules.specs.declared.RoomKind.the-variants as kind
+use Rattle.opened.specs.declared.Slot.{Slot}
+use Rattle.judge.specs.Judge.{early, judged, Passed, slotIn}
+use Rattle.opened.specs.Slot.{hasSlot}
+use Rattle.judge.specs.Laws.{code-is, slot-is, passed}
+use Rattle.judge.specs.Verdict.{Told, call-early, call-own, call-done}
+use Rattle.change.specs.declared.Change.{Change}
+use Rattle.change.specs.declared.Change.the-variants.{Keep, Update, Take}
+use Rattle.edit.specs.declared.Edit.{Edit}
+use Rattle.edit.specs.declared.Then.the-variants.{Nothing, Increment}
+use Rattle.change.specs.Words.{EditsAt, Applies, applied}
+use Rattle.edit.specs.Bodies.{Fits}
+use Rattle.plan.specs.Known.{Known, evicting-edits, opening-edits}
+use Rattle.plan.specs.Plan.{placeOf, lacksAt, fullAfter, evicting, opening}
+use Rattle.plan.specs.Seen.{full-after}
+use Rattle.rules.specs.Both.{passes, ringFull}
+use Rattle.rules.specs.declared.Asked.{Asked}
+use Rattle.rules.specs.declared.Caching.{Caching}
+use Rattle.rules.specs.declared.Caching.the-variants.{Left, Cached}
+use Rattle.rules.specs.declared.Outcome.{Outcome}
+use Rattle.factor_opened.specs.Opened.{askedAt}
+use Rattle.forecast_opened.specs.Forecast.{forecastAt, outcomeAt, outcome-declined}
+use Rattle.suppressed_edits.specs.Edits.{factorAfter, timeAfter, useAfter, recached, getChange, loneBy, loneChange, factorChange, incEdit, incChange}
+use Rattle.suppressed_refusals.specs.Refusals.{incLate}
+use Rattle.suppressed_verdicts.specs.Calls as Calls
+use Rattle.suppressed_verdicts.specs.Opened.{unperceived, askingAt, snapshotAt, getOwn, getDoes, getOn, get, factorOwn, factorDoes, factorOn, getFactor}
+use Rattle.suppressed_verdicts.specs.Opened.{limitAt, incOwn, incDoes, incOn, incOutcome, inc}
+use Rattle.suppressed_verdicts.specs.Seen.{get-opened, factor-opened, inc-opened}
+use Rattle.suppressed_verdicts.specs.Standing.{known, unperceived-is, place-inside}
+
+-- ---- lists of one more refusal
+
+one-more : (z : Bool) → z ≡ true → 13 ≡ first ((13, z) ∷ [])
+unfolding first
+one-more z e = sym (rw e)
+
+no-more : (z : Bool) → z ≡ false → first ((13, z) ∷ []) ≡ 0
+unfolding first
+no-more z e = rw e
+
+module _ (xs : List (ℕ × Bool)) (p : Positive xs) (z : Bool) where
+  found-late : (n : ℕ) → n ≡ first xs → (n ≡ 0 → ⊥) → n ≡ first (xs ++ ((13, z) ∷ []))
+  found-late n e h = e ∙ sym (first-found xs ((13, z) ∷ []) (λ f. h (e ∙ f)))
+
+  found-blind : first xs ≡ 0 → z ≡ true → 13 ≡ first (xs ++ ((13, z) ∷ []))
+  found-blind e h = one-more z h ∙ sym (first-none xs ((13, z) ∷ []) p e)
+
+  found-none : first xs ≡ 0 → z ≡ false → first (xs ++ ((13, z) ∷ [])) ≡ 0
+  found-none e h = first-none xs ((13, z) ∷ []) p e ∙ no-more z h
+
+-- ---- edits that can be carried out
+
+-- of a series without its expired buckets
+module _ (s : Settings) (w : List ℕ) (t at : ℕ) (x : Slot) (o : Room w) (h : Known kind.Suppressed s w t at x) where
+  pub get-edits : (k : Caching) → EditsAt w at (bucketIn s) t (recached x k (evicting x Nothing))
+  unfolding recached
+  get-edits k = evicting-edits kind.Suppressed s w t at x o h (bucketIn s) (recached x k (evicting x Nothing)) refl refl refl refl tt
+
+  -- what stays fits: c of count, d of it declined
+  inc-fits : (c d : ℕ) → d ≤ c → passes c (x .pass .«live_total») ≡ false → fullAfter (ringOf w) (bucketIn s) t (x .pass .expired) x ≡ false →
+      Fits (ringOf w) (bucketIn s) t c d (drop (x .pass .expired) (buckets (ringOf w) (bodyOf w at)))
+  unfolding passes ringFull
+  inc-fits c d l n f =
+      let xs = buckets (ringOf w) (bodyOf w at) in
+      let k = x .pass .expired in
+      let m = h .measured in
+      let g : ringFull (ringOf w) (bucketIn s) t (drop k xs) ≡ false =
+      sym (full-after (ringOf w) (bucketIn s) t k x xs (m .buckets-are ∙ sym (view-length (ringOf w) (bodyOf w at))) (m .newest-is)) ∙ f in
+      record {
+        least = l;
+        total = omega (arith, ltb-false mostTotal (x .pass .«live_total» + c) n, m .total);
+        free = λ z. leb-false (ringOf w) (length (drop k xs)) (rw z at g);
+      }
+
+  inc-edits : (k : Caching) (limit c d : ℕ) → d ≤ c → passes c (x .pass .«live_total») ≡ false →
+      fullAfter (ringOf w) (bucketIn s) t (x .pass .expired) x ≡ false →
+      EditsAt w at (bucketIn s) t (recached x k (evicting x (Increment c d)))
+  unfolding recached
+  inc-edits k limit c d l n f = evicting-edits kind.Suppressed s w t at x o h (bucketIn s) (recached x k (evicting x (Increment c d))) refl refl refl refl
+      (inc-fits c d l n f)
+
+-- of a series that begins
+new-edits : (w : List ℕ) (at b t : ℕ) (o : Room w) (h : at < slotsOf w) (x : Slot) (k : Caching) (limit c d f u v : ℕ) → d ≤ c → c ≤ mostTotal →
+    EditsAt w at b t (recached x k (opening limit (Increment c d) f u v))
+unfolding recached
+new-edits w at b t o h x k limit c d f u v l n =
+    opening-edits w at o h b t limit (factorAfter k f) (timeAfter k u) (useAfter k x) (Increment c d)
+    (record { least = l; total = omega (arith, sum-none countOf); free = λ j. omega (arith, o .some) })
+
+-- ---- the calls, of a slot x that the code has found
+
+module _ (s : Settings) (w : List ℕ) (t : ℕ) (key : List ℕ) (e : early kind.Suppressed s w t key ≡ 0) (x : Slot) (p : x ≡ slotIn s w t key) where
+  passing : Passed kind.Suppressed s w t key
+  passing = passed kind.Suppressed s w t key e
+
+  pub place-used : hasSlot x ≡ true → placeOf w x ≡ x .at
+  unfolding placeOf
+  place-used h = rw h
+
+  pub with-series : x .series ≡ true → hasSlot x ≡ true
+  with-series h = ap (λ (z : Bool). z || x .cached) h
+
+  known-place : x .series ≡ true → Known kind.Suppressed s w t (placeOf w x) x
+  known-place h = subst (λ (n : ℕ). Known kind.Suppressed s w t n x) (sym (place-used (with-series h))) (known s w t key passing x p h)
+
+  -- the factor that the code has worked out is the one that is asked for
+  asked-is : (a : Asked) → a ≡ askedAt s t x (x .limit) (eqb (x .pass .«live_total») 0) → a ≡ askingAt s t (slotIn s w t key)
+  asked-is a h =
+      h ∙ ap (askedAt s t x (x .limit)) (sym (unperceived-is s w t key passing x p)) ∙ ap (λ (y : Slot). askingAt s t y) p
+
+  -- ---- get
+  get-is : (a : Asked) → a ≡ askedAt s t x (x .limit) (eqb (x .pass .«live_total») 0) → get s w t key ≡ getOn s w t key x a
+  unfolding get
+  get-is a h = sym (ap₂ (λ (y : Slot) (b : Asked). getOn s w t key y b) p (asked-is a h))
+
+  pub get-blind : (a : Asked) → a ≡ askedAt s t x (x .limit) (eqb (x .pass .«live_total») 0) → a .blind ≡ true →
+      Told (Calls.get s w t key) (snapshot.Refused 13) w
+  unfolding getOn
+  get-blind a h b =
+      rw (← get-opened s w t key, get-is a h)
+      (call-own snapshot.Refused kind.Suppressed s w t key (getOwn a) (getDoes s w t key x a) 13 e (one-more (a .blind) b) (λ z. omega arith))
+
+  -- y are the words after, u the snapshot
+  pub get-done : (a : Asked) → a ≡ askedAt s t x (x .limit) (eqb (x .pass .«live_total») 0) → a .blind ≡ false →
+      (u : SuppressedRateLimitSnapshot) (ch : Change) (y : List ℕ) → u ≡ snapshotAt x (a .factor) → ch ≡ getChange x (a .caching) →
+      y ≡ applied w (x .at) key (bucketIn s) t ch → Told (Calls.get s w t key) (snapshot.Snapshot u) y
+  unfolding getOn
+  get-done a h b u ch y g k q =
+      rw (← get-opened s w t key, get-is a h)
+      (call-done snapshot.Refused kind.Suppressed s w t key (getOwn a) (getDoes s w t key x a) (snapshot.Snapshot u) y e (no-more (a .blind) b)
+      (record { answer = ap (λ (z : SuppressedRateLimitSnapshot). snapshot.Snapshot z) g; words = q ∙ ap (applied w (x .at) key (bucketIn s) t) k }))
+
+  get-by : (k : Caching) (z : Bool) → x .series ≡ z → Applies w (x .at) (bucketIn s) t (cond z (Update (recached x k (evicting x Nothing))) Keep)
+  get-by k true h = get-edits s w t (x .at) x (passing .room) (known s w t key passing x p h) k
+  get-by k false h = passing .room
+
+  get-carries : (k : Caching) → Applies w (x .at) (bucketIn s) t (getChange x k)
+  unfolding getChange
+  get-carries k = get-by k (x .series) refl
+
+  pub get-applies : (k : Caching) (ch : Change) → ch ≡ getChange x k → Applies w (x .at) (bucketIn s) t ch
+  get-applies k ch h = subst (λ (d : Change). Applies w (x .at) (bucketIn s) t d) (sym h) (get-carries k)
+
+  -- ---- get_suppression_factor
+  factor-is : (a : Asked) → a ≡ askedAt s t x (x .limit) (eqb (x .pass .«live_total») 0) → getFactor s w t key ≡ factorOn s w t key x a
+  unfolding getFactor
+  factor-is a h = sym (ap₂ (λ (y : Slot) (b : Asked). factorOn s w t key y b) p (asked-is a h))
+
+  -- at is the place that the code has found, full whether there is none
+  module _ (at : ℕ) (m : at ≡ placeOf w x) (full : Bool) (n : full ≡ lacksAt w at x) where
+    full-is : lacksAt w (placeOf w x) x ≡ full
+    full-is = sym (n ∙ ap (λ (i : ℕ). lacksAt w i x) m)
+
+    pub factor-full : full ≡ true → Told (Calls.getFactor s w t key) (factor.Refused 11) w
+    unfolding factorOn first
+    factor-full f =
+        let a : Asked = askedAt s t x (x .limit) (eqb (x .pass .«live_total») 0) in
+        rw (← factor-opened s w t key, factor-is a refl)
+        (call-own factor.Refused kind.Suppressed s w t key (factorOwn w x a) (factorDoes s w t key x a) 11 e (sym (rw (full-is, f))) (λ z. omega arith))
+
+    pub factor-blind : full ≡ false → (a : Asked) → a ≡ askedAt s t x (x .limit) (eqb (x .pass .«live_total») 0) → a .blind ≡ true →
+        Told (Calls.getFactor s w t key) (factor.Refused 13) w
+    unfolding factorOn first
+    factor-blind f a h b =
+        rw (← factor-opened s w t key, factor-is a h)
+        (call-own factor.Refused kind.Suppressed s w t key (factorOwn w x a) (factorDoes s w t key x a) 13 e (sym (rw (full-is, f, b))) (λ z. omega arith))
+
+    pub factor-done : full ≡ false → (a : Asked) → a ≡ askedAt s t x (x .limit) (eqb (x .pass .«live_total») 0) → a .blind ≡ false →
+        (ch : Change) (y : List ℕ) → ch ≡ factorChange x (a .caching) t → y ≡ applied w at key (bucketIn s) t ch →
+        Told (Calls.getFactor s w t key) (factor.Factor (a .factor)) y
+    unfolding factorOn first
+    factor-done f a h b ch y k q =
+        rw (← factor-opened s w t key, factor-is a h)
+        (call-done factor.Refused kind.Suppressed s w t key (factorOwn w x a) (factorDoes s w t key x a) (factor.Factor (a .factor)) y e (rw (full-is, f, b))
+        (record { answer = refl; words = q ∙ ap₂ (λ (i : ℕ) (d : Change). applied w i key (bucketIn s) t d) m k }))
+
+    inside : full ≡ false → placeOf w x < slotsOf w
+    inside f = place-inside s w t key passing x p (full-is ∙ f)
+
+    lone-by : full ≡ false → (z : Bool) → Applies w (placeOf w x) (bucketIn s) t (loneBy z t)
+    lone-by f true = opening-edits w (placeOf w x) (passing .room) (inside f) (bucketIn s) t 0 0 t 2 Nothing tt
+    lone-by f false = opening-edits w (placeOf w x) (passing .room) (inside f) (bucketIn s) t 0 0 t 2 Nothing tt
+
+    lone-applies : full ≡ false → (z : Bool) (k : Caching) → Applies w (placeOf w x) (bucketIn s) t (loneChange z k t)
+    lone-applies f z Left = passing .room
+    lone-applies f z (Cached k) = lone-by f z
+
+    factor-by : full ≡ false → (k : Caching) (z : Bool) → x .series ≡ z →
+        Applies w (placeOf w x) (bucketIn s) t (cond z (cond z (Update (recached x k (evicting x Nothing))) Keep) (loneChange (x .cached) k t))
+    factor-by f k true h = get-edits s w t (placeOf w x) x (passing .room) (known-place h) k
+    factor-by f k false h = lone-applies f (x .cached) k
+
+    factor-carries : full ≡ false → (k : Caching) → Applies w (placeOf w x) (bucketIn s) t (factorChange x k t)
+    unfolding factorChange getChange
+    factor-carries f k = factor-by f k (x .series) refl
+
+    pub factor-applies : full ≡ false → (k : Caching) (ch : Change) → ch ≡ factorChange x k t → Applies w at (bucketIn s) t ch
+    factor-applies f k ch h =
+        subst (λ (i : ℕ). Applies w i (bucketIn s) t ch) (sym m)
+        (subst (λ (d : Change). Applies w (placeOf w x) (bucketIn s) t d) (sym h) (factor-carries f k))
+
+    -- ---- inc
+    module _ (rate : RateLimit) (c draw r late : ℕ) (i : r ≡ ringOf w) (l : late ≡ first (incLate s x full r t rate c draw)) where
+      late-positive : Positive (incLate s x (lacksAt w (placeOf w x) x) (ringOf w) t rate c draw)
+      late-positive = omega arith
+
+      late-is : late ≡ first (incLate s x (lacksAt w (placeOf w x) x) (ringOf w) t rate c draw)
+      late-is = l ∙ ap₂ (λ (b : Bool) (j : ℕ). first (incLate s x b j t rate c draw)) (sym full-is) i
+
+      inc-is : (o : Outcome) → o ≡ incOutcome s t rate c draw x (eqb (x .pass .«live_total») 0) → inc s w t key rate c draw ≡ incOn s w t key rate c draw x o
+      unfolding inc
+      inc-is o h =
+          sym (ap₂ (λ (y : Slot) (b : Outcome). incOn s w t key rate c draw y b) p
+          (h ∙ ap (incOutcome s t rate c draw x) (sym (unperceived-is s w t key passing x p)) ∙
+          ap (λ (y : Slot). incOutcome s t rate c draw y (unperceived s y)) p))
+
+      pub inc-late : (late ≡ 0 → ⊥) → Told (Calls.inc s w t key rate c draw) (decision.Refused late) w
+      unfolding incOn
+      inc-late z =
+          let o : Outcome = incOutcome s t rate c draw x (eqb (x .pass .«live_total») 0) in
+          rw (← inc-opened s w t key rate c draw, inc-is o refl)
+          (call-own decision.Refused kind.Suppressed s w t key (incOwn s w t rate c draw x o) (incDoes s w t key rate c x o) late e
+          (found-late (incLate s x (lacksAt w (placeOf w x) x) (ringOf w) t rate c draw) late-positive (o .blind) late late-is z) z)
+
+      module _ (f : late ≡ 0) where
+        none-late : AllFalse (incLate s x (lacksAt w (placeOf w x) x) (ringOf w) t rate c draw)
+        none-late = all-false (incLate s x (lacksAt w (placeOf w x) x) (ringOf w) t rate c draw) late-positive (sym late-is ∙ f)
+
+        pub inc-total : x .pass .«live_total» + c ≤ mostTotal
+        unfolding passes
+        inc-total = ltb-false mostTotal (x .pass .«live_total» + c) (none-late .1 .1 .0)
+
+        edit-by : (k : Caching) (limit d : ℕ) → d ≤ c → (z : Bool) → x .series ≡ z →
+            EditsAt w (placeOf w x) (bucketIn s) t
+            (recached x k (cond z (evicting x (Increment c d)) (opening limit (Increment c d) (x .factor) (x .«factor_time») (x .used))))
+        edit-by k limit d b true h =
+            inc-edits s w t (placeOf w x) x (passing .room) (known-place h) k limit c d b (none-late .1 .1 .0) (none-late .1 .1 .1 .1 .0)
+        edit-by k limit d b false h =
+            new-edits w (placeOf w x) (bucketIn s) t (passing .room) (place-inside s w t key passing x p (none-late .1 .1 .1 .0)) x k limit c d (x .factor)
+            (x .«factor_time») (x .used) b (omega (arith, inc-total))
+
+        either : (y : Edit) (z : Bool) → EditsAt w (placeOf w x) (bucketIn s) t y → Applies w (placeOf w x) (bucketIn s) t (cond z (Update y) (Take y))
+        either y true g = g
+        either y false g = g
+
+        inc-carries : (k : Caching) (limit d : ℕ) → d ≤ c → Applies w (placeOf w x) (bucketIn s) t (incChange x limit c d k)
+        unfolding incChange incEdit
+        inc-carries k limit d b = either (recached x k (incEdit x limit c d)) (hasSlot x) (edit-by k limit d b (x .series) refl)
+
+        -- o is the outcome that the code has found, at the limit and the forecast that it has worked out
+        module _ (o : Outcome) (limit ahead : ℕ) (a : limit ≡ limitAt s x rate) (b : ahead ≡ forecastAt x c)
+            (h : o ≡ outcomeAt s t x limit (eqb (x .pass .«live_total») 0) ahead c draw) where
+          outcome-is : o ≡ incOutcome s t rate c draw x (eqb (x .pass .«live_total») 0)
+          outcome-is = h ∙ ap₂ (λ (y z : ℕ). outcomeAt s t x y (eqb (x .pass .«live_total») 0) z c draw) a b
+
+          declined-le : o .declined ≤ c
+          declined-le = subst (λ (y : Outcome). y .declined ≤ c) (sym h) (outcome-declined s t x limit (eqb (x .pass .«live_total») 0) ahead c draw)
+
+          pub inc-blind : o .blind ≡ true → Told (Calls.inc s w t key rate c draw) (decision.Refused 13) w
+          unfolding incOn
+          inc-blind z =
+              rw (← inc-opened s w t key rate c draw, inc-is o outcome-is)
+              (call-own decision.Refused kind.Suppressed s w t key (incOwn s w t rate c draw x o) (incDoes s w t key rate c x o) 13 e
+              (found-blind (incLate s x (lacksAt w (placeOf w x) x) (ringOf w) t rate c draw) late-positive (o .blind) (sym late-is ∙ f) z) (λ j. omega arith))
+
+          pub inc-done : o .blind ≡ false → (ch : Change) (y : List ℕ) → ch ≡ incChange x limit c (o .declined) (o .caching) →
+              y ≡ applied w at key (bucketIn s) t ch → Told (Calls.inc s w t key rate c draw) (o .decision) y
+          unfolding incOn
+          inc-done z ch y k q =
+              rw (← inc-opened s w t key rate c draw, inc-is o outcome-is)
+              (call-done decision.Refused kind.Suppressed s w t key (incOwn s w t rate c draw x o) (incDoes s w t key rate c x o) (o .decision) y e
+              (found-none (incLate s x (lacksAt w (placeOf w x) x) (ringOf w) t rate c draw) late-positive (o .blind) (sym late-is ∙ f) z)
+              (record {
+                answer = refl;
+                words = q ∙ ap₂ (λ (j : ℕ) (d : Change). applied w j key (bucketIn s) t d) m
+                    (k ∙ ap (λ (j : ℕ). incChange x j c (o .declined) (o .caching)) a);
+              }))
+
+          pub inc-applies : (ch : Change) → ch ≡ incChange x limit c (o .declined) (o .caching) → Applies w at (bucketIn s) t ch
+          inc-applies ch k =
+              subst (λ (j : ℕ). Applies w j (bucketIn s) t ch) (sym m)
+              (subst (λ (d : Change). Applies w (placeOf w x) (bucketIn s) t d) (sym k) (inc-carries (o .caching) limit (o .declined) declined-le))
+
+          pub inc-edit : x .series ≡ true → EditsAt w (x .at) (bucketIn s) t (recached x (o .caching) (evicting x (Increment c (o .declined))))
+          inc-edit z =
+              inc-edits s w t (x .at) x (passing .room) (known s w t key passing x p z) (o .caching) limit c (o .declined) declined-le (none-late .1 .1 .0)
+              (none-late .1 .1 .1 .1 .0)
+
+-- ---- the calls, from what the judging function has found
+
+module _ (s : Settings) (w : List ℕ) (t : ℕ) (key : List ℕ) (j : Judged) (h : j ≡ judged kind.Suppressed s w t key) where
+  early-is : j .code ≡ early kind.Suppressed s w t key
+  early-is = ap (λ (y : Judged). y .code) h ∙ code-is kind.Suppressed s w t key
+
+  pub not-early : j .code ≡ 0 → early kind.Suppressed s w t key ≡ 0
+  not-early z = sym early-is ∙ z
+
+  pub slot-found : j .code ≡ 0 → j .slot ≡ slotIn s w t key
+  slot-found z = ap (λ (y : Judged). y .slot) h ∙ slot-is kind.Suppressed s w t key (not-early z)
+
+  pub room-found : j .code ≡ 0 → Room w
+  room-found z = passed kind.Suppressed s w t key (not-early z) .room
+
+  pub get-early : (j .code ≡ 0 → ⊥) → Told (Calls.get s w t key) (snapshot.Refused (j .code)) w
+  unfolding Calls.get
+  get-early z = call-early snapshot.Refused kind.Suppressed s w t key _ _ (j .code) early-is z
+
+  pub factor-early : (j .code ≡ 0 → ⊥) → Told (Calls.getFactor s w t key) (factor.Refused (j .code)) w
+  unfolding Calls.getFactor
+  factor-early z = call-early factor.Refused kind.Suppressed s w t key _ _ (j .code) early-is z
+
+  pub inc-early : (rate : RateLimit) (c draw : ℕ) → (j .code ≡ 0 → ⊥) → Told (Calls.inc s w t key rate c draw) (decision.Refused (j .code)) w
+  unfolding Calls.inc
+  inc-early rate c draw z = call-early decision.Refused kind.Suppressed s w t key _ _ (j .code) early-is z

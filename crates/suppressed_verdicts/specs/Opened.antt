@@ -1,0 +1,100 @@
+-- The suppressed limiter's own calls as the code carries them out, on the key's slot x as it is opened. They are the calls of `Calls.antt` (`get-opened`,
+-- `factor-opened`, `inc-opened` in `Seen.antt`), and no contract names them.
+-- Assumes nothing.
+use mathlib.Core.Bool.{Bool, cond}
+use mathlib.Core.List.{List, [], _∷_, _++_}
+use Prim.Native.Nat.{ℕ}
+use lib.Ieee.{Float}
+use Rattle.suppression.specs.Factor.{perceivesNothing}
+use Rattle.answers.specs.HistoryMode.{noSnapshot}
+use Rattle.common.specs.Limits.{hardWord}
+use Rattle.settings.specs.Settings.{windowIn, bucketIn, factorIn}
+use Rattle.answers.specs.declared.FactorAnswer.{FactorAnswer}
+use Rattle.answers.specs.declared.FactorAnswer.the-variants as factor
+use Rattle.answers.specs.declared.RateLimitDecision.{RateLimitDecision}
+use Rattle.answers.specs.declared.RateLimitDecision.the-variants as decision
+use Rattle.answers.specs.declared.SnapshotAnswer.{SnapshotAnswer}
+use Rattle.answers.specs.declared.SnapshotAnswer.the-variants as snapshot
+use Rattle.answers.specs.declared.SuppressedRateLimitSnapshot.{SuppressedRateLimitSnapshot}
+use Rattle.settings.specs.declared.Settings.{Settings}
+use Rattle.common.specs.declared.units.RateLimit.{RateLimit}
+use Rattle.room.specs.Room.{ringOf}
+use Rattle.rules.specs.declared.RoomKind.the-variants as kind
+use Rattle.opened.specs.declared.Slot.{Slot}
+use Rattle.judge.specs.Verdict.{Verdict, verdict, call}
+use Rattle.judge.specs.Judge.{slotIn}
+use Rattle.change.specs.Words.{applied}
+use Rattle.rules.specs.declared.Asked.{Asked}
+use Rattle.rules.specs.declared.Outcome.{Outcome}
+use Rattle.factor_opened.specs.Opened.{askedAt}
+use Rattle.forecast_opened.specs.Forecast.{forecastAt, outcomeAt}
+use Rattle.suppressed_edits.specs.Edits.{getChange, factorChange, incChange}
+use Rattle.plan.specs.Plan.{placeOf, lacksAt}
+use Rattle.suppressed_refusals.specs.Refusals.{incLate}
+
+-- whether the perceived rate is zero
+abbrev pub unperceived : Settings → Slot → Bool
+unperceived s x = perceivesNothing (x .pass .«live_total») (windowIn s) (x .pass .«last_second»)
+
+-- the factor of the slot as it stands
+abbrev pub askingAt : Settings → ℕ → Slot → Asked
+askingAt s t x = askedAt s t x (x .limit) (unperceived s x)
+
+-- ---- get
+
+-- live total, live declined and the factor; zeros for an unknown key
+abbrev pub snapshotAt : Slot → Float → SuppressedRateLimitSnapshot
+snapshotAt x f =
+    cond (x .series) (record { total = x .pass .«live_total»; «total_declined» = x .pass .«live_declined»; «suppression_factor» = f }) noSnapshot
+
+-- 13: "a factor is worked out at perceived rate zero"
+abbrev pub getOwn : Asked → List (ℕ × Bool)
+getOwn a = (13, a .blind) ∷ []
+
+abbrev pub getDoes : Settings → List ℕ → ℕ → List ℕ → Slot → Asked → Verdict SnapshotAnswer
+getDoes s w t key x a = verdict (snapshot.Snapshot (snapshotAt x (a .factor))) (applied w (x .at) key (bucketIn s) t (getChange x (a .caching)))
+
+unfoldable pub getOn : Settings → List ℕ → ℕ → List ℕ → Slot → Asked → Verdict SnapshotAnswer
+getOn s w t key x a = call snapshot.Refused kind.Suppressed s w t key (getOwn a) (getDoes s w t key x a)
+
+unfoldable pub get : Settings → List ℕ → ℕ → List ℕ → Verdict SnapshotAnswer
+get s w t key = getOn s w t key (slotIn s w t key) (askingAt s t (slotIn s w t key))
+
+-- ---- get_suppression_factor
+
+-- 11: "a slot is needed and none is free"; 13
+abbrev pub factorOwn : List ℕ → Slot → Asked → List (ℕ × Bool)
+factorOwn w x a = (11, lacksAt w (placeOf w x) x) ∷ (13, a .blind) ∷ []
+
+abbrev pub factorDoes : Settings → List ℕ → ℕ → List ℕ → Slot → Asked → Verdict FactorAnswer
+factorDoes s w t key x a = verdict (factor.Factor (a .factor)) (applied w (placeOf w x) key (bucketIn s) t (factorChange x (a .caching) t))
+
+unfoldable pub factorOn : Settings → List ℕ → ℕ → List ℕ → Slot → Asked → Verdict FactorAnswer
+factorOn s w t key x a = call factor.Refused kind.Suppressed s w t key (factorOwn w x a) (factorDoes s w t key x a)
+
+unfoldable pub getFactor : Settings → List ℕ → ℕ → List ℕ → Verdict FactorAnswer
+getFactor s w t key = factorOn s w t key (slotIn s w t key) (askingAt s t (slotIn s w t key))
+
+-- ---- inc
+
+-- "Hard = rate * F * W": a series has its own
+unfoldable pub limitAt : Settings → Slot → RateLimit → ℕ
+limitAt s x rate = cond (x .series) (x .limit) (hardWord (rate .0) (factorIn s) (windowIn s))
+
+-- what an increment decides; z says whether the perceived rate is zero
+abbrev pub incOutcome : Settings → ℕ → RateLimit → ℕ → ℕ → Slot → Bool → Outcome
+incOutcome s t rate c draw x z = outcomeAt s t x (limitAt s x rate) z (forecastAt x c) c draw
+
+-- 8 to 12, then 13
+abbrev pub incOwn : Settings → List ℕ → ℕ → RateLimit → ℕ → ℕ → Slot → Outcome → List (ℕ × Bool)
+incOwn s w t rate c draw x o = incLate s x (lacksAt w (placeOf w x) x) (ringOf w) t rate c draw ++ ((13, o .blind) ∷ [])
+
+abbrev pub incDoes : Settings → List ℕ → ℕ → List ℕ → RateLimit → ℕ → Slot → Outcome → Verdict RateLimitDecision
+incDoes s w t key rate c x o =
+    verdict (o .decision) (applied w (placeOf w x) key (bucketIn s) t (incChange x (limitAt s x rate) c (o .declined) (o .caching)))
+
+unfoldable pub incOn : Settings → List ℕ → ℕ → List ℕ → RateLimit → ℕ → ℕ → Slot → Outcome → Verdict RateLimitDecision
+incOn s w t key rate c draw x o = call decision.Refused kind.Suppressed s w t key (incOwn s w t rate c draw x o) (incDoes s w t key rate c x o)
+
+unfoldable pub inc : Settings → List ℕ → ℕ → List ℕ → RateLimit → ℕ → ℕ → Verdict RateLimitDecision
+inc s w t key rate c draw = incOn s w t key rate c draw (slotIn s w t key) (incOutcome s t rate c draw (slotIn s w t key) (unperceived s (slotIn s w t key)))
