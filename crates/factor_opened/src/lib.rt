@@ -13,7 +13,7 @@ use settings::Settings;
 use suppression::CachedFactor;
 
 // How many buckets are live.
-pub fn left(x: Slot) -> usize
+fn left(x: Slot) -> usize
     ensures { λ r. ⌜ r ≡ left x ⌝ }
 {
     let pass = x.pass;

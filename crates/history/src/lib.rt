@@ -17,7 +17,7 @@ pub fn raise(b: &mut [u64], r: usize, i: usize, count: u64, declined: u64)
 }
 
 // Whether an increment joins the newest bucket, by the bucket size.
-pub fn is_joined(b: &[u64], r: usize, size: u64, reading: u64) -> bool
+fn is_joined(b: &[u64], r: usize, size: u64, reading: u64) -> bool
     requires { ⌜ Shape r (now b) ⌝ }
     ensures { λ x. ⌜ x ≡ joins size reading (buckets r (now (b .entry))) ⌝ }
 {
