@@ -1,4 +1,4 @@
--- From what a limiter was told and the row that was handed over to the whole face; that a face leaves nothing open; a room's words are those that fit.
+-- From what a limiter was told and the row that was handed over to the whole face; a room's words are those that fit.
 -- Assumes nothing.
 use mathlib.Core.Path.{_≡_, refl, sym, ap, _∙_}
 use mathlib.Core.Bool.{Bool, true, false, cond}
@@ -12,10 +12,6 @@ use Rattle.judge.specs.Verdict.{Verdict, Told}
 use Rattle.rows.specs.Plain.{numberOf, Given}
 use Rattle.provider.specs.Provider as Provider
 use Rattle.abi.specs.Faces.{Face, Faced, shown, shownBoth, roomWords}
-
--- two results that a face allows are one
-pub faced-once : {W : Type 0} (f : Face W) (n n′ : ℕ) (a a′ : List ℕ) (w w′ : W) → Faced f n a w → Faced f n′ a′ w′ → (n ≡ n′) × (a ≡ a′) × (w ≡ w′)
-faced-once f n n′ a a′ w w′ x y = (x .number ∙ sym (y .number), x .answer ∙ sym (y .answer), x .left ∙ sym (y .left))
 
 -- a row that was handed over is the face's
 pub given-faced : {W : Type 0} (f : Face W) (row : List ℕ) (n : ℕ) (a : List ℕ) (w : W) → row ≡ f .row → Given row n a → w ≡ f .words → Faced f n a w

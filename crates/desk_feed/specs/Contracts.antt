@@ -1,4 +1,4 @@
--- What the functions on bytes leave, each as one record; `desk_laws` says that two results which meet it are equal.
+-- What the functions on bytes leave, each as one record; `promises` says that two results which meet it are equal.
 -- Assumes nothing.
 use mathlib.Core.Path.{_≡_}
 use mathlib.Core.Bool.{Bool, cond, _&&_}

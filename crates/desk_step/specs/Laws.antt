@@ -1,6 +1,6 @@
--- What the code of a step knows at each return, joined to the definitions; and two results that a step allows are one.
+-- What the code of a step knows at each return, joined to the definitions.
 -- Assumes nothing.
-use mathlib.Core.Path.{_≡_, sym, ap, _∙_}
+use mathlib.Core.Path.{_≡_, ap, _∙_}
 use mathlib.Core.List.{List}
 use Prim.Native.Nat.{ℕ, _-_, _≤_}
 use native.Mathlib.Omega.{arith}
@@ -13,12 +13,8 @@ use Rattle.lines.specs.declared.CallLine.{CallLine}
 use Rattle.lines.specs.declared.CallLine.the-variants as call
 use Rattle.lines.specs.declared.Op.{Op}
 use Rattle.desk_lines.specs.declared.Stored.{Stored}
-use Rattle.desk_step.specs.Desk.{Step, Answered, lined}
+use Rattle.desk_step.specs.Desk.{lined}
 use Rattle.desk_lines.specs.Lines.{storedOf}
-
--- two results that a step allows are one
-pub answered-once : (v : Step) (r r′ : AnswerLine) (a a′ b b′ : List ℕ) → Answered v r a b → Answered v r′ a′ b′ → (r ≡ r′) × (a ≡ a′) × (b ≡ b′)
-answered-once v r r′ a a′ b b′ p q = (p .answer ∙ sym (q .answer), p .absolute ∙ sym (q .absolute), p .suppressed ∙ sym (q .suppressed))
 
 -- ---- a call's line
 
