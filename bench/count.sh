@@ -8,7 +8,7 @@ executed() {
     valgrind --tool=callgrind --callgrind-out-file=/dev/null --toggle-collect="*Contestant*run*" target/bench one "$1" "$2" "$3" "$4" 2>&1 | sed -n 's/.*Collected : //p'
 }
 for limiter in absolute suppressed; do
-    for live in 10 100 512; do
+    for live in 10 100 298 512; do
         line="$limiter ring $live"
         for name in twin archive trusting original; do
             once=$(executed $name $limiter $live "$calls")

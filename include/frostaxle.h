@@ -24,7 +24,8 @@
  *
  * which FROSTAXLE_ROOM_WORDS and frostaxle_room_words() work out. frostaxle_make() makes an empty room of it. The words
  * are plain numbers without pointers: you may copy a room, write it to a file, map it from one, or keep it in shared
- * memory. Words that are damaged are found by the call that meets them (refusal 5).
+ * memory. Words that are damaged are found by the call that meets them (refusal 5). A stored room belongs to the library
+ * that wrote it: where docs/CHANGES.md says that words moved, make a new one, since an old one may be read as something else.
  *
  * You own all memory. Nothing is kept after a call returns: no pointer that you pass is remembered.
  *

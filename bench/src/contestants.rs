@@ -12,6 +12,11 @@ pub trait Contestant {
     /// Every key goes.
     fn clear(&mut self, limiter: Limiter, load: &Load, reading: u64);
 
+    /// Whether it decides as the others do, so that its answers must be theirs.
+    fn decides(&self) -> bool {
+        true
+    }
+
     /// The increments one after another; gives the answers, folded.
     fn run(&mut self, limiter: Limiter, load: &Load, increments: &[Increment]) -> u64;
 
@@ -348,6 +353,46 @@ impl Contestant for Original {
     }
 }
 
+/// What the memory allows: of each increment, a bare read of all words of the addressed slot's body.
+pub struct Bare {
+    bodies: Vec<u64>,
+    size: usize,
+}
+
+impl Bare {
+    pub fn new(load: &Load) -> Self {
+        let size = 7 + 3 * load.shape.ring;
+        // Written words, since words that were never written may all share one page.
+        Bare { bodies: (1..).take(load.keys.len() * size).collect(), size }
+    }
+}
+
+impl Contestant for Bare {
+    fn name(&self) -> &'static str {
+        "bare"
+    }
+
+    fn clear(&mut self, _limiter: Limiter, _load: &Load, _reading: u64) {}
+
+    fn decides(&self) -> bool {
+        false
+    }
+
+    fn run(&mut self, _limiter: Limiter, _load: &Load, increments: &[Increment]) -> u64 {
+        let mut answers = 0;
+        for increment in increments {
+            let body = &self.bodies[increment.key as usize * self.size..][..self.size];
+            let sum = body.iter().fold(0, |sum: u64, word| sum.wrapping_add(*word));
+            answers = folded(answers, sum);
+        }
+        answers
+    }
+
+    fn room(&self, _limiter: Limiter) -> Option<&[u64]> {
+        None
+    }
+}
+
 /// All that are built in, the twin first.
 pub fn all(load: &Load) -> Vec<Box<dyn Contestant>> {
     vec![
@@ -356,5 +401,6 @@ pub fn all(load: &Load) -> Vec<Box<dyn Contestant>> {
         Box::new(archive::Archive::new(load)),
         Box::new(Trusting::new(load)),
         Box::new(Original::new(load)),
+        Box::new(Bare::new(load)),
     ]
 }

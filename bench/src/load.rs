@@ -18,24 +18,38 @@ impl Limiter {
     }
 }
 
-/// The default bucket, and the one for rings that the default one cannot fill in a window of 10 s.
-pub const DEFAULT_BUCKET: u64 = 100;
-pub const SMALL_BUCKET: u64 = 10;
+/// The default window, in seconds, and a longer one.
+const DEFAULT_WINDOW: u64 = 10;
+const LONG_WINDOW: u64 = 30;
 
-/// How many keys, how many live buckets each is to have, the ring and the bucket size; the rest of the settings are the defaults.
+/// The default bucket, in milliseconds, and a smaller one.
+const DEFAULT_BUCKET: u64 = 100;
+const SMALL_BUCKET: u64 = 10;
+
+/// The most default buckets that the default window holds, and the longer one: they are 101 ms apart.
+const MOST_BUCKETS: u64 = 100;
+const MOST_BUCKETS_OF_LONG: u64 = 298;
+
+/// How many keys, how many live buckets each is to have, the ring, the window and the bucket size; the rest of the settings are the
+/// defaults.
 #[derive(Clone, Copy, Debug)]
 pub struct Shape {
     pub keys: usize,
     pub live: u64,
     pub ring: usize,
+    pub window: u64,
     pub bucket: u64,
 }
 
 impl Shape {
-    /// Full rings: the bucket is the default one where as many of them fit into the window.
+    /// Full rings: of default buckets where they just fill a window, else of small ones in the default window.
     pub fn full(keys: usize, live: u64) -> Self {
-        let bucket = if live <= 100 { DEFAULT_BUCKET } else { SMALL_BUCKET };
-        Shape { keys, live, ring: live as usize, bucket }
+        let (window, bucket) = match live {
+            ..=MOST_BUCKETS => (DEFAULT_WINDOW, DEFAULT_BUCKET),
+            MOST_BUCKETS_OF_LONG => (LONG_WINDOW, DEFAULT_BUCKET),
+            _ => (DEFAULT_WINDOW, SMALL_BUCKET),
+        };
+        Shape { keys, live, ring: live as usize, window, bucket }
     }
 }
 
@@ -71,7 +85,8 @@ const MEAN_OF_BUCKET: f64 = 5.0;
 
 impl Load {
     pub fn new(shape: Shape) -> Self {
-        let settings = Settings { window: 10, bucket: shape.bucket, cache: 100, factor: 1.0 };
+        let Shape { window, bucket, .. } = shape;
+        let settings = Settings { window, bucket, cache: 100, factor: 1.0 };
         // Keys of even number stay below their limit, the others are held back now and then.
         let limit = |key: usize| {
             let total = MEAN_OF_BUCKET * shape.live as f64;

@@ -13,6 +13,8 @@ const STRETCH: usize = 2_000;
 
 const KEYS: usize = 40;
 
+const ARCHIVE: &str = "archive";
+
 fn main() {
     let arguments: Vec<String> = std::env::args().skip(1).collect();
     let words: Vec<&str> = arguments.iter().map(String::as_str).collect();
@@ -26,20 +28,23 @@ fn main() {
 }
 
 fn tables(timed: usize, times: usize) {
+    println!("nanoseconds for an increment, and the ratio to the twin; at the end of a line the");
     println!(
-        "nanoseconds for an increment, and the ratio to the twin; bucket sizes in milliseconds"
+        "archive's ratio to the trusting twin and to `bare`, which for the same keys in the same"
     );
+    println!("order reads all words of the slot's body and does nothing else");
+    println!("windows in seconds, bucket sizes in milliseconds");
     println!("{timed} increments in mixed order, rooms cleared and filled first, least of {times}");
     for limiter in Limiter::BOTH {
         heading(&format!("{}, {KEYS} keys, rings full", limiter.name()));
-        for live in [10, 100, 512] {
+        for live in [10, 100, 298, 512] {
             row(limiter, Shape::full(KEYS, live), timed, times);
         }
     }
     let fewer = timed / 4;
     for limiter in Limiter::BOTH {
         heading(&format!("{}, by buckets, {fewer} increments", limiter.name()));
-        for live in [10, 50, 100, 200, 512] {
+        for live in [10, 50, 100, 200, 298, 512] {
             row(limiter, Shape::full(KEYS, live), fewer, times);
         }
         row(limiter, Shape { ring: 512, ..Shape::full(KEYS, 100) }, fewer, times);
@@ -54,11 +59,20 @@ fn tables(timed: usize, times: usize) {
     }
 }
 
+/// Whose times the archive's are compared with, besides the twin's.
+const BESIDES: [&str; 2] = ["trusting", "bare"];
+
 fn heading(what: &str) {
     println!("\n{what}");
-    print!("keys  ring  bucket  buckets held");
-    for contestant in all(&Load::new(Shape::full(1, 10))) {
+    print!("keys  ring  window  bucket  buckets held");
+    let contestants = all(&Load::new(Shape::full(1, 10)));
+    for contestant in &contestants {
         print!("{:>15}", contestant.name());
+    }
+    if contestants.iter().any(|contestant| contestant.name() == ARCHIVE) {
+        for name in BESIDES {
+            print!("{:>18}", format!("{ARCHIVE}/{name}"));
+        }
     }
     println!();
 }
@@ -68,14 +82,21 @@ fn row(limiter: Limiter, shape: Shape, timed: usize, times: usize) {
     let load = Load::new(shape);
     let mut contestants = all(&load);
     let took = race(limiter, &load, &mut contestants, timed, times);
-    let Shape { keys, ring, bucket, .. } = shape;
+    let Shape { keys, ring, window, bucket, .. } = shape;
     let buckets = buckets(contestants[0].room(limiter).expect("the twin's room"));
-    print!("{keys:4}  {ring:4}  {bucket:6}  {buckets:12.1}");
-    let of_twin = took[0].as_secs_f64();
-    for took in &took {
-        let each = took.as_secs_f64() * 1e9 / timed as f64;
-        let ratio = took.as_secs_f64() / of_twin;
-        print!("  {each:7.1} {ratio:5.2}");
+    print!("{keys:4}  {ring:4}  {window:6}  {bucket:6}  {buckets:12.1}");
+    let each: Vec<f64> = took.iter().map(|took| took.as_secs_f64() * 1e9 / timed as f64).collect();
+    for nanoseconds in &each {
+        print!("  {nanoseconds:7.1} {:5.2}", nanoseconds / each[0]);
+    }
+    let of = |name: &str| {
+        let place = contestants.iter().position(|contestant| contestant.name() == name);
+        place.map(|place| each[place])
+    };
+    if let Some(archive) = of(ARCHIVE) {
+        for other in BESIDES.into_iter().filter_map(of) {
+            print!("{:18.2}", archive / other);
+        }
     }
     println!();
 }
@@ -107,10 +128,10 @@ fn race(
                 answers[place] ^= told.rotate_left(at as u32);
             }
         }
-        assert!(
-            answers.iter().all(|other| *other == answers[0]),
-            "the answers differ: {answers:?}"
-        );
+        let decided =
+            contestants.iter().zip(&answers).filter(|(contestant, _)| contestant.decides());
+        let is_same = decided.map(|(_, answers)| answers).all(|other| *other == answers[0]);
+        assert!(is_same, "the answers differ: {answers:?}");
         later(&mut filling, span);
         later(&mut increments, span);
     }

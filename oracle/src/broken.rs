@@ -6,6 +6,8 @@ use twin::rules::{Comparator, Kind, Mode, Settings};
 use twin::set::Wanted;
 
 use crate::compare::Comparison;
+use crate::expected::is_sound;
+use crate::long::{self, Falls};
 use crate::random::{Dice, bad_rate, bad_settings, key_pool, rate, rooms_left};
 use crate::state::Key;
 use crate::together;
@@ -315,13 +317,16 @@ fn likely_body(dice: &mut Dice, settings: &Settings, body: &mut [u64], last: u64
         factor.to_bits(),
         factor_time,
     ]);
-    for cell in body[FIXED..].chunks_mut(3) {
-        cell.copy_from_slice(&[few(dice), few(dice) / 2, time(dice)]);
+    let ring = ring as usize;
+    for cell in FIXED..FIXED + ring {
+        body[cell] = few(dice);
+        body[cell + ring] = few(dice) / 2;
+        body[cell + 2 * ring] = time(dice);
     }
     if dice.once_in(20) {
         // Sums past 2^64 and totals at the top.
         let top = dice.pick(&[TOP, TOP + 1, 1 << 63, u64::MAX]);
-        let at = dice.pick(&[1, 2, FIXED, FIXED + 1]);
+        let at = dice.pick(&[1, 2, FIXED, FIXED + ring]);
         body[at] = top;
     }
 }
@@ -335,8 +340,50 @@ fn ends(scene: &mut Scene, trials: &mut Trials) {
     }
 }
 
+/// A word of the slot: of its entry, of its body before the cells, or of these.
+fn word_of_slot(dice: &mut Dice, room: &[u64], slot: usize) -> usize {
+    let (slots, cells) = (room[0] as usize, 3 * room[1] as usize);
+    let body = HEADER + ENTRY * slots + slot * (FIXED + cells);
+    match dice.below(3) {
+        0 => HEADER + ENTRY * slot + dice.below(ENTRY as u64) as usize,
+        1 => body + dice.below(FIXED as u64) as usize,
+        _ => body + FIXED + dice.below(cells as u64) as usize,
+    }
+}
+
+/// How many long rings go with each room that a history leaves: with falling times, and others.
+const FALLING: u64 = 24;
+const OTHER: u64 = 22;
+
+/// Long rings with falling times and with other damage; of the sound ones, some with one word changed.
+fn long_rings(scene: &mut Scene, trials: &mut Trials, falls: &mut Falls) {
+    let (kind, settings) = (scene.kind, scene.settings);
+    for number in 0..FALLING + OTHER {
+        let dice = &mut *scene.dice;
+        let mut room = match number {
+            0..FALLING => falls.room(dice, kind, &settings),
+            _ => long::any(dice, kind, &settings),
+        };
+        if room.damage == "sound" && dice.once_in(2) {
+            let at = word_of_slot(dice, &room.words, room.slot);
+            room.words[at] = dice.pick(&values(&room.words, at));
+            room.damage = "one word";
+        }
+        trials.count_long(room.damage, is_sound(kind, &settings, &room.words, room.slot));
+        scene.last = room.words[2];
+        scene.try_all(trials, &room.words, long::KEY);
+    }
+}
+
 /// All damage to one history's rooms, then as many random rooms.
-fn around(trials: &mut Trials, dice: &mut Dice, settings: Settings, rooms: &Rooms, keys: &[Key]) {
+fn around(
+    trials: &mut Trials,
+    dice: &mut Dice,
+    settings: Settings,
+    rooms: &Rooms,
+    keys: &[Key],
+    falls: &mut Falls,
+) {
     for kind in [Kind::Absolute, Kind::Suppressed] {
         let other = if kind == Kind::Absolute { Kind::Suppressed } else { Kind::Absolute };
         let (good, beside) = (rooms.of(kind), rooms.of(other).to_vec());
@@ -345,6 +392,7 @@ fn around(trials: &mut Trials, dice: &mut Dice, settings: Settings, rooms: &Room
         one_word(&mut scene, trials, good);
         two_words(&mut scene, trials, good, 200);
         lengths(&mut scene, trials, good);
+        long_rings(&mut scene, trials, falls);
         for _ in 0..200 {
             let room = match scene.dice.once_in(4) {
                 true => wild(scene.dice),
@@ -369,9 +417,10 @@ pub fn run(rooms: u64, seed: u64) -> Trials {
         let dice = &mut dice;
         ends(&mut Scene { dice, settings, kind, beside, last: 0, keys: &keys }, &mut trials);
     }
+    let mut falls = Falls::new(&mut dice);
     while trials.damaged < rooms && trials.differed < 100 {
         if let Some((settings, rooms)) = rooms_left(&mut histories, dice.any()) {
-            around(&mut trials, &mut dice, settings, &rooms, &keys);
+            around(&mut trials, &mut dice, settings, &rooms, &keys, &mut falls);
         }
     }
     together::run(&mut trials, &mut dice);

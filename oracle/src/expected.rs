@@ -153,12 +153,13 @@ fn is_sound_series(kind: Kind, settings: &Settings, body: &[u64], ring: u64, las
     if head >= ring || buckets > ring {
         return false;
     }
-    let cells: Vec<&[u64]> =
-        (head..head + buckets).map(|at| &body[7 + 3 * (at % ring) as usize..][..3]).collect();
+    // All counts of the ring, then all declined, then all times.
+    let cell = |at: u64| [0, 1, 2].map(|part| body[(7 + part * ring + at) as usize]);
+    let cells: Vec<[u64; 3]> = (head..head + buckets).map(|at| cell(at % ring)).collect();
     let sum = |part: usize| cells.iter().map(|cell| u128::from(cell[part])).sum::<u128>();
     let factor = if kind == Kind::Absolute { 1.0 } else { settings.factor };
     let per_second = f64::from_bits(limit) / settings.window as f64 / factor;
-    let declines = |cell: &&[u64]| match kind {
+    let declines = |cell: &[u64; 3]| match kind {
         Kind::Absolute => cell[1] == 0,
         Kind::Suppressed => cell[1] <= cell[0],
     };
@@ -172,7 +173,7 @@ fn is_sound_series(kind: Kind, settings: &Settings, body: &[u64], ring: u64, las
 }
 
 /// Whether a slot in use is sound.
-fn is_sound(kind: Kind, settings: &Settings, room: &[u64], at: usize) -> bool {
+pub fn is_sound(kind: Kind, settings: &Settings, room: &[u64], at: usize) -> bool {
     let (slots, ring, last) = (room[0] as usize, room[1], room[2]);
     let size = 7 + 3 * ring as usize;
     let entry = entry(room, at);

@@ -68,6 +68,16 @@ fn counts(dice: &mut Dice, many: usize) -> Vec<u64> {
     counts
 }
 
+/// A sound limit: at the total, at its ends, or any.
+pub fn limit(dice: &mut Dice, kind: Kind, settings: &Settings, total: u64) -> f64 {
+    let limit = match dice.below(4) {
+        0 => dice.pick(&[f64::INFINITY, f64::MAX, 0.5, 1.0, total as f64, total as f64 + 1.0]),
+        1 => (total as f64) * settings.factor,
+        _ => settings.limit(kind, rate(dice, settings)),
+    };
+    if settings.is_limit(kind, limit) { limit } else { f64::INFINITY }
+}
+
 fn fill_series(
     dice: &mut Dice,
     kind: Kind,
@@ -88,17 +98,14 @@ fn fill_series(
             Kind::Suppressed if dice.once_in(2) => dice.pick(&[0, 0, count]),
             Kind::Suppressed => dice.below(count + 1),
         };
-        let at = 7 + 3 * ((head + index) % ring);
-        body[at..at + 3].copy_from_slice(&[count, declined, times[index]]);
+        let at = 7 + (head + index) % ring;
+        body[at] = count;
+        body[at + ring] = declined;
+        body[at + 2 * ring] = times[index];
         total += count;
         declined_total += declined;
     }
-    let limit = match dice.below(4) {
-        0 => dice.pick(&[f64::INFINITY, f64::MAX, 0.5, 1.0, total as f64, total as f64 + 1.0]),
-        1 => (total as f64) * settings.factor,
-        _ => settings.limit(kind, rate(dice, settings)),
-    };
-    let limit = if settings.is_limit(kind, limit) { limit } else { f64::INFINITY };
+    let limit = limit(dice, kind, settings, total);
     body[..5].copy_from_slice(&[limit.to_bits(), total, declined_total, head as u64, many as u64]);
 }
 
@@ -176,28 +183,21 @@ pub fn sound_rooms(
     }
 }
 
-/// One word changed to a value at some boundary, or one word more or less.
-pub fn damage(dice: &mut Dice, room: &mut Vec<u64>) {
-    if dice.once_in(40) {
-        match dice.below(4) {
-            0 => room.truncate(dice.below(4) as usize),
-            1 => room.push(0),
-            2 => drop(room.pop()),
-            _ => room.clear(),
-        }
-        return;
+/// The time of some bucket becomes 1 below the time before it, where the words show two buckets.
+fn fall(dice: &mut Dice, body: &mut [u64], ring: usize) {
+    let (head, held) = (body[3] as usize % ring, (body[4] as usize).min(ring));
+    if held > 1 {
+        let index = 1 + dice.below(held as u64 - 1) as usize;
+        let time = |index: usize| 7 + 2 * ring + (head + index) % ring;
+        body[time(index)] = body[time(index - 1)].wrapping_sub(1);
     }
-    let places = Places { slots: room[0] as usize, ring: room[1] as usize };
-    let slot = dice.below(room[0]) as usize;
-    let at = match dice.below(10) {
-        0 => dice.below(3) as usize,
-        1 | 2 => places.entry(slot) + dice.below(6) as usize,
-        3..=6 => places.body(slot) + dice.below(7) as usize,
-        _ => places.body(slot) + 7 + dice.below(3 * places.ring as u64) as usize,
-    };
+}
+
+/// What a word is changed to: a neighbour, a number at some boundary, the bits of a double, one bit other, or anything.
+fn changed(dice: &mut Dice, room: &[u64], at: usize) -> u64 {
     let old = room[at];
     let one = 1f64.to_bits();
-    room[at] = match dice.below(8) {
+    match dice.below(8) {
         0 => old.wrapping_add(1),
         1 => old.wrapping_sub(1),
         2 => dice.pick(&[0, 1, 2, 3, 4, 5]),
@@ -225,5 +225,31 @@ pub fn damage(dice: &mut Dice, room: &mut Vec<u64>) {
         ]),
         6 => old ^ (1 << dice.below(64)),
         _ => dice.any(),
+    }
+}
+
+/// One word changed to a value at some boundary, a time that falls, or one word more or less.
+pub fn damage(dice: &mut Dice, room: &mut Vec<u64>) {
+    if dice.once_in(40) {
+        match dice.below(4) {
+            0 => room.truncate(dice.below(4) as usize),
+            1 => room.push(0),
+            2 => drop(room.pop()),
+            _ => room.clear(),
+        }
+        return;
+    }
+    let places = Places { slots: room[0] as usize, ring: room[1] as usize };
+    let slot = dice.below(room[0]) as usize;
+    if dice.once_in(8) {
+        let start = places.body(slot);
+        return fall(dice, &mut room[start..][..places.size()], places.ring);
+    }
+    let at = match dice.below(10) {
+        0 => dice.below(3) as usize,
+        1 | 2 => places.entry(slot) + dice.below(6) as usize,
+        3..=6 => places.body(slot) + dice.below(7) as usize,
+        _ => places.body(slot) + 7 + dice.below(3 * places.ring as u64) as usize,
     };
+    room[at] = changed(dice, room, at);
 }

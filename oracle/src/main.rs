@@ -36,6 +36,7 @@ mod expected;
 #[cfg(archive)]
 mod faces;
 mod loaded;
+mod long;
 mod original;
 mod random;
 #[cfg(archive)]

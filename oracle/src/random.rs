@@ -311,7 +311,7 @@ fn first_reading(dice: &mut Dice, settings: &Settings) -> u64 {
     }
 }
 
-/// The rooms a history starts from: empty, or any sound words.
+/// The rooms a history starts from: empty, or any sound words; now and then with long rings, which a quick pass judges.
 fn start<'a>(
     dice: &mut Dice,
     settings: Settings,
@@ -320,8 +320,12 @@ fn start<'a>(
     empty: bool,
 ) -> History<'a> {
     let slots = dice.pick(&[1, 2, 2, 3, 4]);
-    let ring = dice.pick(&[1, 2, 3, 3, 4, 6, 9]);
-    if empty || dice.once_in(2) {
+    let is_long = !empty && dice.once_in(80);
+    let ring = match is_long {
+        true => dice.pick(&[24, 25, 26, 40, 100, 298, 512]),
+        false => dice.pick(&[1, 2, 3, 3, 4, 6, 9]),
+    };
+    if empty || (!is_long && dice.once_in(2)) {
         return History::new(settings, slots, ring, keys);
     }
     let rooms = sound_rooms(dice, &settings, slots, ring, keys, now);

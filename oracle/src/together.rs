@@ -78,7 +78,7 @@ fn room(kind: Kind, faults: Faults) -> Vec<u64> {
         room[3 + 6 * slot..][..3].copy_from_slice(&[1, 1, u64::from(name)]);
         let body = &mut room[15 + 13 * slot..][..13];
         body[..5].copy_from_slice(&[limit.to_bits(), count, declined, 1, buckets]);
-        body[7..].copy_from_slice(&[0, 0, 800, count, declined, 800]);
+        body[7..].copy_from_slice(&[0, count, 0, declined, 800, 800]);
     }
     room
 }

@@ -1,6 +1,6 @@
 //! One call on any words: the twin, the others and the second reading of the refusals must agree.
 
-use std::collections::HashSet;
+use std::collections::{BTreeMap, HashSet};
 use std::fmt;
 use std::hash::{DefaultHasher, Hash, Hasher};
 
@@ -19,6 +19,8 @@ pub struct Trials {
     /// Rooms that no call made, and a mark of each.
     pub damaged: u64,
     marks: HashSet<u64>,
+    /// Of these the long rings, by what was done to them: all, and the sound ones.
+    long: BTreeMap<&'static str, (u64, u64)>,
     calls: u64,
     with_others: u64,
     without_others: u64,
@@ -35,7 +37,13 @@ impl fmt::Display for Trials {
     fn fmt(&self, f: &mut fmt::Formatter) -> fmt::Result {
         let Trials { damaged, marks, calls, by_number, differed, .. } = self;
         let who = who(&self.others, self.with_others, self.without_others);
-        write!(f, "{damaged} damaged rooms ({} distinct), {calls} calls", marks.len())?;
+        write!(f, "{damaged} damaged rooms ({} distinct", marks.len())?;
+        let all: u64 = self.long.values().map(|(all, _)| all).sum();
+        write!(f, "; {all} long rings")?;
+        for (damage, (all, sound)) in &self.long {
+            write!(f, ", {damage}: {all}, {sound} sound")?;
+        }
+        write!(f, "), {calls} calls")?;
         write!(f, " ({} not refused;", by_number[0])?;
         for (number, times) in by_number.iter().enumerate().skip(1) {
             write!(f, " {number}: {times}")?;
@@ -55,6 +63,7 @@ impl Trials {
             others,
             damaged: 0,
             marks: HashSet::new(),
+            long: BTreeMap::new(),
             calls: 0,
             with_others: 0,
             without_others: 0,
@@ -72,6 +81,13 @@ impl Trials {
         (kind == Kind::Absolute, room).hash(&mut hasher);
         self.damaged += 1;
         self.marks.insert(hasher.finish());
+    }
+
+    /// The next room that no call made has a long ring.
+    pub fn count_long(&mut self, damage: &'static str, is_sound: bool) {
+        let (all, sound) = self.long.entry(damage).or_default();
+        *all += 1;
+        *sound += u64::from(is_sound);
     }
 
     /// So many other functions of the C face were called, and so many of them differed.

@@ -58,8 +58,9 @@ fn is_own_change(old: Slot, new: Slot, reading: u64) -> bool {
     if is == 0 {
         return old.entry[1..] == new.entry[1..] && old.body == new.body;
     }
-    let cells = |slot: Slot| slot.body[FIXED..].chunks(3).map(<[u64]>::to_vec).collect::<Vec<_>>();
-    let changed = cells(old).iter().zip(cells(new)).filter(|(old, new)| *old != new).count();
+    let ring = (old.body.len() - FIXED) / 3;
+    let cell = |slot: Slot, at: usize| [0, 1, 2].map(|part| slot.body[FIXED + part * ring + at]);
+    let changed = (0..ring).filter(|at| cell(old, *at) != cell(new, *at)).count();
     let (head, factor, time) = (new.body[3], new.body[5], new.body[6]);
     let is_new_series = was & 1 == 0 && is & 1 == 1;
     let is_cached_now = is & 2 == 2 && time == reading;

@@ -1,8 +1,6 @@
 //! The absolute limiter's calls over its room.
 
-use crate::room::{
-    Gone, Scan, Slot, SlotMut, crowded, cut_limit, judge, slot, slot_mut, store_reading,
-};
+use crate::room::{Gone, Slot, SlotMut, crowded, cut_limit, judge, slot, slot_mut, store_reading};
 use crate::rules::{Decision, Kind, Refusal, Settings, TOP, judge_rate, refuse_if};
 use crate::shared::series_slot;
 
@@ -21,8 +19,8 @@ fn rejected(slot: Slot, settings: &Settings, reading: u64) -> Decision {
 }
 
 /// What the test takes out: nothing while the stored total is below the limit, else the expired.
-fn tried(slot: Slot, scan: &Scan) -> Gone {
-    if slot.total() < cut_limit(slot) { Gone::default() } else { scan.expired }
+fn tried(slot: Slot, expired: Gone) -> Gone {
+    if slot.total() < cut_limit(slot) { Gone::default() } else { expired }
 }
 
 /// Whether the total is below the limit once `gone` is out.
@@ -32,19 +30,19 @@ fn is_below(slot: Slot, gone: Gone) -> bool {
 
 fn inc_known(
     slot: &mut SlotMut,
-    scan: &Scan,
+    expired: Gone,
     settings: &Settings,
     reading: u64,
     count: u64,
 ) -> Result<Decision, Refusal> {
     let stands = slot.read();
-    let mut gone = tried(stands, scan);
+    let mut gone = tried(stands, expired);
     if !is_below(stands, gone) {
         slot.cut(gone);
         return Ok(rejected(slot.read(), settings, reading));
     }
     if crowded(stands, gone, settings, reading, count).is_err() {
-        gone = scan.expired;
+        gone = expired;
         crowded(stands, gone, settings, reading, count)?;
     }
     slot.cut(gone);
@@ -64,7 +62,7 @@ pub fn inc(
     let found = judge(KIND, settings, room, reading, key)?;
     judge_rate(rate)?;
     let decision = match found.slot {
-        Some(at) => inc_known(&mut slot_mut(room, at), &found.scan, settings, reading, count)?,
+        Some(at) => inc_known(&mut slot_mut(room, at), found.expired, settings, reading, count)?,
         None => {
             refuse_if(count > TOP, 10)?;
             let mut slot = series_slot(room, None, key)?;
@@ -89,7 +87,7 @@ pub fn is_allowed(
         None => Decision::Allowed,
         Some(at) => {
             let mut slot = slot_mut(room, at);
-            let gone = tried(slot.read(), &found.scan);
+            let gone = tried(slot.read(), found.expired);
             slot.cut(gone);
             if is_below(slot.read(), Gone::default()) {
                 Decision::Allowed
@@ -111,7 +109,7 @@ pub fn get(
 ) -> Result<u64, Refusal> {
     let found = judge(KIND, settings, room, reading, key)?;
     if let Some(at) = found.slot {
-        slot_mut(room, at).cut(found.scan.expired);
+        slot_mut(room, at).cut(found.expired);
     }
     store_reading(room, reading);
     Ok(found.slot.map_or(0, |at| slot(room, at).total()))

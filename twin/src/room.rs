@@ -116,23 +116,23 @@ pub struct Bucket {
     pub time: u64,
 }
 
-/// A slot's words, to read.
+/// A slot's words, to read: its directory entry, the fixed words of its body, and of the ring's cells all counts, then all
+/// declined counts, then all times.
 #[derive(Clone, Copy)]
 pub struct Slot<'a> {
     entry: &'a [u64],
-    body: &'a [u64],
+    fixed: &'a [u64],
+    counts: &'a [u64],
+    declines: &'a [u64],
+    times: &'a [u64],
 }
 
 pub fn slot(room: &[u64], at: usize) -> Slot<'_> {
-    Slot {
-        entry: &room[entry_start(at)..][..ENTRY],
-        body: &room[body_start(room, at)..][..FIXED + CELL * ring(room)],
-    }
-}
-
-/// Where cell `index` lies in a body.
-fn cell(index: usize) -> usize {
-    FIXED + CELL * index
+    let entry = &room[entry_start(at)..][..ENTRY];
+    let (fixed, cells) = room[body_start(room, at)..].split_at(FIXED);
+    let (counts, cells) = cells.split_at(ring(room));
+    let (declines, cells) = cells.split_at(ring(room));
+    Slot { entry, fixed, counts, declines, times: &cells[..ring(room)] }
 }
 
 fn wrap(index: u64, ring: u64) -> u64 {
@@ -158,7 +158,7 @@ impl<'a> Slot<'a> {
     }
 
     pub fn limit_bits(&self) -> u64 {
-        self.body[LIMIT]
+        self.fixed[LIMIT]
     }
 
     pub fn limit(&self) -> f64 {
@@ -166,37 +166,38 @@ impl<'a> Slot<'a> {
     }
 
     pub fn total(&self) -> u64 {
-        self.body[TOTAL]
+        self.fixed[TOTAL]
     }
 
     pub fn declined(&self) -> u64 {
-        self.body[DECLINED]
+        self.fixed[DECLINED]
     }
 
     pub fn buckets(&self) -> u64 {
-        self.body[BUCKETS]
+        self.fixed[BUCKETS]
     }
 
     pub fn factor_bits(&self) -> u64 {
-        self.body[FACTOR]
+        self.fixed[FACTOR]
     }
 
     pub fn factor_time(&self) -> u64 {
-        self.body[FACTOR_TIME]
+        self.fixed[FACTOR_TIME]
     }
 
     pub fn ring(&self) -> u64 {
-        ((self.body.len() - FIXED) / CELL) as u64
+        self.counts.len() as u64
     }
 
-    /// Where bucket `index`, oldest first, lies in the body.
-    fn place(&self, index: u64) -> usize {
-        cell(wrap(self.body[HEAD] + index, self.ring()) as usize)
+    /// The cell of bucket `index`, oldest first.
+    fn cell(&self, index: u64) -> usize {
+        wrap(self.fixed[HEAD] + index, self.ring()) as usize
     }
 
+    #[inline]
     pub fn bucket(&self, index: u64) -> Bucket {
-        let at = self.place(index);
-        Bucket { count: self.body[at], declined: self.body[at + 1], time: self.body[at + 2] }
+        let cell = self.cell(index);
+        Bucket { count: self.counts[cell], declined: self.declines[cell], time: self.times[cell] }
     }
 
     /// The newest bucket once the oldest `gone` are out.
@@ -209,20 +210,21 @@ impl<'a> Slot<'a> {
         self.newest(gone).is_some_and(|newest| reading - newest.time <= bucket_ms)
     }
 
+    /// The counts at age at most 1000 ms, from the newest on.
+    pub fn last_second(&self, reading: u64) -> u64 {
+        (0..self.buckets())
+            .rev()
+            .map(|index| self.bucket(index))
+            .take_while(|bucket| reading - bucket.time <= 1000)
+            .map(|bucket| bucket.count)
+            .sum()
+    }
+
     /// The cached factor, if there is one at age below `cache_ms`.
     pub fn cached(&self, reading: u64, cache_ms: u64) -> Option<f64> {
         (self.has_factor() && reading - self.factor_time() < cache_ms)
             .then(|| f64::from_bits(self.factor_bits()))
     }
-}
-
-/// What the one pass over a slot's buckets finds.
-#[derive(Clone, Copy, Debug, Default)]
-pub struct Scan {
-    /// The expired buckets, which are the oldest.
-    pub expired: Gone,
-    /// The counts at age at most 1000 ms.
-    pub last_second: u64,
 }
 
 /// The oldest buckets that go: how many, with their counts and declined counts.
@@ -233,21 +235,21 @@ pub struct Gone {
     pub declined: u64,
 }
 
-/// The pass over the buckets, or none where the series is unsound.
+/// The expired buckets, by one pass over all, or none where the series is unsound.
 fn scan_series(
     kind: Kind,
     settings: &Settings,
     slot: Slot,
     last: u64,
     reading: u64,
-) -> Option<Scan> {
-    if slot.body[HEAD] >= slot.ring() || slot.buckets() > slot.ring() {
+) -> Option<Gone> {
+    if slot.fixed[HEAD] >= slot.ring() || slot.buckets() > slot.ring() {
         return None;
     }
     if slot.total() > TOP || !settings.is_limit(kind, slot.limit()) {
         return None;
     }
-    let mut scan = Scan::default();
+    let mut expired = Gone::default();
     let (mut count, mut declined, mut time) = (0u64, 0u64, 0u64);
     for index in 0..slot.buckets() {
         let bucket = slot.bucket(index);
@@ -258,18 +260,14 @@ fn scan_series(
         time = bucket.time;
         count = count.checked_add(bucket.count)?;
         declined += bucket.declined;
-        let age = reading.saturating_sub(bucket.time);
-        if settings.expired(age) {
-            scan.expired = Gone { buckets: index + 1, count, declined };
-        }
-        if age <= 1000 {
-            scan.last_second += bucket.count;
+        if settings.expired(reading.saturating_sub(time)) {
+            expired = Gone { buckets: index + 1, count, declined };
         }
     }
-    (count == slot.total() && declined == slot.declined()).then_some(scan)
+    (count == slot.total() && declined == slot.declined()).then_some(expired)
 }
 
-/// The pass over a slot in use, or none where it is unsound.
+/// The expired buckets of a slot in use, or none where it is unsound.
 #[cfg(not(trusting))]
 pub fn scan_slot(
     kind: Kind,
@@ -277,7 +275,7 @@ pub fn scan_slot(
     slot: Slot,
     last: u64,
     reading: u64,
-) -> Option<Scan> {
+) -> Option<Gone> {
     let most_use = if kind == Kind::Absolute { 1 } else { 3 };
     if slot.entry[USE] > most_use || !is_packed(slot.entry) {
         return None;
@@ -288,15 +286,15 @@ pub fn scan_slot(
     if slot.has_series() {
         scan_series(kind, settings, slot, last, reading)
     } else {
-        Some(Scan::default())
+        Some(Gone::default())
     }
 }
 
-/// The slot a call addresses, and what the pass over it found.
+/// The slot a call addresses, and its expired buckets.
 #[derive(Clone, Copy, Debug)]
 pub struct Found {
     pub slot: Option<usize>,
-    pub scan: Scan,
+    pub expired: Gone,
 }
 
 impl Found {
@@ -317,12 +315,12 @@ pub fn judge_slot(
     settings.judge()?;
     refuse_if(!is_room(room), 5)?;
     let at = find(room, key);
-    let scan = match at {
+    let expired = match at {
         Some(at) => scan_slot(kind, settings, slot(room, at), last_reading(room), reading)
             .ok_or(Refusal(5))?,
-        None => Scan::default(),
+        None => Gone::default(),
     };
-    Ok(Found { slot: at, scan })
+    Ok(Found { slot: at, expired })
 }
 
 /// Refusals 1 to 7 of a call with a key and a reading.
@@ -347,19 +345,26 @@ pub fn judge_key(key: &[u8]) -> Result<(), Refusal> {
 /// A slot's words, to change.
 pub struct SlotMut<'a> {
     entry: &'a mut [u64],
-    body: &'a mut [u64],
+    fixed: &'a mut [u64],
+    counts: &'a mut [u64],
+    declines: &'a mut [u64],
+    times: &'a mut [u64],
 }
 
 pub fn slot_mut(room: &mut [u64], at: usize) -> SlotMut<'_> {
-    let body_length = FIXED + CELL * ring(room);
-    let start = body_start(room, at);
+    let (ring, start) = (ring(room), body_start(room, at));
     let (front, bodies) = room.split_at_mut(start);
-    SlotMut { entry: &mut front[entry_start(at)..][..ENTRY], body: &mut bodies[..body_length] }
+    let entry = &mut front[entry_start(at)..][..ENTRY];
+    let (fixed, cells) = bodies.split_at_mut(FIXED);
+    let (counts, cells) = cells.split_at_mut(ring);
+    let (declines, cells) = cells.split_at_mut(ring);
+    SlotMut { entry, fixed, counts, declines, times: &mut cells[..ring] }
 }
 
 impl SlotMut<'_> {
     pub fn read(&self) -> Slot<'_> {
-        Slot { entry: self.entry, body: self.body }
+        let SlotMut { entry, fixed, counts, declines, times } = self;
+        Slot { entry, fixed, counts, declines, times }
     }
 
     pub fn free(&mut self) {
@@ -369,7 +374,7 @@ impl SlotMut<'_> {
     /// A free slot gets its directory entry and fixed words; its cells stay.
     pub fn take(&mut self, key: &[u8]) {
         self.entry[LENGTH..].copy_from_slice(&packed(key));
-        self.body[..FIXED].fill(0);
+        self.fixed.fill(0);
     }
 
     /// A series with no bucket starts; a lone cached factor stays.
@@ -381,17 +386,17 @@ impl SlotMut<'_> {
 
     /// The words of a series that is not there.
     pub fn blank(&mut self) {
-        self.body[LIMIT..=BUCKETS].fill(0);
+        self.fixed[LIMIT..=BUCKETS].fill(0);
     }
 
     pub fn set_limit(&mut self, limit: f64) {
-        self.body[LIMIT] = limit.to_bits();
+        self.fixed[LIMIT] = limit.to_bits();
     }
 
     /// The oldest go: head moves, cells stay.
     pub fn cut(&mut self, gone: Gone) {
-        self.body[HEAD] = wrap(self.body[HEAD] + gone.buckets, self.read().ring());
-        self.body[BUCKETS] -= gone.buckets;
+        self.fixed[HEAD] = wrap(self.fixed[HEAD] + gone.buckets, self.read().ring());
+        self.fixed[BUCKETS] -= gone.buckets;
         self.lower(gone.count, gone.declined);
     }
 
@@ -410,38 +415,40 @@ impl SlotMut<'_> {
         if oldest {
             self.cut(Gone { buckets: 1, count: bucket.count, declined: bucket.declined });
         } else {
-            self.body[BUCKETS] -= 1;
+            self.fixed[BUCKETS] -= 1;
             self.lower(bucket.count, bucket.declined);
         }
     }
 
     fn lower(&mut self, count: u64, declined: u64) {
-        self.body[TOTAL] -= count;
-        self.body[DECLINED] -= declined;
+        self.fixed[TOTAL] -= count;
+        self.fixed[DECLINED] -= declined;
     }
 
     /// Counts go to the totals and to bucket `index`.
     fn raise(&mut self, index: u64, count: u64, declined: u64) {
-        let at = self.read().place(index);
-        self.body[at] += count;
-        self.body[at + 1] += declined;
-        self.body[TOTAL] += count;
-        self.body[DECLINED] += declined;
+        let cell = self.read().cell(index);
+        self.counts[cell] += count;
+        self.declines[cell] += declined;
+        self.fixed[TOTAL] += count;
+        self.fixed[DECLINED] += declined;
     }
 
     /// A bucket is added behind the newest.
     pub fn add(&mut self, count: u64, declined: u64, reading: u64) {
-        let index = self.body[BUCKETS];
-        let at = self.read().place(index);
-        self.body[at..at + CELL].copy_from_slice(&[0, 0, reading]);
-        self.body[BUCKETS] += 1;
+        let index = self.fixed[BUCKETS];
+        let cell = self.read().cell(index);
+        self.counts[cell] = 0;
+        self.declines[cell] = 0;
+        self.times[cell] = reading;
+        self.fixed[BUCKETS] += 1;
         self.raise(index, count, declined);
     }
 
     /// An increment joins the newest bucket at age at most b; else it adds one.
     pub fn join_or_add(&mut self, count: u64, declined: u64, reading: u64, bucket_ms: u64) {
         if self.read().joins(0, reading, bucket_ms) {
-            self.raise(self.body[BUCKETS] - 1, count, declined);
+            self.raise(self.fixed[BUCKETS] - 1, count, declined);
         } else {
             self.add(count, declined, reading);
         }
@@ -449,7 +456,7 @@ impl SlotMut<'_> {
 
     /// A surplus goes to the newest or oldest bucket, or to a new one if there is none.
     pub fn give(&mut self, surplus: u64, oldest: bool, reading: u64) {
-        match self.body[BUCKETS] {
+        match self.fixed[BUCKETS] {
             0 => self.add(surplus, 0, reading),
             _ if oldest => self.raise(0, surplus, 0),
             buckets => self.raise(buckets - 1, surplus, 0),
@@ -473,16 +480,16 @@ impl SlotMut<'_> {
 
     fn lessen(&mut self, index: u64, bucket: Bucket, retained: u64) {
         let declined = crate::rules::declined_share(bucket.declined, retained, bucket.count);
-        let at = self.read().place(index);
-        self.body[at] = retained;
-        self.body[at + 1] = declined;
+        let cell = self.read().cell(index);
+        self.counts[cell] = retained;
+        self.declines[cell] = declined;
         self.lower(bucket.count - retained, bucket.declined - declined);
     }
 
     pub fn cache(&mut self, factor: f64, reading: u64) {
         self.entry[USE] |= FACTOR_BIT;
-        self.body[FACTOR] = factor.to_bits();
-        self.body[FACTOR_TIME] = reading;
+        self.fixed[FACTOR] = factor.to_bits();
+        self.fixed[FACTOR_TIME] = reading;
     }
 
     /// The cached factor goes: the use word only.

@@ -114,8 +114,6 @@ pub struct Standing {
     pub declined: u64,
     /// How many buckets are left.
     pub buckets: u64,
-    /// The counts at age at most 1000 ms.
-    pub last_second: u64,
     /// The cached factor, if its age is below C and nothing expired.
     pub cached: Option<f64>,
 }
@@ -126,8 +124,12 @@ impl Standing {
         self.total - self.declined
     }
 
-    /// The fresh factor, or refusal 13 at perceived rate zero.
-    pub fn fresh_factor(&self, settings: &Settings) -> Result<f64, Refusal> {
+    /// The fresh factor, or refusal 13 at perceived rate zero. The last second is asked for where the factor depends on it.
+    fn fresh_factor(
+        &self,
+        settings: &Settings,
+        last_second: impl FnOnce() -> u64,
+    ) -> Result<f64, Refusal> {
         let hard = cut(self.hard);
         let soft = settings.soft(self.hard);
         if self.buckets == 0 {
@@ -144,17 +146,21 @@ impl Standing {
             return Ok(1.0);
         }
         let window = settings.window as f64;
-        let perceived = (self.total as f64 / window).max(self.last_second as f64);
+        let perceived = (self.total as f64 / window).max(last_second() as f64);
         refuse_if(perceived == 0.0, 13)?;
         Ok(1.0 - soft as f64 / window / perceived)
     }
 
     /// The cached factor where it may be used, else a fresh one that is to be cached.
-    pub fn factor(&self, settings: &Settings) -> Result<Worked, Refusal> {
+    pub fn factor(
+        &self,
+        settings: &Settings,
+        last_second: impl FnOnce() -> u64,
+    ) -> Result<Worked, Refusal> {
         match self.cached {
             Some(factor) => Ok(Worked { factor, to_cache: None }),
             None => {
-                let factor = self.fresh_factor(settings)?;
+                let factor = self.fresh_factor(settings, last_second)?;
                 Ok(Worked { factor, to_cache: Some(factor) })
             }
         }

@@ -27,7 +27,7 @@ impl Wanted {
         self.mode != Mode::Replace
             && self.count > 0
             && self.count == live
-            && found.scan.expired.buckets == 0
+            && found.expired.buckets == 0
             && slot.limit() == limit
     }
 
@@ -59,7 +59,7 @@ pub fn set(
     refuse_if(wanted.count > TOP, 10)?;
     let limit = settings.limit(kind, wanted.rate);
     let known = found.series(room).map(|at| slot(room, at));
-    let live = known.map_or(0, |slot| slot.total() - found.scan.expired.count);
+    let live = known.map_or(0, |slot| slot.total() - found.expired.count);
     let mut current = live;
     if !wanted.changes_nothing(known, &found, live, limit) {
         change(room, &found, key, limit, wanted, live, reading)?;
@@ -82,7 +82,7 @@ fn change(
     match found.series(room).map(|at| slot_mut(room, at)) {
         Some(mut slot) if wanted.count == 0 => slot.free(),
         Some(mut slot) => {
-            slot.cut(found.scan.expired);
+            slot.cut(found.expired);
             slot.set_limit(limit);
             wanted.update(&mut slot, live, reading);
             slot.forget();

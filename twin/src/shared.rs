@@ -58,7 +58,7 @@ pub fn delete(
     let found = judge(kind, settings, room, reading, key)?;
     let accepted = found.slot.map(|at| {
         let mut slot = slot_mut(room, at);
-        let accepted = live_accepted(slot.read(), found.scan.expired);
+        let accepted = live_accepted(slot.read(), found.expired);
         slot.free();
         accepted
     });

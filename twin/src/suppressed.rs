@@ -24,13 +24,13 @@ fn standing(
     reading: u64,
     limit: f64,
 ) -> Standing {
-    let expired = found.scan.expired;
+    let expired = found.expired;
     let cached = found
         .slot
         .filter(|_| expired.buckets == 0)
         .and_then(|at| slot(room, at).cached(reading, settings.cache));
     match found.series(room) {
-        None => Standing { hard: limit, total: 0, declined: 0, buckets: 0, last_second: 0, cached },
+        None => Standing { hard: limit, total: 0, declined: 0, buckets: 0, cached },
         Some(at) => {
             let slot = slot(room, at);
             Standing {
@@ -38,11 +38,15 @@ fn standing(
                 total: slot.total() - expired.count,
                 declined: slot.declined() - expired.declined,
                 buckets: slot.buckets() - expired.buckets,
-                last_second: found.scan.last_second,
                 cached,
             }
         }
     }
+}
+
+/// The counts of the key's last second.
+fn last_second(room: &[u64], found: &Found, reading: u64) -> u64 {
+    found.series(room).map_or(0, |at| slot(room, at).last_second(reading))
 }
 
 /// What an increment decides, whether it is admitted, and what it caches.
@@ -56,6 +60,7 @@ struct Outcome {
 fn decide(
     settings: &Settings,
     standing: &Standing,
+    last_second: impl FnOnce() -> u64,
     count: u64,
     draw: u64,
 ) -> Result<Outcome, Refusal> {
@@ -71,7 +76,7 @@ fn decide(
     let Worked { factor, to_cache } = if forecast > hard {
         Worked { factor: 1.0, to_cache: Some(1.0) }
     } else {
-        standing.factor(settings)?
+        standing.factor(settings, last_second)?
     };
     let admitted = admits(factor, draw);
     Ok(Outcome { decision: Decision::Suppressed { factor, admitted }, admitted, to_cache })
@@ -99,20 +104,22 @@ pub fn inc(
     judge_rate(rate)?;
     refuse_if(draw >= TOP, 9)?;
     match found.series(room) {
-        Some(at) => crowded(slot(room, at), found.scan.expired, settings, reading, count)?,
+        Some(at) => crowded(slot(room, at), found.expired, settings, reading, count)?,
         None => refuse_if(count > TOP, 10)?,
     }
     if found.slot.is_none() {
         vacant(room)?;
     }
     let limit = settings.limit(KIND, rate);
-    let outcome = decide(settings, &standing(settings, room, &found, reading, limit), count, draw)?;
+    let stands = standing(settings, room, &found, reading, limit);
+    let last_second = || last_second(room, &found, reading);
+    let outcome = decide(settings, &stands, last_second, count, draw)?;
     let is_new = found.series(room).is_none();
     let mut slot = series_slot(room, found.slot, key)?;
     if is_new {
         slot.open(limit);
     }
-    evict(&mut slot, found.scan.expired);
+    evict(&mut slot, found.expired);
     if let Some(factor) = outcome.to_cache {
         slot.cache(factor, reading);
     }
@@ -130,10 +137,11 @@ fn factor_of(
     at: usize,
     reading: u64,
 ) -> Result<f64, Refusal> {
-    let worked = standing(settings, room, found, reading, 0.0).factor(settings)?;
+    let worked = standing(settings, room, found, reading, 0.0)
+        .factor(settings, || last_second(room, found, reading))?;
     let is_lone = found.series(room).is_none();
     let mut slot = slot_mut(room, at);
-    evict(&mut slot, found.scan.expired);
+    evict(&mut slot, found.expired);
     if let Some(factor) = worked.to_cache {
         if is_lone {
             slot.blank();

@@ -2,7 +2,8 @@
 use crate::faces;
 use crate::refusal::Refusal;
 
-/// Everything that one limiter knows, in plain words without pointers: it may be copied, stored and read back.
+/// Everything that one limiter knows, in plain words without pointers: it may be copied, stored and read back, by the version that
+/// wrote it (where `docs/CHANGES.md` says that words moved, an old room may be read as something else).
 #[derive(Clone, Debug, PartialEq, Eq)]
 pub struct Room {
     words: Box<[u64]>,

@@ -1,5 +1,6 @@
 // The absolute limiter's decisions on a key's slot that is opened: which refusals an increment meets, and what each call changes.
-// `limit` is the key's limit, cut to a whole number once by the caller. The test stands below, in `absolute_test`; the calls above, in `absolute_reads` and `absolute_inc`.
+// `limit` is the key's limit, cut to a whole number once by the caller. The test stands below, in `absolute_test`; the calls above, in
+// `absolute_reads` and `absolute_inc`.
 ghost use mathlib.Core.Path.{_≡_};
 ghost use mathlib.Core.Bool.{_&&_};
 ghost use Rattle.common.specs.Limits.{absoluteWord};

@@ -71,7 +71,7 @@ fn rejected(window: WindowSize, reading: u64, x: Slot) -> RateLimitDecision
     RateLimitDecision::Rejected {
         window_size: window,
         retry_after: ring::less(
-            sweep::TICKS_PER_SECOND * window.0,
+            second::TICKS_PER_SECOND * window.0,
             ring::less(reading, oldest.time),
         ),
         remaining_after_waiting: oldest.count,

@@ -108,17 +108,17 @@ module _ (b : List ℕ) (l f u : ℕ) where
   unfolding fixed
   fixed-time h = read-first [] (writes b ((0, l) ∷ (5, f) ∷ [])) 6 u (omega (arith, length-writes ((0, l) ∷ (5, f) ∷ []) b)) tt
 
-  fixed-cell : (w : ℕ) → fixedWords ≤ w → bucketAt (fixed b l f u) w ≡ bucketAt b w
+  fixed-cell : (r w : ℕ) → fixedWords ≤ w → bucketAt r (fixed b l f u) w ≡ bucketAt r b w
   unfolding fixed
-  fixed-cell w h = bucket-past ((limitAt, l) ∷ (factorAt, f) ∷ (factorTimeAt, u) ∷ []) b w (omega arith) (omega arith) (omega arith)
+  fixed-cell r w h = bucket-past ((limitAt, l) ∷ (factorAt, f) ∷ (factorTimeAt, u) ∷ []) r b w (omega arith) (omega arith) (omega arith)
 
   fixed-view : (r : ℕ) → buckets r (fixed b l f u) ≡ buckets r b
   fixed-view r =
       view-is r (fixed b l f u) (buckets r b) (fixed-word 4 (omega arith) (omega arith) ∙ sym (view-length r b))
       (λ i k.
       let h : lenOf b ≡ length (buckets r b) = sym (view-length r b) in
-      ap (λ (n : ℕ). bucketAt (fixed b l f u) (7 + 3 * wrap r (n + i))) (fixed-word 3 (omega arith) (omega arith)) ∙
-      fixed-cell (cellOf r b i) (omega arith) ∙ sym (view-at r b i (omega arith)))
+      ap (λ (n : ℕ). bucketAt r (fixed b l f u) (7 + wrap r (n + i))) (fixed-word 3 (omega arith) (omega arith)) ∙
+      fixed-cell r (cellOf r b i) (omega arith) ∙ sym (view-at r b i (omega arith)))
 
   pub fixed-holds : (r : ℕ) (xs : List Bucket) → Holds r b xs → Holds r (fixed b l f u) xs
   fixed-holds r xs h = record {

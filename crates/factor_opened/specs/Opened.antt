@@ -1,15 +1,21 @@
 -- A key's suppression factor as the code works it out, on the key's slot x that is opened at reading t: the rules' own clauses on the
--- numbers that the slot has. They are the rules' (`suppressed_verdicts/specs/Seen.antt`), and no contract of a call names them. z says whether the perceived rate
--- is zero.
+-- numbers that the slot has. They are the rules' (`suppressed_verdicts/specs/Seen.antt`), and no contract of a call names them. z says
+-- whether the perceived rate is zero.
 -- Assumes nothing.
-use mathlib.Core.Bool.{Bool, not, _&&_, _||_, cond}
-use Prim.Native.Nat.{ℕ, _-_}
+use mathlib.Core.Path.{_≡_}
+use mathlib.Core.Bool.{Bool, true, not, _&&_, _||_, cond}
+use mathlib.Core.List.{List}
+use Prim.Native.Nat.{ℕ, _-_, _<_}
 use lib.Dec.{ltb, eqb}
 use lib.Ieee.{Float, binary64, ofBits}
 use Rattle.common.specs.Limits.{cutWord, softWord}
 use Rattle.settings.specs.Settings.{windowIn, factorIn, cacheIn}
 use Rattle.settings.specs.declared.Settings.{Settings}
 use Rattle.suppression.specs.declared.CachedFactor.{CachedFactor}
+use Rattle.ring.specs.Ring.{buckets}
+use Rattle.ring.specs.Sound.{Sound}
+use Rattle.room.specs.Room.{Room, slotsOf, ringOf, lastOf, bodyOf}
+use Rattle.rules.specs.Buckets.{lastSecond}
 use Rattle.rules.specs.declared.Asked.{Asked}
 use Rattle.rules.specs.declared.FactorRule.{FactorRule}
 use Rattle.rules.specs.Suppressed.{clauses, freshly, asCached}
@@ -31,14 +37,31 @@ keptAt x = record { «suppression_factor» = ofBits binary64 (x .factor); time =
 unfoldable pub usableAt : ℕ → ℕ → Slot → Bool
 usableAt C t x = staysAt x && ltb (t - x .«factor_time») C
 
+-- ---- the last second, in the room w: without a series there is none
+
+abbrev pub secondAt : List ℕ → ℕ → Slot → ℕ
+secondAt w t x = cond (x .series) (lastSecond t (buckets (ringOf w) (bodyOf w (x .at)))) 0
+
+-- what is asked of the room: a series of x lies in it, and is sound
+pub record InRoom (w : List ℕ) (x : Slot) : Type 0 where
+  pub room : Room w
+  pub inside : x .series ≡ true → x .at < slotsOf w
+  pub sound : x .series ≡ true → Sound (ringOf w) (bodyOf w (x .at)) (lastOf w)
+
 -- ---- the factor, at this limit
 
 unfoldable pub ruleAt : ℕ → ℕ → Slot → FactorRule
 ruleAt S H x = clauses S H (not (x .series) || eqb (left x) 0) (x .pass .«live_total») (x .pass .«live_declined»)
 
-unfoldable pub workedAt : Float → ℕ → ℕ → Slot → ℕ → Bool → Asked
-workedAt F W t x limit z =
-    freshly (ruleAt (softWord F limit) (cutWord limit) x) z (softWord F limit) W t (x .pass .«live_total») (x .pass .«last_second»)
+-- by the soft and the hard limit
+abbrev pub workedBy : ℕ → ℕ → ℕ → List ℕ → ℕ → Slot → Bool → Asked
+workedBy S H W w t x z = freshly (ruleAt S H x) z S W t (x .pass .«live_total») (secondAt w t x)
 
-unfoldable pub askedAt : Settings → ℕ → Slot → ℕ → Bool → Asked
-askedAt s t x limit z = cond (usableAt (cacheIn s) t x) (asCached (x .factor)) (workedAt (factorIn s) (windowIn s) t x limit z)
+unfoldable pub workedAt : Float → ℕ → List ℕ → ℕ → Slot → ℕ → Bool → Asked
+workedAt F W w t x limit z = workedBy (softWord F limit) (cutWord limit) W w t x z
+
+abbrev pub askedBy : Settings → ℕ → ℕ → List ℕ → ℕ → Slot → Bool → Asked
+askedBy s S H w t x z = cond (usableAt (cacheIn s) t x) (asCached (x .factor)) (workedBy S H (windowIn s) w t x z)
+
+unfoldable pub askedAt : Settings → List ℕ → ℕ → Slot → ℕ → Bool → Asked
+askedAt s w t x limit z = cond (usableAt (cacheIn s) t x) (asCached (x .factor)) (workedAt (factorIn s) (windowIn s) w t x limit z)

@@ -1,9 +1,9 @@
 // A key's suppression factor: the cached one while it may be used, else a fresh one, which is then cached.
 ghost use mathlib.Core.Path.{_≡_};
 ghost use lib.Dec.{eqb};
-ghost use Rattle.settings.specs.Settings.{windowIn, factorIn, cacheIn};
+ghost use Rattle.settings.specs.Settings.{windowIn, cacheIn};
 ghost use Rattle.rules.specs.Suppressed.{freshBy, blindBy};
-ghost use Rattle.factor_opened.specs.Opened.{left, staysAt, usableAt, keptAt, ruleAt, workedAt, askedAt};
+ghost use Rattle.factor_opened.specs.Opened.{left, staysAt, usableAt, keptAt, ruleAt, secondAt, InRoom, workedBy, askedBy, askedAt};
 use common::WindowSize;
 use opened::Slot;
 use rules::Asked;
@@ -89,13 +89,43 @@ fn rule_of(x: Slot, soft: u64, hard: u64) -> FactorRule
     FactorRule::Worked
 }
 
-fn fresh_by(by: FactorRule, soft: u64, total: u64, window: WindowSize, last_second: u64) -> f64
-    ensures { λ r. ⌜ r ≡ freshBy by soft total (window .0) «last_second» ⌝ }
+// What the slot's buckets count in the last second.
+fn second_of(w: &[u64], x: Slot, reading: u64) -> u64
+    requires { ⌜ InRoom (now w) x ⌝ }
+    ensures { λ n. ⌜ n ≡ secondAt (now (w .entry)) reading x ⌝ }
+{
+    let series = x.series;
+    if !series {
+        return 0;
+    }
+    let r = w[layout::RING] as usize;
+    let a = room::start(w, x.at);
+    let e = a + (layout::FIXED + layout::CELL * r);
+    second::last_second(&w[a..e], r, w[layout::LAST], reading)
+}
+
+// The last second is asked for by the one rule that works the factor out.
+fn fresh_by(
+    by: FactorRule,
+    w: &[u64],
+    x: Slot,
+    soft: u64,
+    total: u64,
+    window: WindowSize,
+    reading: u64,
+) -> f64
+    requires { ⌜ InRoom (now w) x ⌝ }
+    ensures { λ r. ⌜ r ≡ freshBy by soft total (window .0) (secondAt (now (w .entry)) reading x) ⌝ }
 {
     match by {
         FactorRule::Nil => 0.0,
         FactorRule::One => 1.0,
-        FactorRule::Worked => suppression::fresh_factor(soft, total, window, last_second),
+        FactorRule::Worked => suppression::fresh_factor(
+            soft,
+            total,
+            window,
+            second_of(w, x, reading),
+        ),
     }
 }
 
@@ -110,15 +140,15 @@ fn blind_by(by: FactorRule, nothing: bool) -> bool
     }
 }
 
-// The fresh factor of a slot at a limit, and that it is cached. The perceived rate is zero exactly where nothing was counted.
-fn work_out(settings: Settings, x: Slot, limit: u64, reading: u64) -> Asked
-    ensures { λ r. ⌜ r ≡ workedAt (factorIn settings) (windowIn settings) reading x limit (eqb (x .pass .«live_total») 0) ⌝ }
+// The fresh factor of a slot, and that it is cached. The perceived rate is zero exactly where nothing was counted.
+fn work_out(settings: Settings, w: &[u64], x: Slot, soft: u64, hard: u64, reading: u64) -> Asked
+    requires { ⌜ InRoom (now w) x ⌝ }
+    ensures { λ r. ⌜ r ≡ workedBy soft hard (windowIn settings) (now (w .entry)) reading x (eqb (x .pass .«live_total») 0) ⌝ }
 {
     let pass = x.pass;
     let total = pass.live_total;
-    let soft = common::soft_limit(limit, settings.hard_limit_factor);
-    let by = rule_of(x, soft, common::cut_limit(limit));
-    let factor = fresh_by(by, soft, total, settings.window_size, pass.last_second);
+    let by = rule_of(x, soft, hard);
+    let factor = fresh_by(by, w, x, soft, total, settings.window_size, reading);
     Asked {
         blind: blind_by(by, total == 0),
         factor,
@@ -129,9 +159,10 @@ fn work_out(settings: Settings, x: Slot, limit: u64, reading: u64) -> Asked
     }
 }
 
-// The factor of a slot at a limit: the cached one while it may be used, else a fresh one.
-pub fn ask(settings: Settings, x: Slot, limit: u64, reading: u64) -> Asked
-    ensures { λ r. ⌜ r ≡ askedAt settings reading x limit (eqb (x .pass .«live_total») 0) ⌝ }
+// The factor of a slot of the room `w`, by its soft and its hard limit: the cached one while it may be used, else a fresh one.
+pub fn ask_by(settings: Settings, w: &[u64], x: Slot, soft: u64, hard: u64, reading: u64) -> Asked
+    requires { ⌜ InRoom (now w) x ⌝ }
+    ensures { λ r. ⌜ r ≡ askedBy settings soft hard (now (w .entry)) reading x (eqb (x .pass .«live_total») 0) ⌝ }
 {
     if is_usable(settings, x, reading) {
         let cached = kept(x);
@@ -141,5 +172,14 @@ pub fn ask(settings: Settings, x: Slot, limit: u64, reading: u64) -> Asked
             caching: Caching::Left,
         };
     }
-    work_out(settings, x, limit, reading)
+    work_out(settings, w, x, soft, hard, reading)
+}
+
+// The same by its limit.
+pub fn ask(settings: Settings, w: &[u64], x: Slot, limit: u64, reading: u64) -> Asked
+    requires { ⌜ InRoom (now w) x ⌝ }
+    ensures { λ r. ⌜ r ≡ askedAt settings (now (w .entry)) reading x limit (eqb (x .pass .«live_total») 0) ⌝ }
+{
+    let soft = common::soft_limit(limit, settings.hard_limit_factor);
+    ask_by(settings, w, x, soft, common::cut_limit(limit), reading)
 }

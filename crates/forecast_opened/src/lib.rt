@@ -4,9 +4,10 @@ ghost use Prim.Native.Nat.{_+_, _≤_};
 ghost use lib.Dec.{eqb};
 ghost use Rattle.layout.specs.Layout.{mostTotal};
 ghost use Rattle.rules.specs.Suppressed.{reachOf, fullAt, drawn, declinedBy};
+ghost use Rattle.factor_opened.specs.Opened.{InRoom};
 ghost use Rattle.forecast_opened.specs.Forecast.{forecastAt, outcomeAt};
 use answers::RateLimitDecision;
-use factor_opened::ask;
+use factor_opened::ask_by;
 use opened::Slot;
 use rules::Asked;
 use rules::Caching;
@@ -73,9 +74,10 @@ fn draw_by(a: Asked, count: u64, draw: u64) -> Outcome
     }
 }
 
-// The decision of a count whose forecast and limit are given.
+// The decision of a count whose forecast and limit are given, on a slot of the room `w`.
 pub fn decide(
     settings: Settings,
+    w: &[u64],
     x: Slot,
     limit: u64,
     forecast: u64,
@@ -83,10 +85,12 @@ pub fn decide(
     count: u64,
     draw: u64,
 ) -> Outcome
-    ensures { λ r. ⌜ r ≡ outcomeAt settings reading x limit (eqb (x .pass .«live_total») 0) forecast count draw ⌝ }
+    requires { ⌜ InRoom (now w) x ⌝ }
+    ensures { λ r. ⌜ r ≡ outcomeAt settings (now (w .entry)) reading x limit (eqb (x .pass .«live_total») 0) forecast count draw ⌝ }
 {
     let soft = common::soft_limit(limit, settings.hard_limit_factor);
-    match reach_of(forecast, soft, common::cut_limit(limit)) {
+    let hard = common::cut_limit(limit);
+    match reach_of(forecast, soft, hard) {
         Reach::Hard => Outcome {
             blind: false,
             decision: RateLimitDecision::Allowed,
@@ -108,6 +112,6 @@ pub fn decide(
             declined: count,
             caching: full_at(reading),
         },
-        Reach::Between => draw_by(ask(settings, x, limit, reading), count, draw),
+        Reach::Between => draw_by(ask_by(settings, w, x, soft, hard, reading), count, draw),
     }
 }

@@ -12,7 +12,7 @@ use Rattle.rules.specs.Buckets.{joins}
 
 -- the ith bucket of the words
 abbrev pub bucketOf : ℕ → List ℕ → ℕ → Bucket
-bucketOf r b i = bucketAt b (cellOf r b i)
+bucketOf r b i = bucketAt r b (cellOf r b i)
 
 -- ---- a bucket that counts more
 

@@ -1,7 +1,7 @@
 // A key in words: its length, and four words of eight bytes.
 ghost use mathlib.Core.Path.{_≡_};
 ghost use Prim.Native.Nat.{_+_, _*_, _^_, _<_, _≤_};
-ghost use lib.ListN.{getD};
+ghost use lib.ListN.{length, getD};
 ghost use Rattle.keys.specs.Keys.{pack, keyOf, sameKey, unusedZero};
 
 // A key as the directory has it: its length, and its bytes in four words, the first one lowest.
@@ -13,14 +13,38 @@ pub struct Key {
     pub d: u64,
 }
 
+// Byte `i` of a key.
+fn there(key: &[u8], i: usize) -> u64
+    requires { ⌜ i < length (now key) ⌝ }
+    ensures { λ x. ⌜ (x ≡ getD (now (key .entry)) i 0) × (x < 256) ⌝ }
+{
+    key[i] as u64
+}
+
 // Byte `i` of a key, or 0 past its end.
 fn byte(key: &[u8], i: usize) -> u64
     ensures { λ x. ⌜ (x ≡ getD (now (key .entry)) i 0) × (x < 256) ⌝ }
 {
-    if i < key.len() { key[i] as u64 } else { 0 }
+    if i < key.len() { there(key, i) } else { 0 }
 }
 
-fn packed(key: &[u8], i: usize) -> u64
+// Eight bytes that are all there: the compiler reads them at once.
+fn eight(key: &[u8], i: usize) -> u64
+    requires { ⌜ (i ≤ 24) × (i + 8 ≤ length (now key)) ⌝ }
+    ensures { λ x. ⌜ x ≡ pack (now (key .entry)) i ⌝ }
+{
+    there(key, i)
+        + 256 * there(key, i + 1)
+        + 65536 * there(key, i + 2)
+        + 16777216 * there(key, i + 3)
+        + 4294967296 * there(key, i + 4)
+        + 1099511627776 * there(key, i + 5)
+        + 281474976710656 * there(key, i + 6)
+        + 72057594037927936 * there(key, i + 7)
+}
+
+// Up to eight bytes.
+fn some(key: &[u8], i: usize) -> u64
     requires { ⌜ i ≤ 24 ⌝ }
     ensures { λ x. ⌜ x ≡ pack (now (key .entry)) i ⌝ }
 {
@@ -32,6 +56,19 @@ fn packed(key: &[u8], i: usize) -> u64
         + 1099511627776 * byte(key, i + 5)
         + 281474976710656 * byte(key, i + 6)
         + 72057594037927936 * byte(key, i + 7)
+}
+
+fn packed(key: &[u8], i: usize) -> u64
+    requires { ⌜ i ≤ 24 ⌝ }
+    ensures { λ x. ⌜ x ≡ pack (now (key .entry)) i ⌝ }
+{
+    if key.len() <= i {
+        return 0;
+    }
+    if key.len() < i + 8 {
+        return some(key, i);
+    }
+    eight(key, i)
 }
 
 pub fn key_of(key: &[u8]) -> Key

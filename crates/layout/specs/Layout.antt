@@ -77,13 +77,7 @@ factorTimeAt = 6
 abbrev pub fixedWords : ℕ
 fixedWords = 7
 
--- ---- a cell's words behind the count, which is its first, and how many with it
-
-abbrev pub cellDeclined : ℕ
-cellDeclined = 1
-
-abbrev pub cellTime : ℕ
-cellTime = 2
+-- ---- a bucket's words: its count, its declined and its time. A ring of r has r counts, then r declined, then r times
 
 abbrev pub cellWords : ℕ
 cellWords = 3

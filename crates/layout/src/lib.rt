@@ -49,11 +49,7 @@ pub const FACTOR_TIME: usize = 6;
 
 pub const FIXED: usize = 7;
 
-// A cell's words behind the count, which is its first, and how many with it.
-pub const CELL_DECLINED: usize = 1;
-
-pub const CELL_TIME: usize = 2;
-
+// A bucket's words: its count, its declined and its time. A ring of r has r counts, then r declined, then r times.
 pub const CELL: usize = 3;
 
 // The most slots, the longest ring, the longest key, and the largest total, 2^53.

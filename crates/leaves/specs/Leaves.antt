@@ -45,7 +45,7 @@ use Rattle.rules.specs.declared.Caching.the-variants.{Left, Cached}
 use Rattle.rules.specs.declared.FactorRule.{FactorRule}
 use Rattle.rules.specs.declared.FactorRule.the-variants.{Nil, One, Worked}
 use Rattle.rules.specs.declared.Outcome.{Outcome}
-use Rattle.factor_opened.specs.Opened.{left, staysAt, usableAt, ruleAt, workedAt, askedAt}
+use Rattle.factor_opened.specs.Opened.{left, staysAt, usableAt, ruleAt, secondAt, workedAt, askedAt}
 use Rattle.forecast_opened.specs.Forecast.{acceptedAt, forecastAt}
 use Rattle.rules.specs.Suppressed.{cachedAt, freshBy, blindBy}
 use Rattle.suppressed_edits.specs.Edits.{factorAfter, timeAfter, useAfter, recached, getChange, get-series, loneEdit, loneBy, loneChange, factorChange}
@@ -91,20 +91,20 @@ anew t = record { blind = false; factor = nil; caching = Cached (cachedAt nil t)
 abbrev again : Slot → Asked
 again x = record { blind = false; factor = ofBits binary64 (x .factor); caching = Left }
 
-module _ (s : Settings) (t : ℕ) (x : Slot) (limit : ℕ) (z : Bool) where
-  pub asked-again : usableAt (cacheIn s) t x ≡ true → askedAt s t x limit z ≡ again x
+module _ (s : Settings) (w : List ℕ) (t : ℕ) (x : Slot) (limit : ℕ) (z : Bool) where
+  pub asked-again : usableAt (cacheIn s) t x ≡ true → askedAt s w t x limit z ≡ again x
   unfolding askedAt
-  asked-again u = ap (λ (y : Bool). cond y (again x) (workedAt (factorIn s) (windowIn s) t x limit z)) u
+  asked-again u = ap (λ (y : Bool). cond y (again x) (workedAt (factorIn s) (windowIn s) w t x limit z)) u
 
-  pub asked-anew : x .series ≡ false → usableAt (cacheIn s) t x ≡ false → askedAt s t x limit z ≡ anew t
+  pub asked-anew : x .series ≡ false → usableAt (cacheIn s) t x ≡ false → askedAt s w t x limit z ≡ anew t
   unfolding askedAt workedAt
   asked-anew e u =
       let S = softWord (factorIn s) limit in
-      ap (λ (y : Bool). cond y (again x) (workedAt (factorIn s) (windowIn s) t x limit z)) u ∙
+      ap (λ (y : Bool). cond y (again x) (workedAt (factorIn s) (windowIn s) w t x limit z)) u ∙
       ap (λ (r : FactorRule). record {
         blind = blindBy r z;
-        factor = freshBy r S (x .pass .«live_total») (windowIn s) (x .pass .«last_second»);
-        caching = Cached (cachedAt (freshBy r S (x .pass .«live_total») (windowIn s) (x .pass .«last_second»)) t);
+        factor = freshBy r S (x .pass .«live_total») (windowIn s) (secondAt w t x);
+        caching = Cached (cachedAt (freshBy r S (x .pass .«live_total») (windowIn s) (secondAt w t x)) t);
       }) (rule-lone S (cutWord limit) x e)
 
 -- ---- the calls
@@ -114,10 +114,11 @@ module _ (s : Settings) (w : List ℕ) (t : ℕ) (key : List ℕ) (e : early kin
   q = passed kind.Suppressed s w t key e
 
   -- the factor that `get` and `get_suppression_factor` answer with
-  pub factor-ok : askedAt s t x (x .limit) (eqb (x .pass .«live_total») 0) .blind ≡ false → AskedOk t (askedAt s t x (x .limit) (eqb (x .pass .«live_total») 0))
-  factor-ok b = asked-ok s (q .settings) t x (sums s w t key q x p) (λ c. cached-there s w t key q x p c .word) (x .limit) b
+  pub factor-ok : askedAt s w t x (x .limit) (eqb (x .pass .«live_total») 0) .blind ≡ false →
+      AskedOk t (askedAt s w t x (x .limit) (eqb (x .pass .«live_total») 0))
+  factor-ok b = asked-ok s (q .settings) w t x (sums s w t key q x p) (λ c. cached-there s w t key q x p c .word) (x .limit) b
 
-  caching-ok : (a : Asked) → a ≡ askedAt s t x (x .limit) (eqb (x .pass .«live_total») 0) → a .blind ≡ false → CachingOk t (a .caching)
+  caching-ok : (a : Asked) → a ≡ askedAt s w t x (x .limit) (eqb (x .pass .«live_total») 0) → a .blind ≡ false → CachingOk t (a .caching)
   caching-ok a i b = subst (λ (y : Asked). AskedOk t y) (sym i) (factor-ok (sym (ap (λ (y : Asked). y .blind) i) ∙ b)) .caching
 
   -- its slot has the key
@@ -170,7 +171,7 @@ module _ (s : Settings) (w : List ℕ) (t : ℕ) (key : List ℕ) (e : early kin
       (key-has (with-series s w t key e x p h)) (update-changed w at key (bucketIn s) t d g))
       (key-fits key y (q .short)) (evicted-right s w t key q x p k o h) (live-known h)
 
-  module _ (a : Asked) (i : a ≡ askedAt s t x (x .limit) (eqb (x .pass .«live_total») 0)) (b : a .blind ≡ false) where
+  module _ (a : Asked) (i : a ≡ askedAt s w t x (x .limit) (eqb (x .pass .«live_total») 0)) (b : a .blind ≡ false) where
     -- ---- get
     get-words : applied w (x .at) key (bucketIn s) t (getChange x (a .caching)) ≡ get s w t key .words
     get-words = get-done s w t key e x p a i b (snapshotAt x (a .factor)) (getChange x (a .caching))
@@ -213,7 +214,7 @@ module _ (s : Settings) (w : List ℕ) (t : ℕ) (key : List ℕ) (e : early kin
       -- "but gives a lone cached factor at age below C": the reading alone is stored
       pub factor-keeps : x .series ≡ false → usableAt (cacheIn s) t x ≡ true → getFactor s w t key .words ≡ withReading w t
       factor-keeps h u =
-          let k : a .caching ≡ Left = ap (λ (y : Asked). y .caching) (i ∙ asked-again s t x (x .limit) (eqb (x .pass .«live_total») 0) u) in
+          let k : a .caching ≡ Left = ap (λ (y : Asked). y .caching) (i ∙ asked-again s w t x (x .limit) (eqb (x .pass .«live_total») 0) u) in
           sym factor-words ∙
           ap (applied w (placeOf w x) key (bucketIn s) t) (sym (factor-lone x (a .caching) t h) ∙ ap (λ (j : Caching). loneChange (x .cached) j t) k) ∙
           keep-words w (placeOf w x) key (bucketIn s) t
@@ -224,7 +225,8 @@ module _ (s : Settings) (w : List ℕ) (t : ℕ) (key : List ℕ) (e : early kin
       unfolding editedView actedView startedView
       factor-lone-stands y h u =
           let at = placeOf w x in
-          let k : a .caching ≡ Cached (cachedAt nil t) = ap (λ (j : Asked). j .caching) (i ∙ asked-anew s t x (x .limit) (eqb (x .pass .«live_total») 0) h u) in
+          let k : a .caching ≡ Cached (cachedAt nil t) = ap (λ (j : Asked). j .caching)
+          (i ∙ asked-anew s w t x (x .limit) (eqb (x .pass .«live_total») 0) h u) in
           let c : loneBy (x .cached) t ≡ factorChange x (a .caching) t =
           sym (ap (λ (j : Caching). loneChange (x .cached) j t) k) ∙ factor-lone x (a .caching) t h in
           let g : EditsAt w at (bucketIn s) t (loneEdit t) = either (loneEdit t) (x .cached)
@@ -237,12 +239,12 @@ module _ (s : Settings) (w : List ℕ) (t : ℕ) (key : List ℕ) (e : early kin
 
   -- ---- inc
   module _ (rate : RateLimit) (c draw : ℕ) (f : first (incLate s x (lacksAt w (placeOf w x) x) (ringOf w) t rate c draw) ≡ 0) (o : Outcome)
-      (i : o ≡ incOutcome s t rate c draw x (eqb (x .pass .«live_total») 0)) (b : o .blind ≡ false) where
+      (i : o ≡ incOutcome s w t rate c draw x (eqb (x .pass .«live_total») 0)) (b : o .blind ≡ false) where
     -- the decision's factor, and what is cached
     pub decision-ok : DecisionOk (o .decision) × CachingOk t (o .caching)
     decision-ok =
         subst (λ (y : Outcome). DecisionOk (y .decision) × CachingOk t (y .caching)) (sym i)
-        (outcome-ok s (q .settings) t x (sums s w t key q x p) (λ y. cached-there s w t key q x p y .word) (limitAt s x rate) (forecastAt x c) c draw
+        (outcome-ok s (q .settings) w t x (sums s w t key q x p) (λ y. cached-there s w t key q x p y .word) (limitAt s x rate) (forecastAt x c) c draw
         (sym (ap (λ (y : Outcome). y .blind) i) ∙ b))
 
     rate-ok : rateOk (rate .0) ≡ true

@@ -51,7 +51,7 @@ use Rattle.suppressed_refusals.specs.Refusals.{incLate}
 use Rattle.suppressed_verdicts.specs.Calls.{get, getFactor, inc}
 use Rattle.suppressed_verdicts.specs.Opened.{unperceived, askingAt, snapshotAt, limitAt, incOutcome}
 use Rattle.suppressed_verdicts.specs.Laws.{get-done, factor-done, inc-done}
-use Rattle.suppressed_verdicts.specs.Seen.{usable-is, asking-is, limit-is, decides, late-is}
+use Rattle.suppressed_verdicts.specs.Seen.{usable-is, second-is, asking-is, limit-is, decides, late-is}
 use Rattle.suppressed_verdicts.specs.Standing.{sums, unperceived-is}
 use Rattle.leaves.specs.Calls.{Stands}
 use Rattle.leaves.specs.Follows.{Follows, call-follows}
@@ -122,11 +122,11 @@ module _ (s : Settings) (w : List ℕ) (t : ℕ) (key : List ℕ) where
     o : Seen (windowIn s) t (heldIn w key) (slotIn s w t key)
     o = seen kind.Suppressed s w t key q
 
-    asks : askingAt s t (slotIn s w t key) ≡ asking s t (heldIn w key)
-    asks = asking-is s t h x o
+    asks : askingAt s w t (slotIn s w t key) ≡ asking s t (heldIn w key)
+    asks = asking-is s t h x o w (second-is s w t key q)
 
-    asked-is : asking s t (heldIn w key) ≡ askedAt s t (slotIn s w t key) (slotIn s w t key .limit) (eqb (slotIn s w t key .pass .«live_total») 0)
-    asked-is = sym asks ∙ ap (askedAt s t x (x .limit)) (unperceived-is s w t key q x refl)
+    asked-is : asking s t (heldIn w key) ≡ askedAt s w t (slotIn s w t key) (slotIn s w t key .limit) (eqb (slotIn s w t key .pass .«live_total») 0)
+    asked-is = sym asks ∙ ap (askedAt s w t x (x .limit)) (unperceived-is s w t key q x refl)
 
     series-as : (z : Bool) → heldIn w key .known ≡ z → slotIn s w t key .series ≡ z
     series-as z f = o .series-is ∙ f
@@ -137,7 +137,7 @@ module _ (s : Settings) (w : List ℕ) (t : ℕ) (key : List ℕ) where
         unseen (softWord (factorIn s) limit) (cutWord limit) (liveOf s t (heldIn w key))
     thirteen limit =
         let n = sums s w t key q x refl in
-        blind-is s t limit h (q .settings .window-low) (q .settings .window-high) (omega (arith, n .recent, o .recent-is, o .live-is))
+        blind-is s t limit h (q .settings .window-low) (q .settings .window-high) (omega (arith, n .recent, second-is s w t key q, o .live-is))
         (omega (arith, n .declined, o .declined-is, o .live-is)) (omega (arith, n .most, o .live-is))
 
     -- ---- get
@@ -174,7 +174,7 @@ module _ (s : Settings) (w : List ℕ) (t : ℕ) (key : List ℕ) where
           kept = λ g u. factor-keeps s w t key e x refl a asked-is b l (series-as false g) (usable-as ∙ u);
           anew = λ g u. factor-lone-stands s w t key e x refl a asked-is b l y (series-as false g) (usable-as ∙ u);
           anew-zero = λ g u. ap (λ (j : Asked). j .factor)
-              (asked-is ∙ asked-anew s t x (x .limit) (eqb (x .pass .«live_total») 0) (series-as false g) (usable-as ∙ u));
+              (asked-is ∙ asked-anew s w t x (x .limit) (eqb (x .pass .«live_total») 0) (series-as false g) (usable-as ∙ u));
         }
 
     -- ---- inc
@@ -186,8 +186,8 @@ module _ (s : Settings) (w : List ℕ) (t : ℕ) (key : List ℕ) where
       decided = outcome s t (limitFor s rate (heldIn w key)) c draw (heldIn w key)
 
       outcome-told : outcome s t (limitFor s rate (heldIn w key)) c draw (heldIn w key) ≡
-          incOutcome s t rate c draw (slotIn s w t key) (eqb (slotIn s w t key .pass .«live_total») 0)
-      outcome-told = sym (decides s w t key rate c draw q) ∙ ap (incOutcome s t rate c draw x) (unperceived-is s w t key q x refl)
+          incOutcome s w t rate c draw (slotIn s w t key) (eqb (slotIn s w t key .pass .«live_total») 0)
+      outcome-told = sym (decides s w t key rate c draw q) ∙ ap (incOutcome s w t rate c draw x) (unperceived-is s w t key q x refl)
 
       declined-is : outcome s t (limitFor s rate (heldIn w key)) c draw (heldIn w key) .declined ≡
           declinedBy (admits (outcome s t (limitFor s rate (heldIn w key)) c draw (heldIn w key) .decision)) c

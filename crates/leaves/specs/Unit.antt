@@ -2,6 +2,7 @@
 -- Assumes nothing.
 use mathlib.Core.Path.{_≡_, refl, subst}
 use mathlib.Core.Bool.{Bool, true, false, not, _&&_, _||_, cond}
+use mathlib.Core.List.{List}
 use Prim.Native.Nat.{ℕ, _-_, _≤_}
 use native.Mathlib.Omega.{arith}
 use lib.Dec.{leb, ltb, eqb}
@@ -24,7 +25,7 @@ use Rattle.rules.specs.declared.Caching.the-variants.{Left, Cached}
 use Rattle.rules.specs.declared.Asked.{Asked}
 use Rattle.rules.specs.declared.Reach.{Reach}
 use Rattle.rules.specs.declared.Reach.the-variants.{Hard, Soft, Over, Between}
-use Rattle.factor_opened.specs.Opened.{left, staysAt, usableAt, ruleAt, workedAt, askedAt}
+use Rattle.factor_opened.specs.Opened.{left, staysAt, usableAt, ruleAt, secondAt, workedAt, askedAt}
 use Rattle.forecast_opened.specs.Forecast.{acceptedAt, outcomeAt}
 use Rattle.rules.specs.Suppressed.{freshBy, blindBy, reachOf, drawn, outcomeOf}
 use Rattle.suppressed_verdicts.specs.Standing.{Sums}
@@ -69,19 +70,19 @@ pub record Within01 (f : Float) : Type 0 where
   pub unit : Unit01 f
   pub word : factorWordOk (toBits binary64 f) ≡ true
 
-module _ (x : Slot) (o : Sums x) (W : ℕ) (p : 1 ≤ W) (q : W ≤ 33554432) where
+module _ (w : List ℕ) (t : ℕ) (x : Slot) (o : Sums w t x) (W : ℕ) (p : 1 ≤ W) (q : W ≤ 33554432) where
   by-rule : (S H : ℕ) (r : FactorRule) → ruleAt S H x ≡ r → blindBy r (eqb (x .pass .«live_total») 0) ≡ false →
-      Within01 (freshBy r S (x .pass .«live_total») W (x .pass .«last_second»))
+      Within01 (freshBy r S (x .pass .«live_total») W (secondAt w t x))
   by-rule S H Nil e b = record { unit = unit-nil; word = word-nil }
   by-rule S H One e b = record { unit = unit-one; word = word-one }
   by-rule S H Worked e b =
       let l = worked-soft S H x e in
       let n = eqb-false (x .pass .«live_total») 0 b in
-      let k : Counted S (x .pass .«live_total») W (x .pass .«last_second») =
+      let k : Counted S (x .pass .«live_total») W (secondAt w t x) =
       record { soft = omega arith; some = omega arith; few = o .most; from = p; to = q; newest = omega (arith, o .recent, o .most) } in
       record {
-        unit = fresh-unit S (x .pass .«live_total») W (x .pass .«last_second») k;
-        word = fresh-ok S (x .pass .«live_total») W (x .pass .«last_second») k;
+        unit = fresh-unit S (x .pass .«live_total») W (secondAt w t x) k;
+        word = fresh-ok S (x .pass .«live_total») W (secondAt w t x) k;
       }
 
 -- ---- the factor that is asked for
@@ -100,26 +101,26 @@ unfolding usableAt staysAt
 usable-cached C t x e = and-true (x .cached) (eqb (x .pass .expired) 0)
     (and-true (x .cached && eqb (x .pass .expired) 0) (ltb (t - x .«factor_time») C) e .0) .0
 
-module _ (s : Settings) (p : Proper s) (t : ℕ) (x : Slot) (o : Sums x) (h : x .cached ≡ true → factorWordOk (x .factor) ≡ true) where
-  worked-ok : (limit : ℕ) → workedAt (factorIn s) (windowIn s) t x limit (eqb (x .pass .«live_total») 0) .blind ≡ false →
-      AskedOk t (workedAt (factorIn s) (windowIn s) t x limit (eqb (x .pass .«live_total») 0))
+module _ (s : Settings) (p : Proper s) (w : List ℕ) (t : ℕ) (x : Slot) (o : Sums w t x) (h : x .cached ≡ true → factorWordOk (x .factor) ≡ true) where
+  worked-ok : (limit : ℕ) → workedAt (factorIn s) (windowIn s) w t x limit (eqb (x .pass .«live_total») 0) .blind ≡ false →
+      AskedOk t (workedAt (factorIn s) (windowIn s) w t x limit (eqb (x .pass .«live_total») 0))
   unfolding workedAt
   worked-ok limit b =
       let S = softWord (factorIn s) limit in
       let H = cutWord limit in
-      let r = by-rule x o (windowIn s) (p .window-low) (p .window-high) S H (ruleAt S H x) refl b in
+      let r = by-rule w t x o (windowIn s) (p .window-low) (p .window-high) S H (ruleAt S H x) refl b in
       record { unit = r .unit; caching = (r .word, omega arith) }
 
   by-use : (limit : ℕ) (z : Bool) → usableAt (cacheIn s) t x ≡ z →
       cond z (record { blind = false; factor = ofBits binary64 (x .factor); caching = Left })
-      (workedAt (factorIn s) (windowIn s) t x limit (eqb (x .pass .«live_total») 0)) .blind ≡ false →
+      (workedAt (factorIn s) (windowIn s) w t x limit (eqb (x .pass .«live_total») 0)) .blind ≡ false →
       AskedOk t (cond z (record { blind = false; factor = ofBits binary64 (x .factor); caching = Left })
-      (workedAt (factorIn s) (windowIn s) t x limit (eqb (x .pass .«live_total») 0)))
+      (workedAt (factorIn s) (windowIn s) w t x limit (eqb (x .pass .«live_total») 0)))
   by-use limit true e b = record { unit = factor-unit (x .factor) (h (usable-cached (cacheIn s) t x e)); caching = tt }
   by-use limit false e b = worked-ok limit b
 
-  pub asked-ok : (limit : ℕ) → askedAt s t x limit (eqb (x .pass .«live_total») 0) .blind ≡ false →
-      AskedOk t (askedAt s t x limit (eqb (x .pass .«live_total») 0))
+  pub asked-ok : (limit : ℕ) → askedAt s w t x limit (eqb (x .pass .«live_total») 0) .blind ≡ false →
+      AskedOk t (askedAt s w t x limit (eqb (x .pass .«live_total») 0))
   unfolding askedAt
   asked-ok limit b = by-use limit (usableAt (cacheIn s) t x) refl b
 
@@ -139,11 +140,11 @@ by-reach Soft a t c draw g b = (tt, tt)
 by-reach Over a t c draw g b = (unit-one, (word-one, omega arith))
 by-reach Between a t c draw g b = (g b .unit, g b .caching)
 
-module _ (s : Settings) (p : Proper s) (t : ℕ) (x : Slot) (o : Sums x) (h : x .cached ≡ true → factorWordOk (x .factor) ≡ true) where
-  pub outcome-ok : (limit n c draw : ℕ) → outcomeAt s t x limit (eqb (x .pass .«live_total») 0) n c draw .blind ≡ false →
-      DecisionOk (outcomeAt s t x limit (eqb (x .pass .«live_total») 0) n c draw .decision) × CachingOk t
-      (outcomeAt s t x limit (eqb (x .pass .«live_total») 0) n c draw .caching)
+module _ (s : Settings) (p : Proper s) (w : List ℕ) (t : ℕ) (x : Slot) (o : Sums w t x) (h : x .cached ≡ true → factorWordOk (x .factor) ≡ true) where
+  pub outcome-ok : (limit n c draw : ℕ) → outcomeAt s w t x limit (eqb (x .pass .«live_total») 0) n c draw .blind ≡ false →
+      DecisionOk (outcomeAt s w t x limit (eqb (x .pass .«live_total») 0) n c draw .decision) × CachingOk t
+      (outcomeAt s w t x limit (eqb (x .pass .«live_total») 0) n c draw .caching)
   unfolding outcomeAt
   outcome-ok limit n c draw b =
-      by-reach (reachOf n (softWord (factorIn s) limit) (cutWord limit)) (askedAt s t x limit (eqb (x .pass .«live_total») 0)) t c draw
-      (asked-ok s p t x o h limit) b
+      by-reach (reachOf n (softWord (factorIn s) limit) (cutWord limit)) (askedAt s w t x limit (eqb (x .pass .«live_total») 0)) t c draw
+      (asked-ok s p w t x o h limit) b

@@ -44,7 +44,6 @@ fn no_pass() -> Pass
         expired: 0,
         live_total: 0,
         live_declined: 0,
-        last_second: 0,
         oldest: none,
         newest: none,
     }
@@ -104,7 +103,7 @@ fn series_pass(b: &[u64], r: usize, last: u64, reading: u64, window: u64, series
     if !series {
         return no_pass();
     }
-    sweep::pass(b, r, last, reading, sweep::TICKS_PER_SECOND * window)
+    sweep::pass(b, r, last, reading, second::TICKS_PER_SECOND * window)
 }
 
 // The body of slot `at`, of use `u`, opened: the one pass over its buckets is made here.

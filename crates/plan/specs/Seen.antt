@@ -42,7 +42,6 @@ pub record Seen (W t : ℕ) (h : Held) (x : Slot) : Type 0 where
   pub gone-is : x .pass .expired ≡ gone W t (h .buckets)
   pub live-is : x .pass .«live_total» ≡ counts (live W t (h .buckets))
   pub declined-is : x .pass .«live_declined» ≡ declineds (live W t (h .buckets))
-  pub recent-is : x .pass .«last_second» ≡ lastSecond t (live W t (h .buckets))
   pub oldest-is : x .pass .oldest ≡ getD (h .buckets) (gone W t (h .buckets)) noBucket
   pub newest-is : x .pass .newest ≡ newest (h .buckets)
 
@@ -79,7 +78,6 @@ pass-of-none W t x y factor since e c p f m = record {
   gone-is = ap (λ (q : Pass). q .expired) p;
   live-is = ap (λ (q : Pass). q .«live_total») p;
   declined-is = ap (λ (q : Pass). q .«live_declined») p;
-  recent-is = ap (λ (q : Pass). q .«last_second») p;
   oldest-is = ap (λ (q : Pass). q .oldest) p;
   newest-is = ap (λ (q : Pass). q .newest) p;
 }
@@ -113,7 +111,6 @@ module _ (kind : RoomKind) (s : Settings) (w : List ℕ) (t at : ℕ) (x : Slot)
       let m = k .measured in
       let W = windowTicks (windowIn s) in
       let xs = buckets (ringOf w) b in
-      let long : 1000 ≤ windowTicks (windowIn s) = omega (arith, low) in
       record {
         absent = λ z. absurd (false≢true (sym z));
         series-is = e;
@@ -126,7 +123,6 @@ module _ (kind : RoomKind) (s : Settings) (w : List ℕ) (t at : ℕ) (x : Slot)
         gone-is = m .expired-are;
         live-is = m .total ∙ ap (λ (i : ℕ). counts (drop i xs)) (m .expired-are);
         declined-is = m .declined ∙ ap (λ (i : ℕ). declineds (drop i xs)) (m .expired-are);
-        recent-is = m .recent ∙ ap counts (recent-live 1000 W t long xs);
         oldest-is = m .oldest-is ∙ ap (λ (i : ℕ). getD xs i noBucket) (m .expired-are);
         newest-is = m .newest-is;
       }

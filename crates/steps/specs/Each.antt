@@ -63,7 +63,7 @@ use Rattle.absolute_verdicts.specs.Seen.{own-is, makes-is}
 use Rattle.factor_opened.specs.Opened.{askedAt}
 use Rattle.forecast_opened.specs.Forecast.{forecastAt}
 use Rattle.suppressed_verdicts.specs.Opened.{limitAt, incOutcome}
-use Rattle.suppressed_verdicts.specs.Seen.{asking-is, limit-is, decides, late-is}
+use Rattle.suppressed_verdicts.specs.Seen.{second-is, asking-is, limit-is, decides, late-is}
 use Rattle.suppressed_verdicts.specs.Standing.{unperceived-is, place-inside}
 use Rattle.suppressed_verdicts.specs.Calls as OnSuppressed
 use Rattle.suppressed_verdicts.specs.Laws as suppressed
@@ -159,8 +159,8 @@ module _ (s : Settings) (w : List ℕ) (t : ℕ) (key : List ℕ) where
     sees : Seen (windowIn s) t (heldIn w key) (slotIn s w t key)
     sees = seen kind.Suppressed s w t key passing
 
-    asked-as : rules.asking s t (heldIn w key) ≡ askedAt s t (slotIn s w t key) (slotIn s w t key .limit) (eqb (slotIn s w t key .pass .«live_total») 0)
-    asked-as = sym (asking-is s t h x sees) ∙ ap (askedAt s t x (x .limit)) (unperceived-is s w t key passing x refl)
+    asked-as : rules.asking s t (heldIn w key) ≡ askedAt s w t (slotIn s w t key) (slotIn s w t key .limit) (eqb (slotIn s w t key .pass .«live_total») 0)
+    asked-as = sym (asking-is s t h x sees w (second-is s w t key passing)) ∙ ap (askedAt s w t x (x .limit)) (unperceived-is s w t key passing x refl)
 
     caching : asks .blind ≡ false → CachingOk t (asks .caching)
     caching b =
@@ -236,10 +236,10 @@ module _ (s : Settings) (w : List ℕ) (t : ℕ) (key : List ℕ) where
         none-first _ (g .0, (g .1 .0, (g .1 .1 .0, (g .1 .1 .1 .0, (g .1 .1 .1 .1 .0, tt)))))
 
     -- what the code works out is what the rules decide
-    worked : (e : early kind.Suppressed s w t key ≡ 0) → outcome ≡ incOutcome s t rate c draw x (eqb (x .pass .«live_total») 0)
+    worked : (e : early kind.Suppressed s w t key ≡ 0) → outcome ≡ incOutcome s w t rate c draw x (eqb (x .pass .«live_total») 0)
     worked e =
         let p = passed kind.Suppressed s w t key e in
-        sym (decides s w t key rate c draw p) ∙ ap (incOutcome s t rate c draw x) (unperceived-is s w t key p x refl)
+        sym (decides s w t key rate c draw p) ∙ ap (incOutcome s w t rate c draw x) (unperceived-is s w t key p x refl)
 
     pub draws-does : Bytes key → early kind.Suppressed s w t key ≡ 0 → first own ≡ 0 → Does kind.Suppressed s w t key (placeOf w x) adds
     draws-does by e f =

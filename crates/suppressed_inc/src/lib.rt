@@ -48,7 +48,7 @@ pub fn inc(
     }
     let limit = limit_for(settings, x, rate);
     let forecast = forecast_opened::forecast(x, count);
-    let outcome = forecast_opened::decide(settings, x, limit, forecast, reading, count, draw);
+    let outcome = forecast_opened::decide(settings, room, x, limit, forecast, reading, count, draw);
     let blind = outcome.blind;
     let decision = outcome.decision;
     let caching = outcome.caching;

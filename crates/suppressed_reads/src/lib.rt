@@ -37,7 +37,7 @@ pub fn get(settings: Settings, room: &mut [u64], reading: u64, key: &[u8]) -> Sn
     if code != 0 {
         return SnapshotAnswer::Refused(code);
     }
-    let asked = factor_opened::ask(settings, x, x.limit, reading);
+    let asked = factor_opened::ask(settings, room, x, x.limit, reading);
     let blind = asked.blind;
     let caching = asked.caching;
     let size = settings.bucket_size;
@@ -75,7 +75,7 @@ pub fn get_suppression_factor(
     if plan::lacks_slot(room, at, x) {
         return FactorAnswer::Refused(11);
     }
-    let asked = factor_opened::ask(settings, x, x.limit, reading);
+    let asked = factor_opened::ask(settings, room, x, x.limit, reading);
     let blind = asked.blind;
     let caching = asked.caching;
     let size = settings.bucket_size;

@@ -43,7 +43,7 @@ use Rattle.rules.specs.declared.Asked.{Asked}
 use Rattle.rules.specs.declared.Caching.{Caching}
 use Rattle.rules.specs.declared.Caching.the-variants.{Left, Cached}
 use Rattle.rules.specs.declared.Outcome.{Outcome}
-use Rattle.factor_opened.specs.Opened.{askedAt}
+use Rattle.factor_opened.specs.Opened.{InRoom, askedAt}
 use Rattle.forecast_opened.specs.Forecast.{forecastAt, outcomeAt, outcome-declined}
 use Rattle.suppressed_edits.specs.Edits.{factorAfter, timeAfter, useAfter, recached, getChange, loneBy, loneChange, factorChange, incEdit, incChange}
 use Rattle.suppressed_refusals.specs.Refusals.{incLate}
@@ -129,16 +129,16 @@ module _ (s : Settings) (w : List ℕ) (t : ℕ) (key : List ℕ) (e : early kin
   known-place h = subst (λ (n : ℕ). Known kind.Suppressed s w t n x) (sym (place-used (with-series h))) (known s w t key passing x p h)
 
   -- the factor that the code has worked out is the one that is asked for
-  asked-is : (a : Asked) → a ≡ askedAt s t x (x .limit) (eqb (x .pass .«live_total») 0) → a ≡ askingAt s t (slotIn s w t key)
+  asked-is : (a : Asked) → a ≡ askedAt s w t x (x .limit) (eqb (x .pass .«live_total») 0) → a ≡ askingAt s w t (slotIn s w t key)
   asked-is a h =
-      h ∙ ap (askedAt s t x (x .limit)) (sym (unperceived-is s w t key passing x p)) ∙ ap (λ (y : Slot). askingAt s t y) p
+      h ∙ ap (askedAt s w t x (x .limit)) (sym (unperceived-is s w t key passing x p)) ∙ ap (λ (y : Slot). askingAt s w t y) p
 
   -- ---- get
-  get-is : (a : Asked) → a ≡ askedAt s t x (x .limit) (eqb (x .pass .«live_total») 0) → get s w t key ≡ getOn s w t key x a
+  get-is : (a : Asked) → a ≡ askedAt s w t x (x .limit) (eqb (x .pass .«live_total») 0) → get s w t key ≡ getOn s w t key x a
   unfolding get
   get-is a h = sym (ap₂ (λ (y : Slot) (b : Asked). getOn s w t key y b) p (asked-is a h))
 
-  pub get-blind : (a : Asked) → a ≡ askedAt s t x (x .limit) (eqb (x .pass .«live_total») 0) → a .blind ≡ true →
+  pub get-blind : (a : Asked) → a ≡ askedAt s w t x (x .limit) (eqb (x .pass .«live_total») 0) → a .blind ≡ true →
       Told (Calls.get s w t key) (snapshot.Refused 13) w
   unfolding getOn
   get-blind a h b =
@@ -146,7 +146,7 @@ module _ (s : Settings) (w : List ℕ) (t : ℕ) (key : List ℕ) (e : early kin
       (call-own snapshot.Refused kind.Suppressed s w t key (getOwn a) (getDoes s w t key x a) 13 e (one-more (a .blind) b) (λ z. omega arith))
 
   -- y are the words after, u the snapshot
-  pub get-done : (a : Asked) → a ≡ askedAt s t x (x .limit) (eqb (x .pass .«live_total») 0) → a .blind ≡ false →
+  pub get-done : (a : Asked) → a ≡ askedAt s w t x (x .limit) (eqb (x .pass .«live_total») 0) → a .blind ≡ false →
       (u : SuppressedRateLimitSnapshot) (ch : Change) (y : List ℕ) → u ≡ snapshotAt x (a .factor) → ch ≡ getChange x (a .caching) →
       y ≡ applied w (x .at) key (bucketIn s) t ch → Told (Calls.get s w t key) (snapshot.Snapshot u) y
   unfolding getOn
@@ -167,7 +167,7 @@ module _ (s : Settings) (w : List ℕ) (t : ℕ) (key : List ℕ) (e : early kin
   get-applies k ch h = subst (λ (d : Change). Applies w (x .at) (bucketIn s) t d) (sym h) (get-carries k)
 
   -- ---- get_suppression_factor
-  factor-is : (a : Asked) → a ≡ askedAt s t x (x .limit) (eqb (x .pass .«live_total») 0) → getFactor s w t key ≡ factorOn s w t key x a
+  factor-is : (a : Asked) → a ≡ askedAt s w t x (x .limit) (eqb (x .pass .«live_total») 0) → getFactor s w t key ≡ factorOn s w t key x a
   unfolding getFactor
   factor-is a h = sym (ap₂ (λ (y : Slot) (b : Asked). factorOn s w t key y b) p (asked-is a h))
 
@@ -179,18 +179,18 @@ module _ (s : Settings) (w : List ℕ) (t : ℕ) (key : List ℕ) (e : early kin
     pub factor-full : full ≡ true → Told (Calls.getFactor s w t key) (factor.Refused 11) w
     unfolding factorOn first
     factor-full f =
-        let a : Asked = askedAt s t x (x .limit) (eqb (x .pass .«live_total») 0) in
+        let a : Asked = askedAt s w t x (x .limit) (eqb (x .pass .«live_total») 0) in
         rw (← factor-opened s w t key, factor-is a refl)
         (call-own factor.Refused kind.Suppressed s w t key (factorOwn w x a) (factorDoes s w t key x a) 11 e (sym (rw (full-is, f))) (λ z. omega arith))
 
-    pub factor-blind : full ≡ false → (a : Asked) → a ≡ askedAt s t x (x .limit) (eqb (x .pass .«live_total») 0) → a .blind ≡ true →
+    pub factor-blind : full ≡ false → (a : Asked) → a ≡ askedAt s w t x (x .limit) (eqb (x .pass .«live_total») 0) → a .blind ≡ true →
         Told (Calls.getFactor s w t key) (factor.Refused 13) w
     unfolding factorOn first
     factor-blind f a h b =
         rw (← factor-opened s w t key, factor-is a h)
         (call-own factor.Refused kind.Suppressed s w t key (factorOwn w x a) (factorDoes s w t key x a) 13 e (sym (rw (full-is, f, b))) (λ z. omega arith))
 
-    pub factor-done : full ≡ false → (a : Asked) → a ≡ askedAt s t x (x .limit) (eqb (x .pass .«live_total») 0) → a .blind ≡ false →
+    pub factor-done : full ≡ false → (a : Asked) → a ≡ askedAt s w t x (x .limit) (eqb (x .pass .«live_total») 0) → a .blind ≡ false →
         (ch : Change) (y : List ℕ) → ch ≡ factorChange x (a .caching) t → y ≡ applied w at key (bucketIn s) t ch →
         Told (Calls.getFactor s w t key) (factor.Factor (a .factor)) y
     unfolding factorOn first
@@ -232,17 +232,17 @@ module _ (s : Settings) (w : List ℕ) (t : ℕ) (key : List ℕ) (e : early kin
       late-is : late ≡ first (incLate s x (lacksAt w (placeOf w x) x) (ringOf w) t rate c draw)
       late-is = l ∙ ap₂ (λ (b : Bool) (j : ℕ). first (incLate s x b j t rate c draw)) (sym full-is) i
 
-      inc-is : (o : Outcome) → o ≡ incOutcome s t rate c draw x (eqb (x .pass .«live_total») 0) → inc s w t key rate c draw ≡ incOn s w t key rate c draw x o
+      inc-is : (o : Outcome) → o ≡ incOutcome s w t rate c draw x (eqb (x .pass .«live_total») 0) → inc s w t key rate c draw ≡ incOn s w t key rate c draw x o
       unfolding inc
       inc-is o h =
           sym (ap₂ (λ (y : Slot) (b : Outcome). incOn s w t key rate c draw y b) p
-          (h ∙ ap (incOutcome s t rate c draw x) (sym (unperceived-is s w t key passing x p)) ∙
-          ap (λ (y : Slot). incOutcome s t rate c draw y (unperceived s y)) p))
+          (h ∙ ap (incOutcome s w t rate c draw x) (sym (unperceived-is s w t key passing x p)) ∙
+          ap (λ (y : Slot). incOutcome s w t rate c draw y (unperceived s w t y)) p))
 
       pub inc-late : (late ≡ 0 → ⊥) → Told (Calls.inc s w t key rate c draw) (decision.Refused late) w
       unfolding incOn
       inc-late z =
-          let o : Outcome = incOutcome s t rate c draw x (eqb (x .pass .«live_total») 0) in
+          let o : Outcome = incOutcome s w t rate c draw x (eqb (x .pass .«live_total») 0) in
           rw (← inc-opened s w t key rate c draw, inc-is o refl)
           (call-own decision.Refused kind.Suppressed s w t key (incOwn s w t rate c draw x o) (incDoes s w t key rate c x o) late e
           (found-late (incLate s x (lacksAt w (placeOf w x) x) (ringOf w) t rate c draw) late-positive (o .blind) late late-is z) z)
@@ -274,12 +274,12 @@ module _ (s : Settings) (w : List ℕ) (t : ℕ) (key : List ℕ) (e : early kin
 
         -- o is the outcome that the code has found, at the limit and the forecast that it has worked out
         module _ (o : Outcome) (limit ahead : ℕ) (a : limit ≡ limitAt s x rate) (b : ahead ≡ forecastAt x c)
-            (h : o ≡ outcomeAt s t x limit (eqb (x .pass .«live_total») 0) ahead c draw) where
-          outcome-is : o ≡ incOutcome s t rate c draw x (eqb (x .pass .«live_total») 0)
-          outcome-is = h ∙ ap₂ (λ (y z : ℕ). outcomeAt s t x y (eqb (x .pass .«live_total») 0) z c draw) a b
+            (h : o ≡ outcomeAt s w t x limit (eqb (x .pass .«live_total») 0) ahead c draw) where
+          outcome-is : o ≡ incOutcome s w t rate c draw x (eqb (x .pass .«live_total») 0)
+          outcome-is = h ∙ ap₂ (λ (y z : ℕ). outcomeAt s w t x y (eqb (x .pass .«live_total») 0) z c draw) a b
 
           declined-le : o .declined ≤ c
-          declined-le = subst (λ (y : Outcome). y .declined ≤ c) (sym h) (outcome-declined s t x limit (eqb (x .pass .«live_total») 0) ahead c draw)
+          declined-le = subst (λ (y : Outcome). y .declined ≤ c) (sym h) (outcome-declined s w t x limit (eqb (x .pass .«live_total») 0) ahead c draw)
 
           pub inc-blind : o .blind ≡ true → Told (Calls.inc s w t key rate c draw) (decision.Refused 13) w
           unfolding incOn
@@ -325,6 +325,12 @@ module _ (s : Settings) (w : List ℕ) (t : ℕ) (key : List ℕ) (j : Judged) (
 
   pub room-found : j .code ≡ 0 → Room w
   room-found z = passed kind.Suppressed s w t key (not-early z) .room
+
+  -- where the last second is asked for
+  pub in-room : j .code ≡ 0 → InRoom w (j .slot)
+  in-room z =
+      let there = known s w t key (passed kind.Suppressed s w t key (not-early z)) (j .slot) (slot-found z) in
+      record { room = room-found z; inside = λ y. there y .inside; sound = λ y. there y .measured .sound }
 
   pub get-early : (j .code ≡ 0 → ⊥) → Told (Calls.get s w t key) (snapshot.Refused (j .code)) w
   unfolding Calls.get

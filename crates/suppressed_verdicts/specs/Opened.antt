@@ -26,19 +26,19 @@ use Rattle.judge.specs.Judge.{slotIn}
 use Rattle.change.specs.Words.{applied}
 use Rattle.rules.specs.declared.Asked.{Asked}
 use Rattle.rules.specs.declared.Outcome.{Outcome}
-use Rattle.factor_opened.specs.Opened.{askedAt}
+use Rattle.factor_opened.specs.Opened.{secondAt, askedAt}
 use Rattle.forecast_opened.specs.Forecast.{forecastAt, outcomeAt}
 use Rattle.suppressed_edits.specs.Edits.{getChange, factorChange, incChange}
 use Rattle.plan.specs.Plan.{placeOf, lacksAt}
 use Rattle.suppressed_refusals.specs.Refusals.{incLate}
 
 -- whether the perceived rate is zero
-abbrev pub unperceived : Settings → Slot → Bool
-unperceived s x = perceivesNothing (x .pass .«live_total») (windowIn s) (x .pass .«last_second»)
+abbrev pub unperceived : Settings → List ℕ → ℕ → Slot → Bool
+unperceived s w t x = perceivesNothing (x .pass .«live_total») (windowIn s) (secondAt w t x)
 
 -- the factor of the slot as it stands
-abbrev pub askingAt : Settings → ℕ → Slot → Asked
-askingAt s t x = askedAt s t x (x .limit) (unperceived s x)
+abbrev pub askingAt : Settings → List ℕ → ℕ → Slot → Asked
+askingAt s w t x = askedAt s w t x (x .limit) (unperceived s w t x)
 
 -- ---- get
 
@@ -58,7 +58,7 @@ unfoldable pub getOn : Settings → List ℕ → ℕ → List ℕ → Slot → A
 getOn s w t key x a = call snapshot.Refused kind.Suppressed s w t key (getOwn a) (getDoes s w t key x a)
 
 unfoldable pub get : Settings → List ℕ → ℕ → List ℕ → Verdict SnapshotAnswer
-get s w t key = getOn s w t key (slotIn s w t key) (askingAt s t (slotIn s w t key))
+get s w t key = getOn s w t key (slotIn s w t key) (askingAt s w t (slotIn s w t key))
 
 -- ---- get_suppression_factor
 
@@ -73,7 +73,7 @@ unfoldable pub factorOn : Settings → List ℕ → ℕ → List ℕ → Slot �
 factorOn s w t key x a = call factor.Refused kind.Suppressed s w t key (factorOwn w x a) (factorDoes s w t key x a)
 
 unfoldable pub getFactor : Settings → List ℕ → ℕ → List ℕ → Verdict FactorAnswer
-getFactor s w t key = factorOn s w t key (slotIn s w t key) (askingAt s t (slotIn s w t key))
+getFactor s w t key = factorOn s w t key (slotIn s w t key) (askingAt s w t (slotIn s w t key))
 
 -- ---- inc
 
@@ -82,8 +82,8 @@ unfoldable pub limitAt : Settings → Slot → RateLimit → ℕ
 limitAt s x rate = cond (x .series) (x .limit) (hardWord (rate .0) (factorIn s) (windowIn s))
 
 -- what an increment decides; z says whether the perceived rate is zero
-abbrev pub incOutcome : Settings → ℕ → RateLimit → ℕ → ℕ → Slot → Bool → Outcome
-incOutcome s t rate c draw x z = outcomeAt s t x (limitAt s x rate) z (forecastAt x c) c draw
+abbrev pub incOutcome : Settings → List ℕ → ℕ → RateLimit → ℕ → ℕ → Slot → Bool → Outcome
+incOutcome s w t rate c draw x z = outcomeAt s w t x (limitAt s x rate) z (forecastAt x c) c draw
 
 -- 8 to 12, then 13
 abbrev pub incOwn : Settings → List ℕ → ℕ → RateLimit → ℕ → ℕ → Slot → Outcome → List (ℕ × Bool)
@@ -97,4 +97,5 @@ unfoldable pub incOn : Settings → List ℕ → ℕ → List ℕ → RateLimit 
 incOn s w t key rate c draw x o = call decision.Refused kind.Suppressed s w t key (incOwn s w t rate c draw x o) (incDoes s w t key rate c x o)
 
 unfoldable pub inc : Settings → List ℕ → ℕ → List ℕ → RateLimit → ℕ → ℕ → Verdict RateLimitDecision
-inc s w t key rate c draw = incOn s w t key rate c draw (slotIn s w t key) (incOutcome s t rate c draw (slotIn s w t key) (unperceived s (slotIn s w t key)))
+inc s w t key rate c draw = incOn s w t key rate c draw (slotIn s w t key)
+    (incOutcome s w t rate c draw (slotIn s w t key) (unperceived s w t (slotIn s w t key)))

@@ -4,6 +4,7 @@ use mathlib.Core.Path.{_≡_, refl, sym, ap, ap₂, _∙_}
 use mathlib.Core.Bool.{Bool, true, false, not, _&&_, _||_, cond, false≢true}
 use mathlib.Core.List.{List, [], _∷_, _++_}
 use Prim.Native.Nat.{ℕ, _+_, _-_}
+use native.Mathlib.Omega.{arith}
 use lib.Dec.{ltb, eqb}
 use lib.Ieee.{Float}
 use lib.ListN.{length, drop, length-drop}
@@ -19,9 +20,9 @@ use Rattle.answers.specs.declared.SnapshotAnswer.the-variants as snapshot
 use Rattle.answers.specs.declared.SuppressedRateLimitSnapshot.{SuppressedRateLimitSnapshot}
 use Rattle.settings.specs.declared.Settings.{Settings}
 use Rattle.common.specs.declared.units.RateLimit.{RateLimit}
-use Rattle.rules.specs.Buckets.{ahead, gone, live, lastSecond}
+use Rattle.rules.specs.Buckets.{windowTicks, recent, ahead, gone, live, lastSecond}
 use Rattle.ring.specs.declared.Bucket.{Bucket}
-use Rattle.ring.specs.Ring.{counts, declineds}
+use Rattle.ring.specs.Ring.{sumOf, counts, declineds, buckets}
 use Rattle.rules.specs.declared.Asked.{Asked}
 use Rattle.rules.specs.declared.Caching.the-variants.{Cached}
 use Rattle.rules.specs.declared.FactorRule.{FactorRule}
@@ -31,15 +32,15 @@ use Rattle.rules.specs.declared.RoomKind.the-variants.{Suppressed}
 use Rattle.rules.specs.Held.{Held, lacksSlot}
 use Rattle.rules.specs.Both.{limitIn, liveOf, unrated, passes, ringFull}
 use Rattle.rules.specs.Suppressed as rules
-use Rattle.room.specs.Room.{ringOf}
+use Rattle.room.specs.Room.{ringOf, bodyOf}
 use Rattle.change.specs.Words.{applied}
 use Rattle.opened.specs.declared.Slot.{Slot}
 use Rattle.judge.specs.Held.{heldIn, noneFree}
 use Rattle.judge.specs.Judge.{Passed, slotIn}
 use Rattle.judge.specs.Verdict.{call-alike}
 use Rattle.plan.specs.Plan.{placeOf, lacksAt, fullAfter}
-use Rattle.plan.specs.Seen.{Seen, seen, full-after, lacks-is}
-use Rattle.factor_opened.specs.Opened.{left, staysAt, usableAt, ruleAt, workedAt, askedAt}
+use Rattle.plan.specs.Seen.{Seen, seen, recent-live, held-there, full-after, lacks-is}
+use Rattle.factor_opened.specs.Opened.{left, staysAt, usableAt, ruleAt, secondAt, workedAt, askedAt}
 use Rattle.forecast_opened.specs.Forecast.{forecastAt, outcomeAt}
 use Rattle.suppressed_edits.specs.Edits.{getChange, factorChange, incChange}
 use Rattle.suppressed_refusals.specs.Refusals.{incNumbers, incLate}
@@ -57,6 +58,11 @@ fresh-none S H W t xs e =
     let worked = rules.clauses S H false (counts xs) (declineds xs) in
     ap (λ (b : Bool). rules.freshly (cond b Nil worked) (perceivesNothing (counts xs) W (lastSecond t xs)) S W t (counts xs) (lastSecond t xs))
     (eq-eqb (length xs) 0 e)
+
+none-counted : (t : ℕ) (xs : List Bucket) → length xs ≡ 0 → lastSecond t xs ≡ 0
+unfolding recent sumOf
+none-counted t [] e = refl
+none-counted t (x ∷ xs) e = absurd (omega arith)
 
 -- ---- of a slot x that is seen as h
 
@@ -104,19 +110,6 @@ module _ (s : Settings) (t : ℕ) (h : Held) (x : Slot) (o : Seen (windowIn s) t
       ap (λ (z : Bool). rules.clauses S H z (x .pass .«live_total») (x .pass .«live_declined»)) none-is ∙
       ap₂ (λ (m n : ℕ). rules.clauses S H (eqb (length xs) 0) m n) (o .live-is) (o .declined-is)
 
-  nothing-seen : unperceived s x ≡ perceivesNothing (counts (liveOf s t h)) (windowIn s) (lastSecond t (liveOf s t h))
-  nothing-seen = ap₂ (λ (m n : ℕ). perceivesNothing m (windowIn s) n) (o .live-is) (o .recent-is)
-
-  worked-is : (limit : ℕ) →
-      workedAt (factorIn s) (windowIn s) t x limit (unperceived s x) ≡ rules.freshOn (softWord (factorIn s) limit) (cutWord limit) (windowIn s) t (liveOf s t h)
-  unfolding workedAt
-  worked-is limit =
-      let S = softWord (factorIn s) limit in
-      let H = cutWord limit in
-      ap₂ (λ (r : FactorRule) (z : Bool). rules.freshly r z S (windowIn s) t (x .pass .«live_total») (x .pass .«last_second»)) (rule-is S H) nothing-seen ∙
-      ap₂ (λ (m n : ℕ). rules.freshly (rules.ruleOn S H xs) (perceivesNothing (counts xs) (windowIn s) (lastSecond t xs)) S (windowIn s) t m n) (o .live-is)
-      (o .recent-is)
-
   -- the cached word is asked for only where it is there
   asked-by : (u : Bool) → rules.usable s t h ≡ u → (a : Asked) → cond u (rules.asCached (x .factor)) a ≡ cond u (rules.asCached (h .factor)) a
   unfolding rules.stays
@@ -126,20 +119,6 @@ module _ (s : Settings) (t : ℕ) (h : Held) (x : Slot) (o : Seen (windowIn s) t
       cached-of true z u e = refl
       cached-of false z u e = absurd (false≢true e)
   asked-by false e a = refl
-
-  pub asked-is : (limit : ℕ) → askedAt s t x limit (unperceived s x) ≡ rules.asked s t limit h
-  unfolding askedAt rules.asked
-  asked-is limit =
-      let fresh = rules.freshOn (softWord (factorIn s) limit) (cutWord limit) (windowIn s) t xs in
-      ap₂ (λ (u : Bool) (a : Asked). cond u (rules.asCached (x .factor)) a) usable-is (worked-is limit) ∙ asked-by (rules.usable s t h) refl fresh
-
-  pub outcome-is : (limit c draw : ℕ) → outcomeAt s t x limit (unperceived s x) (forecastAt x c) c draw ≡ rules.outcome s t limit c draw h
-  unfolding outcomeAt rules.outcome
-  outcome-is limit c draw =
-      let S = softWord (factorIn s) limit in
-      let H = cutWord limit in
-      ap₂ (λ (m n : ℕ). rules.outcomeOf (rules.reachOf (m - n + c) S H) (askedAt s t x limit (unperceived s x)) t c draw) (o .live-is) (o .declined-is) ∙
-      ap (λ (a : Asked). rules.outcomeOf (rules.reachOf (rules.forecast xs c) S H) a t c draw) (asked-is limit)
 
   -- ---- a series has its own limit
 
@@ -158,25 +137,56 @@ module _ (s : Settings) (t : ℕ) (h : Held) (x : Slot) (o : Seen (windowIn s) t
           ap (λ (y : Bool). cond y (x .limit) (limitIn Suppressed s rate)) (o .series-is ∙ e) ∙
           sym (ap (λ (y : Bool). cond y (h .limit) (limitIn Suppressed s rate)) e)
 
-  -- the factor of the key as it stands: without a series the limit does not matter
-  pub asking-is : askingAt s t x ≡ rules.asking s t h
-  unfolding rules.asked
-  asking-is = go (h .known) refl
-    where
-      go : (z : Bool) → h .known ≡ z → askingAt s t x ≡ rules.asking s t h
-      go true e = ap (λ (n : ℕ). askedAt s t x n (unperceived s x)) (o .limit-is e) ∙ asked-is (h .limit)
-      go false e = asked-is (x .limit) ∙ any-limit (x .limit) ∙ sym (any-limit (h .limit))
-        where
-          any-limit : (n : ℕ) → rules.asked s t n h ≡ cond (rules.usable s t h) (rules.asCached (h .factor)) (nilAsked t)
-          any-limit n =
-              ap (λ (a : Asked). cond (rules.usable s t h) (rules.asCached (h .factor)) a)
-              (fresh-none (softWord (factorIn s) n) (cutWord n) (windowIn s) t (liveOf s t h) (none-live e))
-
   snapshot-is : (f : Float) → snapshotAt x f ≡ rules.snapshotOf s t h f
   snapshot-is f =
       ap (λ (z : Bool). cond z (record { total = x .pass .«live_total»; «total_declined» = x .pass .«live_declined»; «suppression_factor» = f }) noSnapshot)
       (o .series-is) ∙
       ap₂ (λ (m n : ℕ). cond (h .known) (record { total = m; «total_declined» = n; «suppression_factor» = f }) noSnapshot) (o .live-is) (o .declined-is)
+
+  -- of a room w whose last second is that of the live buckets
+  module _ (w : List ℕ) (second : secondAt w t x ≡ lastSecond t (liveOf s t h)) where
+    nothing-seen : unperceived s w t x ≡ perceivesNothing (counts (liveOf s t h)) (windowIn s) (lastSecond t (liveOf s t h))
+    nothing-seen = ap₂ (λ (m n : ℕ). perceivesNothing m (windowIn s) n) (o .live-is) second
+
+    worked-is : (limit : ℕ) →
+        workedAt (factorIn s) (windowIn s) w t x limit (unperceived s w t x) ≡
+        rules.freshOn (softWord (factorIn s) limit) (cutWord limit) (windowIn s) t (liveOf s t h)
+    unfolding workedAt
+    worked-is limit =
+        let S = softWord (factorIn s) limit in
+        let H = cutWord limit in
+        ap₂ (λ (r : FactorRule) (z : Bool). rules.freshly r z S (windowIn s) t (x .pass .«live_total») (secondAt w t x)) (rule-is S H) nothing-seen ∙
+        ap₂ (λ (m n : ℕ). rules.freshly (rules.ruleOn S H xs) (perceivesNothing (counts xs) (windowIn s) (lastSecond t xs)) S (windowIn s) t m n) (o .live-is)
+        second
+
+    pub asked-is : (limit : ℕ) → askedAt s w t x limit (unperceived s w t x) ≡ rules.asked s t limit h
+    unfolding askedAt rules.asked
+    asked-is limit =
+        let fresh = rules.freshOn (softWord (factorIn s) limit) (cutWord limit) (windowIn s) t xs in
+        ap₂ (λ (u : Bool) (a : Asked). cond u (rules.asCached (x .factor)) a) usable-is (worked-is limit) ∙ asked-by (rules.usable s t h) refl fresh
+
+    pub outcome-is : (limit c draw : ℕ) → outcomeAt s w t x limit (unperceived s w t x) (forecastAt x c) c draw ≡ rules.outcome s t limit c draw h
+    unfolding outcomeAt rules.outcome
+    outcome-is limit c draw =
+        let S = softWord (factorIn s) limit in
+        let H = cutWord limit in
+        ap₂ (λ (m n : ℕ). rules.outcomeOf (rules.reachOf (m - n + c) S H) (askedAt s w t x limit (unperceived s w t x)) t c draw) (o .live-is)
+        (o .declined-is) ∙
+        ap (λ (a : Asked). rules.outcomeOf (rules.reachOf (rules.forecast xs c) S H) a t c draw) (asked-is limit)
+
+    -- the factor of the key as it stands: without a series the limit does not matter
+    pub asking-is : askingAt s w t x ≡ rules.asking s t h
+    unfolding rules.asked
+    asking-is = go (h .known) refl
+      where
+        go : (z : Bool) → h .known ≡ z → askingAt s w t x ≡ rules.asking s t h
+        go true e = ap (λ (n : ℕ). askedAt s w t x n (unperceived s w t x)) (o .limit-is e) ∙ asked-is (h .limit)
+        go false e = asked-is (x .limit) ∙ any-limit (x .limit) ∙ sym (any-limit (h .limit))
+          where
+            any-limit : (n : ℕ) → rules.asked s t n h ≡ cond (rules.usable s t h) (rules.asCached (h .factor)) (nilAsked t)
+            any-limit n =
+                ap (λ (a : Asked). cond (rules.usable s t h) (rules.asCached (h .factor)) a)
+                (fresh-none (softWord (factorIn s) n) (cutWord n) (windowIn s) t (liveOf s t h) (none-live e))
 
 -- ---- so the calls are those that the contracts name
 
@@ -190,12 +200,27 @@ module _ (s : Settings) (w : List ℕ) (t : ℕ) (key : List ℕ) where
   sees : Passed Suppressed s w t key → Seen (windowIn s) t (heldIn w key) (slotIn s w t key)
   sees p = seen Suppressed s w t key p
 
+  -- the last second is that of the live buckets
+  pub second-is : Passed Suppressed s w t key → secondAt w t (slotIn s w t key) ≡ lastSecond t (liveOf s t (heldIn w key))
+  second-is p = go (x .series) refl
+    where
+      W : ℕ
+      W = windowTicks (windowIn s)
+
+      go : (z : Bool) → slotIn s w t key .series ≡ z → secondAt w t (slotIn s w t key) ≡ lastSecond t (liveOf s t (heldIn w key))
+      go true e =
+          ap (λ (z : Bool). cond z (lastSecond t (buckets (ringOf w) (bodyOf w (x .at)))) 0) e ∙ ap (lastSecond t) (held-there Suppressed s w t key p e) ∙
+          ap counts (recent-live 1000 W t (omega (arith, p .settings .window-low)) (h .buckets))
+      go false e =
+          ap (λ (z : Bool). cond z (lastSecond t (buckets (ringOf w) (bodyOf w (x .at)))) 0) e ∙
+          sym (none-counted t (liveOf s t h) (none-live s t h x (sees p) (sym (sees p .series-is) ∙ e)))
+
   pub get-opened : get s w t key ≡ Calls.get s w t key
   unfolding get getOn Calls.get
   get-opened =
       call-alike snapshot.Refused Suppressed s w t key _ _ _ _
       (λ p.
-      let a = asking-is s t h x (sees p) in
+      let a = asking-is s t h x (sees p) w (second-is p) in
       record {
         owns = ap (λ (y : Asked). getOwn y) a;
         answers =
@@ -209,7 +234,7 @@ module _ (s : Settings) (w : List ℕ) (t : ℕ) (key : List ℕ) where
   factor-opened =
       call-alike factor.Refused Suppressed s w t key _ _ _ _
       (λ p.
-      let a = asking-is s t h x (sees p) in
+      let a = asking-is s t h x (sees p) w (second-is p) in
       record {
         owns = ap₂ (λ (z : Bool) (y : Asked). (11, z) ∷ (13, y .blind) ∷ []) (lacks-is (windowIn s) t h x (sees p) w) a;
         answers = ap (λ (y : Asked). factor.Factor (y .factor)) a;
@@ -217,11 +242,11 @@ module _ (s : Settings) (w : List ℕ) (t : ℕ) (key : List ℕ) where
       })
 
   module _ (rate : RateLimit) (c draw : ℕ) where
-    pub decides : (p : Passed Suppressed s w t key) → incOutcome s t rate c draw (slotIn s w t key) (unperceived s (slotIn s w t key)) ≡
+    pub decides : (p : Passed Suppressed s w t key) → incOutcome s w t rate c draw (slotIn s w t key) (unperceived s w t (slotIn s w t key)) ≡
         rules.outcome s t (rules.limitFor s rate (heldIn w key)) c draw (heldIn w key)
     decides p =
-        ap (λ (l : ℕ). outcomeAt s t x l (unperceived s x) (forecastAt x c) c draw) (limit-is s t h x (sees p) rate) ∙
-        outcome-is s t h x (sees p) (rules.limitFor s rate h) c draw
+        ap (λ (l : ℕ). outcomeAt s w t x l (unperceived s w t x) (forecastAt x c) c draw) (limit-is s t h x (sees p) rate) ∙
+        outcome-is s t h x (sees p) w (second-is p) (rules.limitFor s rate h) c draw
 
     -- 8 to 12, as the code judges them
     pub late-is : (p : Passed Suppressed s w t key) →
@@ -237,7 +262,7 @@ module _ (s : Settings) (w : List ℕ) (t : ℕ) (key : List ℕ) where
         ap (incNumbers (unrated rate) (ltb rules.mostDraw draw) (passes c (counts (liveOf s t h))) (lacksSlot (noneFree w) h)) full
 
     owns-is : (p : Passed Suppressed s w t key) → incOwn s w t rate c draw (slotIn s w t key)
-        (incOutcome s t rate c draw (slotIn s w t key) (unperceived s (slotIn s w t key))) ≡
+        (incOutcome s w t rate c draw (slotIn s w t key) (unperceived s w t (slotIn s w t key))) ≡
         rules.incTurns s (ringOf w) (noneFree w) t rate c draw (heldIn w key)
     owns-is p = ap₂ (λ (l : List (ℕ × Bool)) (z : Bool). l ++ ((13, z) ∷ [])) (late-is p) (ap (λ (y : Outcome). y .blind) (decides p))
 

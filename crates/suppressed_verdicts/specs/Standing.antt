@@ -1,6 +1,6 @@
 -- What a call that passes refusals 1 to 7 knows of its key's slot x: where it is, its series, and its sums.
 -- Assumes nothing.
-use mathlib.Core.Path.{_≡_, refl, sym, ap, subst, _∙_}
+use mathlib.Core.Path.{_≡_, refl, sym, ap, ap₂, subst, _∙_}
 use mathlib.Core.Bool.{Bool, true, false, not, _&&_, _||_, cond, false≢true}
 use mathlib.Core.List.{List, [], _∷_}
 use Prim.Native.Nat.{ℕ, suc, _+_, _-_, _^_, _≤_, _<_}
@@ -28,7 +28,7 @@ use Rattle.opened.specs.Slot.{hasSlot, noSlot, pickPass, opened}
 use Rattle.opened.specs.Sound.{addressed}
 use Rattle.plan.specs.Known.{Found, Known, found, none, series-known, series-is, at-as}
 use Rattle.suppressed_verdicts.specs.Opened.{unperceived}
-use Rattle.factor_opened.specs.Opened.{left}
+use Rattle.factor_opened.specs.Opened.{left, secondAt}
 use Rattle.plan.specs.Plan.{placeOf, lacksAt}
 use Rattle.plan.specs.Seen.{recent-live}
 
@@ -48,28 +48,30 @@ recent-le v w t xs h = rw (recent-live v w t h xs) (recent-among v t (drop (ahea
 
 -- ---- the sums of the live buckets
 
-pub record Sums (x : Slot) : Type 0 where
-  pub recent : x .pass .«last_second» ≤ x .pass .«live_total»
+pub record Sums (w : List ℕ) (t : ℕ) (x : Slot) : Type 0 where
+  pub recent : secondAt w t x ≤ x .pass .«live_total»
   pub declined : x .pass .«live_declined» ≤ x .pass .«live_total»
   pub most : x .pass .«live_total» ≤ 2 ^ 53
 
-no-sums : (x : Slot) → x .pass ≡ unsound → Sums x
-no-sums x e =
-    let a = ap (λ (p : Pass). p .«last_second») e in
+no-sums : (w : List ℕ) (t : ℕ) (x : Slot) → x .series ≡ false → x .pass ≡ unsound → Sums w t x
+no-sums w t x n e =
+    let a : secondAt w t x ≡ 0 = ap (λ (z : Bool). cond z (lastSecond t (buckets (ringOf w) (bodyOf w (x .at)))) 0) n in
     let b = ap (λ (p : Pass). p .«live_total») e in
     let d = ap (λ (p : Pass). p .«live_declined») e in
     record { recent = omega arith; declined = omega arith; most = omega arith }
 
 module _ (s : Settings) (w : List ℕ) (t at : ℕ) (x : Slot) (k : Known kind.Suppressed s w t at x) where
-  known-sums : 1 ≤ windowIn s → Sums x
-  known-sums h =
+  known-sums : 1 ≤ windowIn s → x .series ≡ true → Sums w t x
+  known-sums h y =
       let xs = buckets (ringOf w) (bodyOf w at) in
       let m = k .measured in
       let n = x .pass .expired in
       let r : lastSecond t xs ≤ counts (drop n xs) = rw (← m .expired-are) at (recent-le 1000 (windowTicks (windowIn s)) t xs (omega arith)) in
+      let second-here : secondAt w t x ≡ lastSecond t xs =
+      ap₂ (λ (z : Bool) (i : ℕ). cond z (lastSecond t (buckets (ringOf w) (bodyOf w i))) 0) y (k .at-is) in
       let d : declineds (drop n xs) ≤ counts (drop n xs) = fine-sums 0 (drop n xs) t (fine-drop n 0 xs t (k .now .each)) in
       record {
-        recent = omega (arith, r, m .recent, m .total);
+        recent = omega (arith, r, second-here, m .total);
         declined = omega (arith, d, m .declined, m .total);
         most = omega (arith, m .total, sum-split countOf n xs, k .now .total, k .now .most);
       }
@@ -118,14 +120,14 @@ module _ (s : Settings) (w : List ℕ) (t : ℕ) (key : List ℕ) (q : Passed ki
       go true e g = used e .inside
       go false e g = leb-false (slotsOf w) (vacant w) g
 
-  pub sums : Sums x
+  pub sums : Sums w t x
   sums = go (x .series) refl
     where
-      go : (z : Bool) → x .series ≡ z → Sums x
-      go true e = known-sums s w t (x .at) x (known e) (q .settings .window-low)
-      go false e = no-sums x (unknown e)
+      go : (z : Bool) → x .series ≡ z → Sums w t x
+      go true e = known-sums s w t (x .at) x (known e) (q .settings .window-low) e
+      go false e = no-sums w t x e (unknown e)
 
   -- the perceived rate is zero exactly where nothing was counted
-  pub unperceived-is : unperceived s x ≡ eqb (x .pass .«live_total») 0
-  unperceived-is = nothing-is (x .pass .«live_total») (windowIn s) (x .pass .«last_second») (sums .recent) (sums .most) (q .settings .window-low)
+  pub unperceived-is : unperceived s w t x ≡ eqb (x .pass .«live_total») 0
+  unperceived-is = nothing-is (x .pass .«live_total») (windowIn s) (secondAt w t x) (sums .recent) (sums .most) (q .settings .window-low)
       (q .settings .window-high)

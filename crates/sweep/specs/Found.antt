@@ -1,25 +1,24 @@
--- What the pass finds is what the rules say: sound exactly where the buckets are, and there the expired, the live sums and
--- the last second.
+-- What the pass finds is what the rules say: sound exactly where the buckets are, and there the expired and the live sums.
 -- Assumes nothing.
 use mathlib.Core.Path.{_≡_, refl, sym, ap, _∙_}
 use mathlib.Core.Bool.{Bool, true, false, cond, false≢true}
 use mathlib.Core.List.{List, [], _∷_}
-use Prim.Native.Nat.{ℕ, suc, _+_, _-_, _≤_}
+use Prim.Native.Nat.{ℕ, suc, _+_, _-_, _≤_, _<_}
 use native.Mathlib.Omega.{arith}
 use lib.ListN.{length, getD, drop}
 use lib.Dec.{leb, ltb, eqb}
 use borrow.Author.Tests.{le-leb, leb-true, lt-ltb, le-ltb, ltb-true, ltb-false, eq-eqb, eqb-true}
 use Rattle.base.specs.Decides.{both-ways, and-true, not-so}
+use Rattle.layout.specs.Layout.{mostTotal}
 use Rattle.ring.specs.declared.Bucket.{Bucket}
 use Rattle.ring.specs.Ring.{noBucket, sumOf, counts, declineds, totalOf, declinedOf, lenOf, buckets, Shape}
 use Rattle.ring.specs.Order.{Fine}
 use Rattle.ring.specs.Sound.{soundBuckets, Sound, sound-true, true-sound}
 use Rattle.sweep.specs.declared.tally.Tally.{Tally}
-use Rattle.sweep.specs.declared.tally.Swept.{Swept}
 use Rattle.sweep.specs.declared.tally.Gone.{Gone}
 use Rattle.sweep.specs.declared.tally.Pass.{Pass}
-use Rattle.rules.specs.Buckets.{ticksPerSecond, older, recent, ahead}
-use Rattle.sweep.specs.Sweep.{behind, goodOf, stepOf, endedOf, off, swept, begun, sweepOf, wholeOf, fewer, goneFrom, goneNone, goneOf, found, unsound}
+use Rattle.rules.specs.Buckets.{older, recent, ahead}
+use Rattle.sweep.specs.Sweep.{goodOf, stepOf, endedOf, swept, begun, sweepOf, fewer, goneFrom, goneNone, goneOf, found, unsound}
 use Rattle.sweep.specs.Sweep.{pick, passOf}
 
 -- ---- where times do not fall, the buckets over w are the oldest ones
@@ -108,9 +107,9 @@ true-good : (a : Tally) (x : Bucket) → Good a x → goodOf a x ≡ true
 unfolding goodOf
 true-good a x g = simp (le-leb _ _ (g .up), le-leb _ _ (g .most), le-leb _ _ (g .left), le-leb _ _ (g .spare))
 
-keeps-on : (last e : ℕ) (a : Tally) (x : Bucket) (xs : List Bucket) → Good a x → Keeps last (stepOf e a x) xs → Keeps last a (x ∷ xs)
+keeps-on : (last : ℕ) (a : Tally) (x : Bucket) (xs : List Bucket) → Good a x → Keeps last (stepOf a x) xs → Keeps last a (x ∷ xs)
 unfolding stepOf sumOf
-keeps-on last e a x xs g k =
+keeps-on last a x xs g k =
     record {
       past = omega (arith, g .up, k .past);
       order = (g .up, k .past, g .most, k .order);
@@ -122,113 +121,60 @@ keeps-good : (last : ℕ) (a : Tally) (x : Bucket) (xs : List Bucket) → Keeps 
 unfolding sumOf
 keeps-good last a x xs k = true-good a x (record { up = k .order .0; most = k .order .2; left = omega (arith, k .left); spare = omega (arith, k .spare) })
 
-keeps-back : (last e : ℕ) (a : Tally) (x : Bucket) (xs : List Bucket) → Keeps last a (x ∷ xs) → Keeps last (stepOf e a x) xs
+keeps-back : (last : ℕ) (a : Tally) (x : Bucket) (xs : List Bucket) → Keeps last a (x ∷ xs) → Keeps last (stepOf a x) xs
 unfolding stepOf sumOf
-keeps-back last e a x xs k = record { past = k .order .1; order = k .order .3; left = omega (arith, k .left); spare = omega (arith, k .spare) }
+keeps-back last a x xs k = record { past = k .order .1; order = k .order .3; left = omega (arith, k .left); spare = omega (arith, k .spare) }
 
--- so a step of a sweep that keeps
-kept-step : (last e : ℕ) (a : Tally) (x : Bucket) (xs : List Bucket) → Keeps last a (x ∷ xs) → swept last e a (x ∷ xs) ≡ swept last e (stepOf e a x) xs
-unfolding swept
-kept-step last e a x xs k = ap (λ (g : Bool). cond g (swept last e (stepOf e a x) xs) off) (keeps-good last a x xs k)
-
-keeps-true : (last e : ℕ) (a : Tally) (xs : List Bucket) → swept last e a xs .sound ≡ true → Keeps last a xs
+keeps-true : (last : ℕ) (a : Tally) (xs : List Bucket) → swept last a xs ≡ true → Keeps last a xs
 unfolding swept endedOf sumOf
-keeps-true last e a [] h =
+keeps-true last a [] h =
     let p = and-true (leb (a .lo) last) _ h in
     let q = and-true (eqb (a .left) 0) _ (p .1) in
     record { past = leb-true _ _ (p .0); order = tt; left = sym (eqb-true _ _ (q .0)); spare = sym (eqb-true _ _ (q .1)) }
-keeps-true last e a (x ∷ xs) h = go (goodOf a x) refl (keeps-true last e (stepOf e a x) xs) h
-  where
-    go : (g : Bool) → goodOf a x ≡ g → (swept last e (stepOf e a x) xs .sound ≡ true → Keeps last (stepOf e a x) xs) →
-        cond g (swept last e (stepOf e a x) xs) off .sound ≡ true → Keeps last a (x ∷ xs)
-    go true g i h = keeps-on last e a x xs (good-true a x g) (i h)
-    go false g i h = absurd (false≢true h)
+keeps-true last a (x ∷ xs) h =
+    let p = and-true (goodOf a x) _ h in
+    keeps-on last a x xs (good-true a x (p .0)) (keeps-true last (stepOf a x) xs (p .1))
 
-true-keeps : (last e : ℕ) (a : Tally) (xs : List Bucket) → Keeps last a xs → swept last e a xs .sound ≡ true
+true-keeps : (last : ℕ) (a : Tally) (xs : List Bucket) → Keeps last a xs → swept last a xs ≡ true
 unfolding swept endedOf sumOf
-true-keeps last e a [] k = simp (le-leb _ _ (k .past), eq-eqb _ _ (sym (k .left)), eq-eqb _ _ (sym (k .spare)))
-true-keeps last e a (x ∷ xs) k = ap (λ (s : Swept). s .sound) (kept-step last e a x xs k) ∙ true-keeps last e (stepOf e a x) xs (keeps-back last e a x xs k)
+true-keeps last a [] k = simp (le-leb _ _ (k .past), eq-eqb _ _ (sym (k .left)), eq-eqb _ _ (sym (k .spare)))
+true-keeps last a (x ∷ xs) k = simp (keeps-good last a x xs k) (true-keeps last (stepOf a x) xs (keeps-back last a x xs k))
 
--- ---- the last second
+-- ---- so it judges them
 
--- an age is over w exactly where the time is before t - w
-before-over : (w t time : ℕ) → ltb time (t - w) ≡ ltb w (t - time)
-before-over w t time = both-ways (ltb time (t - w)) (ltb w (t - time)) (λ h. lt-ltb w (t - time) (omega (arith, ltb-true time (t - w) h)))
-    (λ h. lt-ltb time (t - w) (omega (arith, ltb-true w (t - time) h)))
+module _ (r : ℕ) (b : List ℕ) (last : ℕ) (sh : Shape r b) where
+  -- a total over 2^53 is none
+  pub sound-over : mostTotal < totalOf b → false ≡ soundBuckets r b last
+  sound-over h = sym (not-so _ (λ e. let m = sound-true r b last e .most in omega arith))
 
--- where none is before e, what was left stays
-recent-stays : (last e : ℕ) (a : Tally) (xs : List Bucket) → Keeps last a xs → e ≤ a .lo → swept last e a xs .recent ≡ a .recent
-unfolding swept stepOf behind
-recent-stays last e a [] k h = refl
-recent-stays last e a (x ∷ xs) k h =
-    let u : e ≤ x .time = omega (arith, k .order .0) in
-    ap (λ (s : Swept). s .recent) (kept-step last e a x xs k) ∙ recent-stays last e (stepOf e a x) xs (keeps-back last e a x xs k) u ∙
-    ap (λ (f : Bool). cond f (a .left - x .count) (a .recent)) (le-ltb _ _ u)
+  pub sound-swept : totalOf b ≤ mostTotal → sweepOf r b last ≡ soundBuckets r b last
+  sound-swept m = both-ways (sweepOf r b last) (soundBuckets r b last) to from
+    where
+      to : sweepOf r b last ≡ true → soundBuckets r b last ≡ true
+      to e =
+          let k = keeps-true last (begun (totalOf b) (declinedOf b)) (buckets r b) e in
+          true-sound r b last (record { shape = sh; each = k .order; total = sym (k .left); declined = sym (k .spare); most = m })
 
-step-late : (e : ℕ) (a : Tally) (x : Bucket) → ltb (x .time) e ≡ true → stepOf e a x .recent ≡ stepOf e a x .left
-unfolding stepOf behind
-step-late e a x o = ap (λ (f : Bool). cond f (a .left - x .count) (a .recent)) o
-
-recent-young : (last e : ℕ) (a : Tally) (x : Bucket) (xs : List Bucket) → Keeps last a (x ∷ xs) → ltb (x .time) e ≡ false →
-    swept last e (stepOf e a x) xs .recent ≡ a .recent
-unfolding stepOf behind
-recent-young last e a x xs k o = recent-stays last e (stepOf e a x) xs (keeps-back last e a x xs k) (ltb-false _ _ o) ∙
-    ap (λ (f : Bool). cond f (a .left - x .count) (a .recent)) o
-
-recent-is : (last w t : ℕ) (a : Tally) (xs : List Bucket) → Keeps last a xs → a .recent ≡ a .left → swept last (t - w) a xs .recent ≡ counts (recent w t xs)
-unfolding swept recent older
-recent-is last w t a [] k h = h ∙ sym (k .left)
-recent-is last w t a (x ∷ xs) k h =
-    ap (λ (s : Swept). s .recent) (kept-step last (t - w) a x xs k) ∙
-    go (ltb w (t - x .time)) refl (recent-is last w t (stepOf (t - w) a x) xs (keeps-back last (t - w) a x xs k))
-  where
-    go : (o : Bool) → ltb w (t - x .time) ≡ o →
-        (stepOf (t - w) a x .recent ≡ stepOf (t - w) a x .left → swept last (t - w) (stepOf (t - w) a x) xs .recent ≡ counts (recent w t xs)) →
-        swept last (t - w) (stepOf (t - w) a x) xs .recent ≡ counts (cond o (recent w t xs) (x ∷ recent w t xs))
-    go true o i = i (step-late (t - w) a x (before-over w t (x .time) ∙ o))
-    go false o i =
-        recent-young last (t - w) a x xs k (before-over w t (x .time) ∙ o) ∙ h ∙ sym (k .left) ∙
-        ap (λ (ys : List Bucket). counts (x ∷ ys)) (sym (young-all w t (x .time) last xs (k .order .3) (ltb-false w (t - x .time) o)))
+      from : soundBuckets r b last ≡ true → sweepOf r b last ≡ true
+      from e =
+          let h = sound-true r b last e in
+          true-keeps last (begun (totalOf b) (declinedOf b)) (buckets r b)
+          (record { past = omega arith; order = h .each; left = sym (h .total); spare = sym (h .declined) })
 
 -- ---- the pass
 
-module _ (r : ℕ) (b : List ℕ) (last t w : ℕ) (sh : Shape r b) where
-  whole-keeps : wholeOf (sweepOf r b last t) (totalOf b) ≡ true → Keeps last (begun (totalOf b) (declinedOf b)) (buckets r b)
-  unfolding wholeOf
-  whole-keeps e = keeps-true last (t - ticksPerSecond) (begun (totalOf b) (declinedOf b)) (buckets r b) (and-true (sweepOf r b last t .sound) _ e .0)
-
-  whole-true : wholeOf (sweepOf r b last t) (totalOf b) ≡ true → Sound r b last
-  unfolding wholeOf
-  whole-true e =
-      let k = whole-keeps e in
-      record {
-        shape = sh;
-        each = k .order;
-        total = sym (k .left);
-        declined = sym (k .spare);
-        most = leb-true _ _ (and-true (sweepOf r b last t .sound) _ e .1);
-      }
-
-  true-whole : Sound r b last → wholeOf (sweepOf r b last t) (totalOf b) ≡ true
-  unfolding wholeOf
-  true-whole h = simp (
-    true-keeps last (t - ticksPerSecond) (begun (totalOf b) (declinedOf b)) (buckets r b)
-        (record { past = omega arith; order = h .each; left = sym (h .total); spare = sym (h .declined) }),
-    le-leb _ _ (h .most),
-  )
-
-  -- a sweep that is not whole, and a body that does not fit, find nothing
-  pub pass-not : wholeOf (sweepOf r b last t) (totalOf b) ≡ false → unsound ≡ passOf r b last t w
+module _ (r : ℕ) (b : List ℕ) (last t w : ℕ) where
+  -- what is not sound finds nothing
+  pub pass-not : soundBuckets r b last ≡ false → unsound ≡ passOf r b last t w
   unfolding passOf
-  pass-not e = let n : soundBuckets r b last ≡ false =
-      not-so _ (λ h. false≢true (sym e ∙ true-whole (sound-true r b last h))) in sym (ap (λ (f : Bool). pick f (found (lenOf b) (buckets r b) t w) unsound) n)
+  pass-not n = sym (ap (λ (f : Bool). pick f (found (lenOf b) (buckets r b) t w) unsound) n)
 
-  whole-is : wholeOf (sweepOf r b last t) (totalOf b) ≡ true → found (lenOf b) (buckets r b) t w ≡ passOf r b last t w
+  sound-is : soundBuckets r b last ≡ true → found (lenOf b) (buckets r b) t w ≡ passOf r b last t w
   unfolding passOf
-  whole-is e = sym (ap (λ (f : Bool). pick f (found (lenOf b) (buckets r b) t w) unsound) (true-sound r b last (whole-true e)))
+  sound-is e = sym (ap (λ (f : Bool). pick f (found (lenOf b) (buckets r b) t w) unsound) e)
 
-  -- a whole one finds what the rules say; the fields as the code has them
-  pub pass-is : (s : Swept) → s ≡ sweepOf r b last t → wholeOf s (totalOf b) ≡ true → (g : Gone) → g ≡ goneOf r b t w → (n d : ℕ) (o m : Bucket) →
+  -- what is sound finds what the rules say; the fields as the code has them
+  pub pass-is : soundBuckets r b last ≡ true → (g : Gone) → g ≡ goneOf r b t w → (n d : ℕ) (o m : Bucket) →
       n ≡ lenOf b → d ≡ n - 1 → o ≡ getD (buckets r b) (g .buckets) noBucket → m ≡ getD (buckets r b) d noBucket →
       _≡_ {A = Pass} (record {
         sound = true;
@@ -236,19 +182,16 @@ module _ (r : ℕ) (b : List ℕ) (last t w : ℕ) (sh : Shape r b) where
         expired = g .buckets;
         «live_total» = g .total;
         «live_declined» = g .declined;
-        «last_second» = s .recent;
         oldest = o;
         newest = m;
       }) (passOf r b last t w)
-  pass-is s p h g q n d o m a z u v =
-      let e = sym (ap (λ (y : Swept). wholeOf y (totalOf b)) p) ∙ h in
-      let k = whole-keeps e in
+  pass-is e g q n d o m a z u v =
+      let k = sound-true r b last e in
       let xs = buckets r b in
       let y = goneNone (totalOf b) (declinedOf b) in
       let ex : g .buckets ≡ ahead w t xs = omega (arith, ap (λ (g : Gone). g .buckets) q, gone-ahead w t y xs) in
-      let to = ap (λ (g : Gone). g .total) q ∙ gone-total w t y xs (k .left) in
-      let de = ap (λ (g : Gone). g .declined) q ∙ gone-declined w t y xs (k .spare) in
-      let re = ap (λ (s : Swept). s .recent) p ∙ recent-is last ticksPerSecond t (begun (totalOf b) (declinedOf b)) xs k refl in
+      let to = ap (λ (g : Gone). g .total) q ∙ gone-total w t y xs (sym (k .total)) in
+      let de = ap (λ (g : Gone). g .declined) q ∙ gone-declined w t y xs (sym (k .declined)) in
       let old = u ∙ ap (λ (i : ℕ). getD xs i noBucket) ex in
       let new = v ∙ ap (λ (i : ℕ). getD xs i noBucket) (z ∙ ap (λ (i : ℕ). i - 1) a) in
       (λ i. record {
@@ -257,10 +200,9 @@ module _ (r : ℕ) (b : List ℕ) (last t w : ℕ) (sh : Shape r b) where
         expired = ex i;
         «live_total» = to i;
         «live_declined» = de i;
-        «last_second» = re i;
         oldest = old i;
         newest = new i;
-      }) ∙ whole-is e
+      }) ∙ sound-is e
 
 -- words that do not fit
 pub pass-unfit : (r : ℕ) (b : List ℕ) (last t w : ℕ) → (Shape r b → ⊥) → unsound ≡ passOf r b last t w

@@ -13,7 +13,7 @@ use Rattle.ring.specs.Order.{Fine}
 use Rattle.ring.specs.View.{view-length}
 use Rattle.ring.specs.Sound.{soundBuckets, Sound, sound-true}
 use Rattle.sweep.specs.declared.tally.Pass.{Pass}
-use Rattle.rules.specs.Buckets.{windowTicks, older, ahead, evicted, live, lastSecond, newest}
+use Rattle.rules.specs.Buckets.{windowTicks, older, ahead, evicted, live, newest}
 use Rattle.sweep.specs.Sweep.{found, unsound, pick, passOf}
 use Rattle.sweep.specs.Found.{ahead-le, recent-drop}
 
@@ -25,7 +25,6 @@ pub record Measured (r : ℕ) (b : List ℕ) (last t w : ℕ) (x : Pass) : Type 
   pub some : x .expired ≤ lenOf b
   pub total : x .«live_total» ≡ counts (drop (x .expired) (buckets r b))
   pub declined : x .«live_declined» ≡ declineds (drop (x .expired) (buckets r b))
-  pub recent : x .«last_second» ≡ lastSecond t (buckets r b)
   pub oldest-is : x .oldest ≡ getD (buckets r b) (x .expired) noBucket
   pub newest-is : x .newest ≡ newest (buckets r b)
 
@@ -53,7 +52,6 @@ pass-measures r b last t w x e s =
       some = omega (arith, k, ahead-le w t xs, view-length r b);
       total = ap (λ (y : Pass). y .«live_total») f ∙ ap (λ (i : ℕ). counts (drop i xs)) (sym k);
       declined = ap (λ (y : Pass). y .«live_declined») f ∙ ap (λ (i : ℕ). declineds (drop i xs)) (sym k);
-      recent = ap (λ (y : Pass). y .«last_second») f;
       oldest-is = ap (λ (y : Pass). y .oldest) f ∙ ap (λ (i : ℕ). getD xs i noBucket) (sym k);
       newest-is = ap (λ (y : Pass). y .newest) f ∙ ap (λ (n : ℕ). getD xs (n - 1) noBucket) (sym (view-length r b));
     }

@@ -1,4 +1,4 @@
--- The pass over a key's buckets, bucket by bucket, and what it finds. Every sum is what a total has left, so nothing wraps
+-- The sweep over a key's buckets, bucket by bucket, and what a pass finds. Every sum is what a total has left, so nothing wraps
 -- whatever the words.
 -- Assumes nothing.
 use mathlib.Core.Bool.{Bool, true, false, _&&_, cond}
@@ -7,47 +7,34 @@ use Prim.Native.Nat.{ℕ, _+_, _-_}
 use lib.ListN.{getD, drop}
 use lib.Dec.{leb, ltb, eqb}
 use Rattle.ring.specs.declared.Bucket.{Bucket}
-use Rattle.layout.specs.Layout.{mostTotal}
 use Rattle.ring.specs.Ring.{noBucket, counts, declineds, totalOf, declinedOf, lenOf, buckets}
 use Rattle.ring.specs.Sound.{soundBuckets}
 use Rattle.sweep.specs.declared.tally.Tally.{Tally}
-use Rattle.sweep.specs.declared.tally.Swept.{Swept}
 use Rattle.sweep.specs.declared.tally.Gone.{Gone}
 use Rattle.sweep.specs.declared.tally.Pass.{Pass}
-use Rattle.rules.specs.Buckets.{ticksPerSecond, older, ahead, lastSecond}
-
--- what the counts have left behind the last bucket before e
-unfoldable pub behind : ℕ → ℕ → ℕ → ℕ → ℕ
-behind e time left recent = cond (ltb time e) left recent
+use Rattle.rules.specs.Buckets.{older, ahead}
 
 -- whether the next bucket keeps the pass sound
 unfoldable pub goodOf : Tally → Bucket → Bool
 goodOf a x = leb (a .lo) (x .time) && (leb (x .declined) (x .count) && (leb (x .count) (a .left) && leb (x .declined) (a .spare)))
 
-unfoldable pub stepOf : ℕ → Tally → Bucket → Tally
-stepOf e a x = record { lo = x .time; left = a .left - x .count; spare = a .spare - x .declined; recent = behind e (x .time) (a .left - x .count) (a .recent) }
+unfoldable pub stepOf : Tally → Bucket → Tally
+stepOf a x = record { lo = x .time; left = a .left - x .count; spare = a .spare - x .declined }
 
 -- behind the last: times do not fall, so the last one tells for all
 unfoldable pub endedOf : ℕ → Tally → Bool
 endedOf last a = leb (a .lo) last && (eqb (a .left) 0 && eqb (a .spare) 0)
 
-abbrev pub off : Swept
-off = record { sound = false; recent = 0 }
-
-unfoldable pub swept : ℕ → ℕ → Tally → List Bucket → Swept
-swept last e a [] = record { sound = endedOf last a; recent = a .recent }
-swept last e a (x ∷ xs) = cond (goodOf a x) (swept last e (stepOf e a x) xs) off
+unfoldable pub swept : ℕ → Tally → List Bucket → Bool
+swept last a [] = endedOf last a
+swept last a (x ∷ xs) = goodOf a x && swept last (stepOf a x) xs
 
 -- before the first, with these totals
 abbrev pub begun : ℕ → ℕ → Tally
-begun total declined = record { lo = 0; left = total; spare = declined; recent = total }
+begun total declined = record { lo = 0; left = total; spare = declined }
 
-abbrev pub sweepOf : ℕ → List ℕ → ℕ → ℕ → Swept
-sweepOf r b last t = swept last (t - ticksPerSecond) (begun (totalOf b) (declinedOf b)) (buckets r b)
-
--- whether the whole is sound: all in order, and the totals are the sums and at most 2^53
-unfoldable pub wholeOf : Swept → ℕ → Bool
-wholeOf s total = s .sound && leb total mostTotal
+abbrev pub sweepOf : ℕ → List ℕ → ℕ → Bool
+sweepOf r b last = swept last (begun (totalOf b) (declinedOf b)) (buckets r b)
 
 -- the oldest that are over w, and the totals without them
 abbrev pub fewer : Gone → Bucket → Gone
@@ -71,13 +58,12 @@ found n xs t w = record {
   expired = ahead w t xs;
   «live_total» = counts (drop (ahead w t xs) xs);
   «live_declined» = declineds (drop (ahead w t xs) xs);
-  «last_second» = lastSecond t xs;
   oldest = getD xs (ahead w t xs) noBucket;
   newest = getD xs (n - 1) noBucket;
 }
 
 abbrev pub unsound : Pass
-unsound = record { sound = false; buckets = 0; expired = 0; «live_total» = 0; «live_declined» = 0; «last_second» = 0; oldest = noBucket; newest = noBucket }
+unsound = record { sound = false; buckets = 0; expired = 0; «live_total» = 0; «live_declined» = 0; oldest = noBucket; newest = noBucket }
 
 abbrev pub pick : Bool → Pass → Pass → Pass
 pick true x y = x

@@ -1,32 +1,23 @@
-// The one pass over a key's buckets that judges and measures them, for both limiters.
+// A key's buckets judged and measured, for both limiters.
 ghost use mathlib.Core.Path.{_≡_};
 ghost use Prim.Native.Nat.{_-_};
 ghost use lib.Dec.{ltb};
 ghost use Rattle.ring.specs.Ring.{Shape, noBucket};
-ghost use Rattle.sweep.specs.Sweep.{behind, goodOf, stepOf, endedOf, sweepOf, wholeOf, goneOf, unsound, passOf};
+ghost use Rattle.ring.specs.Sound.{soundBuckets};
+ghost use Rattle.sweep.specs.Sweep.{goodOf, stepOf, endedOf, sweepOf, goneOf, unsound, passOf};
 use ring::Bucket;
 
 mod tally;
 
 use tally::Gone;
 pub use tally::Pass;
-use tally::Swept;
 use tally::Tally;
-
-pub const TICKS_PER_SECOND: u64 = 1000;
 
 // Whether an age is over `w`.
 fn older(w: u64, reading: u64, time: u64) -> bool
     ensures { λ x. ⌜ x ≡ ltb w (reading - time) ⌝ }
 {
     w < ring::less(reading, time)
-}
-
-// What the counts have left behind the last bucket before `edge`: `left`, if this is one.
-fn behind(edge: u64, time: u64, left: u64, recent: u64) -> u64
-    ensures { λ x. ⌜ x ≡ behind edge time left recent ⌝ }
-{
-    if time < edge { left } else { recent }
 }
 
 // Whether the next bucket keeps all in order and within the totals.
@@ -55,19 +46,13 @@ fn good(a: Tally, x: Bucket) -> bool
 }
 
 // One bucket further.
-fn step(a: Tally, x: Bucket, edge: u64) -> Tally
-    ensures { λ y. ⌜ y ≡ stepOf edge a x ⌝ }
+fn step(a: Tally, x: Bucket) -> Tally
+    ensures { λ y. ⌜ y ≡ stepOf a x ⌝ }
 {
     let t = x.time;
     let left = ring::less(a.left, x.count);
     let spare = ring::less(a.spare, x.declined);
-    let recent = behind(edge, t, left, a.recent);
-    Tally {
-        lo: t,
-        left,
-        spare,
-        recent,
-    }
+    Tally { lo: t, left, spare }
 }
 
 // Whether no time is past `last`, and the totals are spent.
@@ -86,48 +71,43 @@ fn ended(a: Tally, last: u64) -> bool
     spare == 0
 }
 
-// The pass itself, up to a bucket that is not in order. A bucket is over a second if its time is before `edge`.
-fn sweep(b: &[u64], r: usize, last: u64, reading: u64) -> Swept
+// The buckets one by one, up to one that is not in order.
+fn sweep(b: &[u64], r: usize, last: u64) -> bool
     requires { ⌜ Shape r (now b) ⌝ }
-    ensures { λ y. ⌜ y ≡ sweepOf r (now (b .entry)) last reading ⌝ }
+    ensures { λ y. ⌜ y ≡ sweepOf r (now (b .entry)) last ⌝ }
 {
     let n = ring::len(b, r);
     let total = b[layout::TOTAL];
     let declined = b[layout::DECLINED];
-    let edge = ring::less(reading, TICKS_PER_SECOND);
     let mut a = Tally {
         lo: 0,
         left: total,
         spare: declined,
-        recent: total,
     };
     let mut k = 0;
     while k < n {
         let x = ring::nth(b, r, k);
         if !good(a, x) {
-            return Swept {
-                sound: false,
-                recent: 0,
-            };
+            return false;
         }
-        a = step(a, x, edge);
+        a = step(a, x);
         k += 1;
     }
-    Swept {
-        sound: ended(a, last),
-        recent: a.recent,
-    }
+    ended(a, last)
 }
 
-// Whether the whole is sound: in order, with totals that are the sums and at most 2^53.
-fn whole(s: Swept, total: u64) -> bool
-    ensures { λ y. ⌜ y ≡ wholeOf s total ⌝ }
+// Whether the buckets are sound: by the quick pass where it shows it, else one by one.
+fn is_sound(b: &[u64], r: usize, last: u64) -> bool
+    requires { ⌜ Shape r (now b) ⌝ }
+    ensures { λ y. ⌜ y ≡ soundBuckets r (now (b .entry)) last ⌝ }
 {
-    let sound = s.sound;
-    if !sound {
+    if quick::shows_sound(b, r, last) {
+        return true;
+    }
+    if layout::MOST_TOTAL < b[layout::TOTAL] {
         return false;
     }
-    total <= layout::MOST_TOTAL
+    sweep(b, r, last)
 }
 
 // The oldest buckets that are over `window`; only these are read, and the next.
@@ -181,7 +161,6 @@ fn no_pass() -> Pass
         expired: 0,
         live_total: 0,
         live_declined: 0,
-        last_second: 0,
         oldest: nothing(),
         newest: nothing(),
     }
@@ -192,8 +171,7 @@ fn pass_fit(b: &[u64], r: usize, last: u64, reading: u64, window: u64) -> Pass
     requires { ⌜ Shape r (now b) ⌝ }
     ensures { λ x. ⌜ x ≡ passOf r (now (b .entry)) last reading window ⌝ }
 {
-    let s = sweep(b, r, last, reading);
-    if !whole(s, b[layout::TOTAL]) {
+    if !is_sound(b, r, last) {
         return no_pass();
     }
     let n = ring::len(b, r);
@@ -206,7 +184,6 @@ fn pass_fit(b: &[u64], r: usize, last: u64, reading: u64, window: u64) -> Pass
         expired,
         live_total: g.total,
         live_declined: g.declined,
-        last_second: s.recent,
         oldest: ring::nth_or_none(b, r, expired),
         newest: ring::nth_or_none(b, r, end),
     }

@@ -1,27 +1,23 @@
--- By the test.
-use mathlib.Core.Path.{sym, _∙_}
-use Rattle.factor_opened.specs.Opened.{askedAt}
+-- The limits are the soft and the hard one.
+-- Assumes nothing.
+use Rattle.factor_opened.specs.Opened.{workedAt, askedAt}
+use native.Mathlib.Omega.{arith}
 use borrow.Author.Needs.{needs}
 use Rattle.factor_opened.proofs.ask.Statement.{statement}
 use Rattle.factor_opened.proofs.ask.Tie as tie
 
-is-usable-requires : tie.Need-is-usable-requires
-is-usable-requires c κs = search needs
+soft-limit-requires : tie.Need-soft-limit-requires
+soft-limit-requires c κs = search needs
 
-kept-requires : tie.Need-kept-requires
-kept-requires c κs = search needs
+cut-limit-requires : tie.Need-cut-limit-requires
+cut-limit-requires c κs = search needs
+
+ask-by-requires : tie.Need-ask-by-requires
+ask-by-requires c κs = search needs
 
 returns : tie.Need-returns
-unfolding askedAt
-returns c = rw (sym (c .before .before .is-usable .ensures) ∙ c .before .if1 .taken, c .kept .ensures)
-
-work-out-requires : tie.Need-work-out-requires
-work-out-requires c κs = search needs
-
-returns-2 : tie.Need-returns-2
-unfolding askedAt
-returns-2 c = rw (sym (c .before .before .is-usable .ensures) ∙ c .before .if1 .left) (c .work-out .ensures)
+unfolding askedAt workedAt
+returns c = rw (← c .before .cut-limit .ensures, ← c .before .before .soft-limit .ensures) (c .ask-by .ensures)
 
 pub ask-spec : {M : Type 1} → statement M
-ask-spec =
-    tie.close (tie.spec is-usable-requires kept-requires returns work-out-requires returns-2)
+ask-spec = tie.close (tie.spec soft-limit-requires cut-limit-requires ask-by-requires returns)

@@ -1,5 +1,6 @@
 -- Each arm is its case of the definition; a constant is its bits.
 use lib.Ieee.{ofBits}
+use Rattle.factor_opened.specs.Opened.{workedAt, askedAt}
 use Rattle.forecast_opened.specs.Forecast.{outcomeAt}
 use borrow.Author.Needs.{needs}
 use Rattle.forecast_opened.proofs.decide.Statement.{statement}
@@ -32,8 +33,8 @@ full-at-requires-2 c κs = search needs
 enum-told-4 : tie.Need-enum-told-4
 enum-told-4 c = search needs
 
-ask-requires : tie.Need-ask-requires
-ask-requires c κs = search needs
+ask-by-requires : tie.Need-ask-by-requires
+ask-by-requires c κs = search needs
 
 draw-by-requires : tie.Need-draw-by-requires
 draw-by-requires c κs = search needs
@@ -63,7 +64,7 @@ returns-3 c =
     )
 
 returns-4 : tie.Need-returns-4
-unfolding outcomeAt
+unfolding outcomeAt askedAt workedAt
 returns-4 c =
     let k = c .before .before .before .before in
     rw (
@@ -71,7 +72,7 @@ returns-4 c =
       ← k .before .cut-limit .ensures,
       ← k .reach-of .ensures,
       c .before .before .enum-told4 .given .1,
-      ← c .before .ask .ensures,
+      ← c .before .ask-by .ensures,
     ) (c .draw-by .ensures)
 
 pub decide-spec : {M : Type 1} → statement M
@@ -87,7 +88,7 @@ decide-spec =
     enum-told-3
     full-at-requires-2
     enum-told-4
-    ask-requires
+    ask-by-requires
     draw-by-requires
     returns
     returns-2

@@ -1,5 +1,5 @@
 -- Refusals 1 to 7, then 8 to 12, then 13; then the change is carried out.
-use Rattle.suppressed_verdicts.specs.Laws.{not-early, slot-found, room-found, inc-early, inc-late, inc-total, inc-blind, inc-applies, inc-done}
+use Rattle.suppressed_verdicts.specs.Laws.{not-early, slot-found, room-found, in-room, inc-early, inc-late, inc-total, inc-blind, inc-applies, inc-done}
 use borrow.Author.Needs.{needs}
 use Rattle.suppressed_inc.proofs.inc.Statement.{statement}
 use Rattle.suppressed_inc.proofs.inc.Tie as tie
@@ -75,28 +75,32 @@ forecast-requires c κs =
     (a .rate) (a .count) (a .draw) (r .result) (l .result) (r .ensures) (l .ensures) (c .before .if2 .left)
 
 decide-requires : tie.Need-decide-requires
-decide-requires c κs = search needs
+decide-requires c κs =
+    let a = c .before .before .before .before .before .before .before .before .before .before .before .before .before .before .before .before .before .args in
+    let j = c .before .before .before .before .before .before .before .before .before .before .before .before .before .judge in
+    let z = c .before .before .before .before .before .before .before .before .before .before .before .if1 .left in
+    in-room (a .settings) (a .room .now) (a .reading) (a .key .now) (j .result) (j .ensures) z
 
 same-length-3 : tie.Need-same-length-3
 same-length-3 c = search needs
 
 returns-3 : tie.Need-returns-3
 returns-3 c =
-    let a = c .before .before .before .before .before .before .before .before .before .before .before .before .before .before .before .before .before .before
-    .before .args in
-    let j = c .before .before .before .before .before .before .before .before .before .before .before .before .before .before .before .judge in
-    let z = c .before .before .before .before .before .before .before .before .before .before .before .before .before .if1 .left in
-    let p = c .before .before .before .before .before .before .before .before .before .before .before .place in
-    let f = c .before .before .before .before .before .before .before .before .before .lacks-slot in
-    let r = c .before .before .before .before .before .before .before .ring-of in
-    let l = c .before .before .before .before .before .before .inc-late in
-    let i = c .before .before .before .before .limit-for in
-    let n = c .before .before .before .forecast in
+    let a = c .before .before .before .before .before .before .before .before .before .before .before .before .before .before .before .before
+    .before .before .before .before .args in
+    let j = c .before .before .before .before .before .before .before .before .before .before .before .before .before .before .before .before .judge in
+    let z = c .before .before .before .before .before .before .before .before .before .before .before .before .before .before .if1 .left in
+    let p = c .before .before .before .before .before .before .before .before .before .before .before .before .place in
+    let f = c .before .before .before .before .before .before .before .before .before .before .lacks-slot in
+    let r = c .before .before .before .before .before .before .before .before .ring-of in
+    let l = c .before .before .before .before .before .before .before .inc-late in
+    let i = c .before .before .before .before .before .limit-for in
+    let n = c .before .before .before .before .forecast in
     let o = c .before .before .decide in
     inc-blind (a .settings) (a .room .now) (a .reading) (a .key .now)
     (not-early (a .settings) (a .room .now) (a .reading) (a .key .now) (j .result) (j .ensures) z) (j .result .slot)
     (slot-found (a .settings) (a .room .now) (a .reading) (a .key .now) (j .result) (j .ensures) z) (p .result) (p .ensures) (f .result) (f .ensures)
-    (a .rate) (a .count) (a .draw) (r .result) (l .result) (r .ensures) (l .ensures) (c .before .before .before .before .before .if2 .left) (o .result)
+    (a .rate) (a .count) (a .draw) (r .result) (l .result) (r .ensures) (l .ensures) (c .before .before .before .before .before .before .if2 .left) (o .result)
     (i .result) (n .result) (i .ensures) (n .ensures) (o .ensures) (c .if3 .taken)
 
 inc-change-requires : tie.Need-inc-change-requires
@@ -104,22 +108,23 @@ inc-change-requires c κs = search needs
 
 apply-requires : tie.Need-apply-requires
 apply-requires c κs =
-    let a = c .before .before .before .before .before .before .before .before .before .before .before .before .before .before .before .before .before .before
-    .before .before .before .args in
-    let j = c .before .before .before .before .before .before .before .before .before .before .before .before .before .before .before .before .before .judge in
-    let z = c .before .before .before .before .before .before .before .before .before .before .before .before .before .before .before .if1 .left in
-    let p = c .before .before .before .before .before .before .before .before .before .before .before .before .before .place in
-    let f = c .before .before .before .before .before .before .before .before .before .before .before .lacks-slot in
-    let r = c .before .before .before .before .before .before .before .before .before .ring-of in
-    let l = c .before .before .before .before .before .before .before .before .inc-late in
-    let i = c .before .before .before .before .before .before .limit-for in
-    let n = c .before .before .before .before .before .forecast in
+    let a = c .before .before .before .before .before .before .before .before .before .before .before .before .before .before .before .before
+    .before .before .before .before .before .before .args in
+    let j = c .before .before .before .before .before .before .before .before .before .before .before .before .before .before .before .before
+    .before .before .judge in
+    let z = c .before .before .before .before .before .before .before .before .before .before .before .before .before .before .before .before .if1 .left in
+    let p = c .before .before .before .before .before .before .before .before .before .before .before .before .before .before .place in
+    let f = c .before .before .before .before .before .before .before .before .before .before .before .before .lacks-slot in
+    let r = c .before .before .before .before .before .before .before .before .before .before .ring-of in
+    let l = c .before .before .before .before .before .before .before .before .before .inc-late in
+    let i = c .before .before .before .before .before .before .before .limit-for in
+    let n = c .before .before .before .before .before .before .forecast in
     let o = c .before .before .before .before .decide in
     inc-applies (a .settings) (a .room .now) (a .reading) (a .key .now)
     (not-early (a .settings) (a .room .now) (a .reading) (a .key .now) (j .result) (j .ensures) z) (j .result .slot)
     (slot-found (a .settings) (a .room .now) (a .reading) (a .key .now) (j .result) (j .ensures) z) (p .result) (p .ensures) (f .result) (f .ensures)
     (a .rate) (a .count) (a .draw) (r .result) (l .result) (r .ensures) (l .ensures)
-    (c .before .before .before .before .before .before .before .if2 .left) (o .result) (i .result) (n .result) (i .ensures) (n .ensures) (o .ensures)
+    (c .before .before .before .before .before .before .before .before .if2 .left) (o .result) (i .result) (n .result) (i .ensures) (n .ensures) (o .ensures)
     (c .before .inc-change .result) (c .before .inc-change .ensures)
 
 same-length-4 : tie.Need-same-length-4
@@ -127,24 +132,24 @@ same-length-4 c = search needs
 
 returns-4 : tie.Need-returns-4
 returns-4 c =
-    let a = c .before .before .before .before .before .before .before .before .before .before .before .before .before .before .before .before .before .before
-    .before .before .before .before .before .before .args in
-    let j = c .before .before .before .before .before .before .before .before .before .before .before .before .before .before .before .before .before .before
-    .before .before .judge in
-    let z = c .before .before .before .before .before .before .before .before .before .before .before .before .before .before .before .before .before .before
-    .if1 .left in
-    let p = c .before .before .before .before .before .before .before .before .before .before .before .before .before .before .before .before .place in
-    let f = c .before .before .before .before .before .before .before .before .before .before .before .before .before .before .lacks-slot in
-    let r = c .before .before .before .before .before .before .before .before .before .before .before .before .ring-of in
-    let l = c .before .before .before .before .before .before .before .before .before .before .before .inc-late in
-    let i = c .before .before .before .before .before .before .before .before .before .limit-for in
-    let n = c .before .before .before .before .before .before .before .before .forecast in
+    let a = c .before .before .before .before .before .before .before .before .before .before .before .before .before .before .before .before
+    .before .before .before .before .before .before .before .before .before .args in
+    let j = c .before .before .before .before .before .before .before .before .before .before .before .before .before .before .before .before
+    .before .before .before .before .before .judge in
+    let z = c .before .before .before .before .before .before .before .before .before .before .before .before .before .before .before .before
+    .before .before .before .if1 .left in
+    let p = c .before .before .before .before .before .before .before .before .before .before .before .before .before .before .before .before .before .place in
+    let f = c .before .before .before .before .before .before .before .before .before .before .before .before .before .before .before .lacks-slot in
+    let r = c .before .before .before .before .before .before .before .before .before .before .before .before .before .ring-of in
+    let l = c .before .before .before .before .before .before .before .before .before .before .before .before .inc-late in
+    let i = c .before .before .before .before .before .before .before .before .before .before .limit-for in
+    let n = c .before .before .before .before .before .before .before .before .before .forecast in
     let o = c .before .before .before .before .before .before .before .decide in
     inc-done (a .settings) (a .room .now) (a .reading) (a .key .now)
     (not-early (a .settings) (a .room .now) (a .reading) (a .key .now) (j .result) (j .ensures) z) (j .result .slot)
     (slot-found (a .settings) (a .room .now) (a .reading) (a .key .now) (j .result) (j .ensures) z) (p .result) (p .ensures) (f .result) (f .ensures)
     (a .rate) (a .count) (a .draw) (r .result) (l .result) (r .ensures) (l .ensures)
-    (c .before .before .before .before .before .before .before .before .before .before .if2 .left) (o .result) (i .result) (n .result) (i .ensures)
+    (c .before .before .before .before .before .before .before .before .before .before .before .if2 .left) (o .result) (i .result) (n .result) (i .ensures)
     (n .ensures) (o .ensures) (c .before .before .before .before .before .if3 .left) (c .before .before .before .before .inc-change .result)
     (c .before .before .apply .last .0) (c .before .before .before .before .inc-change .ensures) (c .before .before .apply .ensures)
 

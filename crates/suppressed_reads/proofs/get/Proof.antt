@@ -1,5 +1,5 @@
 -- Refusals 1 to 7, then 13; then the change is carried out.
-use Rattle.suppressed_verdicts.specs.Laws.{not-early, slot-found, get-early, get-blind, get-applies, get-done}
+use Rattle.suppressed_verdicts.specs.Laws.{not-early, slot-found, in-room, get-early, get-blind, get-applies, get-done}
 use borrow.Author.Needs.{needs}
 use Rattle.suppressed_reads.proofs.get.Statement.{statement}
 use Rattle.suppressed_reads.proofs.get.Tie as tie
@@ -17,16 +17,20 @@ returns c =
     get-early (a .settings) (a .room .now) (a .reading) (a .key .now) (j .result) (j .ensures) (c .if1 .taken)
 
 ask-requires : tie.Need-ask-requires
-ask-requires c κs = search needs
+ask-requires c κs =
+    let a = c .before .before .before .before .before .before .before .args in
+    let j = c .before .before .before .judge in
+    let z = c .before .if1 .left in
+    in-room (a .settings) (a .room .now) (a .reading) (a .key .now) (j .result) (j .ensures) z
 
 same-length-2 : tie.Need-same-length-2
 same-length-2 c = search needs
 
 returns-2 : tie.Need-returns-2
 returns-2 c =
-    let a = c .before .before .before .before .before .before .before .before .before .args in
-    let j = c .before .before .before .before .before .judge in
-    let z = c .before .before .before .if1 .left in
+    let a = c .before .before .before .before .before .before .before .before .before .before .args in
+    let j = c .before .before .before .before .before .before .judge in
+    let z = c .before .before .before .before .if1 .left in
     get-blind (a .settings) (a .room .now) (a .reading) (a .key .now)
     (not-early (a .settings) (a .room .now) (a .reading) (a .key .now) (j .result) (j .ensures) z) (j .result .slot)
     (slot-found (a .settings) (a .room .now) (a .reading) (a .key .now) (j .result) (j .ensures) z) (c .before .before .ask .result)
@@ -40,9 +44,9 @@ get-change-requires c κs = search needs
 
 apply-requires : tie.Need-apply-requires
 apply-requires c κs =
-    let a = c .before .before .before .before .before .before .before .before .before .before .before .before .args in
-    let j = c .before .before .before .before .before .before .before .before .judge in
-    let z = c .before .before .before .before .before .before .if1 .left in
+    let a = c .before .before .before .before .before .before .before .before .before .before .before .before .before .args in
+    let j = c .before .before .before .before .before .before .before .before .before .judge in
+    let z = c .before .before .before .before .before .before .before .if1 .left in
     get-applies (a .settings) (a .room .now) (a .reading) (a .key .now)
     (not-early (a .settings) (a .room .now) (a .reading) (a .key .now) (j .result) (j .ensures) z) (j .result .slot)
     (slot-found (a .settings) (a .room .now) (a .reading) (a .key .now) (j .result) (j .ensures) z)
@@ -53,9 +57,9 @@ same-length-3 c = search needs
 
 returns-3 : tie.Need-returns-3
 returns-3 c =
-    let a = c .before .before .before .before .before .before .before .before .before .before .before .before .before .before .before .args in
-    let j = c .before .before .before .before .before .before .before .before .before .before .before .judge in
-    let z = c .before .before .before .before .before .before .before .before .before .if1 .left in
+    let a = c .before .before .before .before .before .before .before .before .before .before .before .before .before .before .before .before .args in
+    let j = c .before .before .before .before .before .before .before .before .before .before .before .before .judge in
+    let z = c .before .before .before .before .before .before .before .before .before .before .if1 .left in
     get-done (a .settings) (a .room .now) (a .reading) (a .key .now)
     (not-early (a .settings) (a .room .now) (a .reading) (a .key .now) (j .result) (j .ensures) z) (j .result .slot)
     (slot-found (a .settings) (a .room .now) (a .reading) (a .key .now) (j .result) (j .ensures) z)

@@ -1,33 +1,22 @@
--- `sweep::pass_fit` meets its contract: a sweep that is whole finds what the rules say, and any other finds nothing.
+-- `sweep::pass_fit` meets its contract: what is sound finds what the rules say, and anything else finds nothing.
 -- Assumes nothing.
-use Rattle.ring.specs.Ring.{totalOf}
-use Rattle.sweep.specs.Found.{pass-not, pass-is}
-use Rattle.sweep.specs.Sweep.{wholeOf}
-use Rattle.sweep.specs.declared.tally.Swept.{Swept}
+use mathlib.Core.Path.{sym, _∙_}
 use borrow.Author.Tests.{not-true, not-false}
-use mathlib.Core.Path.{sym, ap, _∙_}
+use Rattle.sweep.specs.Found.{pass-not, pass-is}
 use borrow.Author.Needs.{needs}
 use Rattle.sweep.proofs.pass_fit.Statement.{statement}
 use Rattle.sweep.proofs.pass_fit.Tie as tie
 
-sweep-requires : tie.Need-sweep-requires
-sweep-requires c κs = search needs
-
-shared-slice-read-whole : tie.Need-shared-slice-read-whole
-shared-slice-read-whole c = search needs
-
-whole-requires : tie.Need-whole-requires
-whole-requires c κs = search needs
+is-sound-requires : tie.Need-is-sound-requires
+is-sound-requires c κs = search needs
 
 no-pass-requires : tie.Need-no-pass-requires
 no-pass-requires c κs = search needs
 
 returns : tie.Need-returns
-returns c = let a = c .before .before .before .before .before .before .args in
-    let w = c .before .before .whole in
-    let s = c .before .before .before .before .sweep in
-    c .no-pass .ensures ∙ pass-not (a .r) (a .b .now) (a .last) (a .reading) (a .window) (c .before .before .before .before .before .before .pre)
-    (sym (w .ensures ∙ ap (λ (y : Swept). wholeOf y (totalOf (a .b .now))) (s .ensures)) ∙ not-true (w .result) (c .before .if1 .taken))
+returns c = let a = c .before .before .before .before .args in
+    let s = c .before .before .is-sound in
+    c .no-pass .ensures ∙ pass-not (a .r) (a .b .now) (a .last) (a .reading) (a .window) (sym (s .ensures) ∙ not-true (s .result) (c .before .if1 .taken))
 
 len-requires : tie.Need-len-requires
 len-requires c κs = search needs
@@ -45,22 +34,21 @@ nth-or-none-requires-2 : tie.Need-nth-or-none-requires-2
 nth-or-none-requires-2 c κs = search needs
 
 returns-2 : tie.Need-returns-2
-returns-2 c = let a = c .before .before .before .before .before .before .before .before .before .before .args in
-    let w = c .before .before .before .before .before .before .whole in
-    let s = c .before .before .before .before .before .before .before .before .sweep in
+returns-2 c = let a = c .before .before .before .before .before .before .before .before .args in
+    let s = c .before .before .before .before .before .before .is-sound in
+    let n = c .before .before .before .before .len in
     let e = c .before .before .before .expire in
-    pass-is (a .r) (a .b .now) (a .last) (a .reading) (a .window) (c .before .before .before .before .before .before .before .before .before .before .pre)
-    (s .result) (s .ensures) (sym (w .ensures) ∙ not-false (w .result) (c .before .before .before .before .before .if1 .left)) (e .result) (e .ensures)
-    (c .before .before .before .before .len .result) (c .before .before .less .result) (c .before .nth-or-none .result) (c .nth-or-none2 .result)
-    (c .before .before .before .before .len .ensures) (c .before .before .less .ensures) (c .before .nth-or-none .ensures) (c .nth-or-none2 .ensures)
+    let d = c .before .before .less in
+    pass-is (a .r) (a .b .now) (a .last) (a .reading) (a .window)
+    (sym (s .ensures) ∙ not-false (s .result) (c .before .before .before .before .before .if1 .left)) (e .result) (e .ensures)
+    (n .result) (d .result) (c .before .nth-or-none .result) (c .nth-or-none2 .result) (n .ensures) (d .ensures) (c .before .nth-or-none .ensures)
+    (c .nth-or-none2 .ensures)
 
 pub pass-fit-spec : {M : Type 1} → statement M
 pass-fit-spec =
     tie.close
     (tie.spec
-    sweep-requires
-    shared-slice-read-whole
-    whole-requires
+    is-sound-requires
     no-pass-requires
     returns
     len-requires

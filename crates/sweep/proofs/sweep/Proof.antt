@@ -10,10 +10,10 @@ use Rattle.sweep.proofs.sweep.Statement.{statement}
 use Rattle.sweep.proofs.sweep.Tie as tie
 
 abbrev Inv-loop : tie.InvT-loop
-Inv-loop b r last reading n total declined edge a₀ k₀ a k = (k ≤ n) × Sweeps r b last reading edge k a
+Inv-loop b r last n total declined a₀ k₀ a k = (k ≤ n) × Sweeps r b last k a
 
 abbrev μ-loop : tie.MeasureT-loop
-μ-loop b r last reading n total declined edge a₀ k₀ a k = n - k
+μ-loop b r last n total declined a₀ k₀ a k = n - k
 
 len-requires : tie.Need-len-requires Inv-loop μ-loop
 len-requires c κs = search needs
@@ -24,12 +24,8 @@ shared-slice-read-total c = search needs
 shared-slice-read-declined : tie.Need-shared-slice-read-declined Inv-loop μ-loop
 shared-slice-read-declined c = search needs
 
-less-requires : tie.Need-less-requires Inv-loop μ-loop
-less-requires c κs = search needs
-
 loop-holds : tie.Need-loop-holds Inv-loop μ-loop
-loop-holds c = let a = c .before .before .before .before .before .args in
-    (omega arith, sweep-start (a .r) (a .b .now) (a .last) (a .reading) (c .less .result) _ _ (c .less .ensures) refl refl)
+loop-holds c = let a = c .before .before .before .before .args in (omega arith, sweep-start (a .r) (a .b .now) (a .last) _ _ refl refl)
 
 nth-requires : tie.Need-nth-requires Inv-loop μ-loop
 nth-requires c κs = search needs
@@ -38,12 +34,11 @@ good-requires : tie.Need-good-requires Inv-loop μ-loop
 good-requires c κs = search needs
 
 returns : tie.Need-returns Inv-loop μ-loop
-returns c = let a = c .before .before .before .before .before .before .before .before .before .before .args in
+returns c = let a = c .before .before .before .before .before .before .before .before .before .args in
     let l = c .before .before .before .before .loop in
     let g = c .before .good2 in
-    sweep-off (a .r) (a .b .now) (a .last) (a .reading) (c .before .before .before .before .before .less .result) (l .k) (l .a)
-    (c .before .before .nth .result)
-    (omega (arith, c .before .before .before .before .before .before .before .before .len .ensures, c .before .before .before .loop-test .taken))
+    sweep-off (a .r) (a .b .now) (a .last) (l .k) (l .a) (c .before .before .nth .result)
+    (omega (arith, c .before .before .before .before .before .before .before .len .ensures, c .before .before .before .loop-test .taken))
     (c .before .before .nth .ensures) (sym (g .ensures) ∙ not-true (g .result) (c .if1 .taken)) (l .inv .1)
 
 step-requires : tie.Need-step-requires Inv-loop μ-loop
@@ -56,15 +51,14 @@ loop-less : tie.Need-loop-less Inv-loop μ-loop
 loop-less c = search needs
 
 loop-again : tie.Need-loop-again Inv-loop μ-loop
-loop-again c = let a = c .before .before .before .before .before .before .before .before .before .before .before .args in
+loop-again c = let a = c .before .before .before .before .before .before .before .before .before .before .args in
     let l = c .before .before .before .before .before .loop in
     let g = c .before .before .good2 in (
       omega arith,
-      sweep-turn (a .r) (a .b .now) (a .last) (a .reading) (c .before .before .before .before .before .before .less .result) (l .k) (l .a)
-          (c .step .result) (c .before .before .before .nth .result)
+      sweep-turn (a .r) (a .b .now) (a .last) (l .k) (l .a) (c .step .result) (c .before .before .before .nth .result)
           (omega (
             arith,
-            c .before .before .before .before .before .before .before .before .before .len .ensures,
+            c .before .before .before .before .before .before .before .before .len .ensures,
             c .before .before .before .before .loop-test .taken,
           )) (c .before .before .before .nth .ensures)
           (sym (g .ensures) ∙ not-false (g .result) (c .before .if1 .left)) (c .step .ensures) (l .inv .1),
@@ -74,10 +68,10 @@ ended-requires : tie.Need-ended-requires Inv-loop μ-loop
 ended-requires c κs = search needs
 
 returns-2 : tie.Need-returns-2 Inv-loop μ-loop
-returns-2 c = let a = c .before .before .before .before .before .before .before .before .args in
+returns-2 c = let a = c .before .before .before .before .before .before .before .args in
     let l = c .before .before .loop in
-    sweep-end (a .r) (a .b .now) (a .last) (a .reading) (c .before .before .before .less .result) (l .k) (l .a) (c .ended .result)
-    (omega (arith, c .before .before .before .before .before .before .len .ensures, c .before .loop-test .left)) (c .ended .ensures) (l .inv .1)
+    sweep-end (a .r) (a .b .now) (a .last) (l .k) (l .a) (c .ended .result)
+    (omega (arith, c .before .before .before .before .before .len .ensures, c .before .loop-test .left)) (c .ended .ensures) (l .inv .1)
 
 pub sweep-spec : {M : Type 1} → statement M
 sweep-spec =
@@ -88,7 +82,6 @@ sweep-spec =
     len-requires
     shared-slice-read-total
     shared-slice-read-declined
-    less-requires
     loop-holds
     nth-requires
     good-requires

@@ -1,0 +1,4 @@
+pub mod Quick
+pub mod Laws
+pub mod Turns
+pub mod Judged
