@@ -25,12 +25,15 @@ pub fn inc(
 {
     let window = settings.window_size;
     let bucket = settings.bucket_size;
-    let j = judge::judge(RoomKind::Absolute, settings, room, reading, key);
-    let code = j.code;
-    if code != 0 {
-        return RateLimitDecision::Refused(code);
+    let fault = judge::fault(settings, room);
+    if fault != 0 {
+        return RateLimitDecision::Refused(fault);
     }
-    let x = j.slot;
+    let x = judge::open_slot(settings, room, reading, key);
+    let misfit = judge::misfit(RoomKind::Absolute, settings, room, reading, key, x);
+    if misfit != 0 {
+        return RateLimitDecision::Refused(misfit);
+    }
     let at = plan::place(room, x);
     let limit = common::cut_limit(x.limit);
     let may = allows(limit, x);

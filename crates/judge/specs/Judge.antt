@@ -1,7 +1,7 @@
 -- Refusals 1 to 7, which every call with a key has, in document 01's order; and what a call that passes them knows.
 -- Assumes nothing.
 use mathlib.Core.Path.{_≡_}
-use mathlib.Core.Bool.{Bool, true, not, _&&_}
+use mathlib.Core.Bool.{Bool, true, not, _&&_, cond}
 use mathlib.Core.List.{List, [], _∷_, _++_}
 use Prim.Native.Nat.{ℕ, _≤_}
 use lib.ListN.{length}
@@ -30,6 +30,10 @@ refusals kind s w t key own = faults s ++ (misfits kind s w t key ++ own)
 
 abbrev pub early : RoomKind → Settings → List ℕ → ℕ → List ℕ → ℕ
 early kind s w t key = first (faults s ++ misfits kind s w t key)
+
+-- the first of 1 to 5 that the settings and the lengths meet, or 0
+unfoldable pub faultOf : Settings → List ℕ → ℕ
+faultOf s w = cond (eqb (first (faults s)) 0) (cond (sized w) 0 5) (first (faults s))
 
 -- the key's slot, opened at the reading
 abbrev pub slotIn : Settings → List ℕ → ℕ → List ℕ → Slot

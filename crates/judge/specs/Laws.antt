@@ -18,7 +18,7 @@ use Rattle.rules.specs.declared.RoomKind.{RoomKind}
 use Rattle.opened.specs.declared.Slot.{Slot}
 use Rattle.opened.specs.Sound.{addressed, soundAt}
 use Rattle.opened.specs.Slot.{noSlot, slotOf}
-use Rattle.judge.specs.Judge.{misfits, refusals, early, judged, Passed}
+use Rattle.judge.specs.Judge.{misfits, refusals, early, faultOf, judged, Passed}
 
 pub faults-positive : (s : Settings) → Positive (faults s)
 unfolding faults
@@ -32,6 +32,9 @@ misfits-positive kind s w t key = omega arith
 joined-positive : (xs ys : List (ℕ × Bool)) → Positive xs → Positive ys → Positive (xs ++ ys)
 joined-positive [] ys p q = q
 joined-positive (x ∷ xs) ys p q = (p .0, joined-positive xs ys (p .1) q)
+
+five-none : (n : ℕ) → n ≡ 5 → n ≡ 0 → ⊥
+five-none n p q = omega (arith, p, q)
 
 module _ (kind : RoomKind) (s : Settings) (w : List ℕ) (t : ℕ) (key : List ℕ) where
   -- ---- the answer
@@ -61,6 +64,25 @@ module _ (kind : RoomKind) (s : Settings) (w : List ℕ) (t : ℕ) (key : List �
   pub early-lengths : Proper s → sized w ≡ false → early kind s w t key ≡ 5
   unfolding misfits first
   early-lengths p e = after p ∙ rw e
+
+  -- ---- its number in two steps: of the settings and lengths, and of the rest
+  pub fault-early : (n : ℕ) → n ≡ faultOf s w → (n ≡ 0 → ⊥) → early kind s w t key ≡ n
+  unfolding faultOf
+  fault-early n e z = go (eqb (first (faults s)) 0) refl (sized w) refl
+    where
+      go : (a : Bool) → eqb (first (faults s)) 0 ≡ a → (b : Bool) → sized w ≡ b → early kind s w t key ≡ n
+      go true p true q = absurd (z (e ∙ rw (p, q)))
+      go true p false q = early-lengths (proper s (eqb-true (first (faults s)) 0 p)) q ∙ sym (e ∙ rw (p, q))
+      go false p b q = early-fault n (e ∙ rw p) z
+
+  pub no-fault : faultOf s w ≡ 0 → Room w × Proper s
+  unfolding faultOf
+  no-fault e = go (eqb (first (faults s)) 0) refl (sized w) refl
+    where
+      go : (a : Bool) → eqb (first (faults s)) 0 ≡ a → (b : Bool) → sized w ≡ b → Room w × Proper s
+      go true p true q = (sized-room w q, proper s (eqb-true (first (faults s)) 0 p))
+      go true p false q = absurd (five-none (faultOf s w) (rw (p, q)) e)
+      go false p b q = absurd (eqb-false (first (faults s)) 0 p (sym (rw p) ∙ e))
 
   pub early-unsound : Proper s → Room w → soundAt kind s w (addressed w key) ≡ false → early kind s w t key ≡ 5
   unfolding misfits first

@@ -6,7 +6,7 @@ ghost use Rattle.room.specs.Room.{Room};
 ghost use Rattle.opened.specs.Sound.{addressed, soundAt};
 ghost use Rattle.opened.specs.Slot.{noSlot, opened};
 ghost use Rattle.opened.specs.Right.{Addresses};
-ghost use Rattle.judge.specs.Judge.{judged};
+ghost use Rattle.judge.specs.Judge.{faultOf, early, slotIn, judged};
 use opened::Slot;
 use rules::RoomKind;
 use settings::Settings;
@@ -52,35 +52,65 @@ fn refused(code: u64) -> Judged
     }
 }
 
-// Refusals 5 to 7, of a room whose lengths are right.
-fn judge_room(kind: RoomKind, settings: Settings, w: &[u64], reading: u64, key: &[u8]) -> Judged
-    requires { ⌜ Room (now w) × Proper settings ⌝ }
-    ensures { λ x. ⌜ x ≡ judged kind settings (now (w .entry)) reading (now (key .entry)) ⌝ }
-{
-    let window = settings.window_size;
-    let at = address(w, key);
-    let x = opened::open_at(w, at, reading, window.0);
-    if !sound_at(kind, settings, w, key, x) {
-        return refused(5);
-    }
-    if reading < w[2] {
-        return refused(6);
-    }
-    if LONGEST_KEY < key.len() {
-        return refused(7);
-    }
-    Judged { code: 0, slot: x }
-}
-
-pub fn judge(kind: RoomKind, settings: Settings, w: &[u64], reading: u64, key: &[u8]) -> Judged
-    ensures { λ x. ⌜ x ≡ judged kind settings (now (w .entry)) reading (now (key .entry)) ⌝ }
+// The first of refusals 1 to 5 that the settings and the room's lengths meet, or 0.
+pub fn fault(settings: Settings, w: &[u64]) -> u64
+    ensures { λ n. ⌜ n ≡ faultOf settings (now (w .entry)) ⌝ }
 {
     let n = settings.refusal();
     if n != 0 {
-        return refused(n);
+        return n;
     }
     if !room::sized(w) {
-        return refused(5);
+        return 5;
     }
-    judge_room(kind, settings, w, reading, key)
+    0
+}
+
+// The key's slot, opened at the reading.
+pub fn open_slot(settings: Settings, w: &[u64], reading: u64, key: &[u8]) -> Slot
+    requires { ⌜ Room (now w) × Proper settings ⌝ }
+    ensures { λ x. ⌜ x ≡ slotIn settings (now (w .entry)) reading (now (key .entry)) ⌝ }
+{
+    let window = settings.window_size;
+    opened::open_at(w, address(w, key), reading, window.0)
+}
+
+// The first of refusals 5 to 7 that the key's slot, the reading or the key meets, or 0.
+pub fn misfit(
+    kind: RoomKind,
+    settings: Settings,
+    w: &[u64],
+    reading: u64,
+    key: &[u8],
+    x: Slot,
+) -> u64
+    requires { ⌜ Room (now w) × Proper settings × (x ≡ slotIn settings (now w) reading (now key)) ⌝ }
+    ensures { λ n. ⌜ n ≡ early kind settings (now (w .entry)) reading (now (key .entry)) ⌝ }
+{
+    if !sound_at(kind, settings, w, key, x) {
+        return 5;
+    }
+    if reading < w[2] {
+        return 6;
+    }
+    if LONGEST_KEY < key.len() {
+        return 7;
+    }
+    0
+}
+
+// All three at once. An increment asks them one after the other, so that its slot is not copied.
+pub fn judge(kind: RoomKind, settings: Settings, w: &[u64], reading: u64, key: &[u8]) -> Judged
+    ensures { λ x. ⌜ x ≡ judged kind settings (now (w .entry)) reading (now (key .entry)) ⌝ }
+{
+    let n = fault(settings, w);
+    if n != 0 {
+        return refused(n);
+    }
+    let x = open_slot(settings, w, reading, key);
+    let m = misfit(kind, settings, w, reading, key, x);
+    if m != 0 {
+        return refused(m);
+    }
+    Judged { code: 0, slot: x }
 }

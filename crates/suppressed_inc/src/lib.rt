@@ -1,6 +1,10 @@
 // The suppressed limiter's increment. Everything that is refused is settled before the first word is written.
 ghost use mathlib.Core.Path.{_≡_};
+ghost use Rattle.common.specs.Refusals.{first};
+ghost use Rattle.room.specs.Room.{Room, ringOf};
 ghost use Rattle.judge.specs.Verdict.{Told};
+ghost use Rattle.plan.specs.Plan.{lacksAt};
+ghost use Rattle.suppressed_refusals.specs.Refusals.{incLate};
 ghost use Rattle.rules.specs.declared.RoomKind.the-variants.{Suppressed};
 ghost use Rattle.suppressed_verdicts.specs.Calls.{inc};
 ghost use Rattle.suppressed_verdicts.specs.Opened.{limitAt};
@@ -21,6 +25,25 @@ fn limit_for(settings: Settings, x: Slot, rate: RateLimit) -> u64
     common::hard_limit(rate, settings.hard_limit_factor, settings.window_size)
 }
 
+// The first of refusals 8 to 12, or 0.
+fn late(
+    settings: Settings,
+    w: &[u64],
+    x: Slot,
+    at: usize,
+    reading: u64,
+    rate: RateLimit,
+    count: u64,
+    draw: u64,
+) -> u64
+    requires { ⌜ Room (now w) ⌝ }
+    ensures { λ n. ⌜ n ≡ first (incLate settings x (lacksAt (now (w .entry)) at x) (ringOf (now (w .entry))) reading rate count draw) ⌝ }
+{
+    let lacks = plan::lacks_slot(w, at, x);
+    let ring = suppressed_refusals::ring_of(w);
+    suppressed_refusals::inc_late(settings, x, lacks, ring, reading, rate, count, draw)
+}
+
 // Counts, and decides by the forecast and the draw.
 pub fn inc(
     settings: Settings,
@@ -33,16 +56,17 @@ pub fn inc(
 ) -> RateLimitDecision
     ensures { λ r. ⌜ Told (inc settings (now (room .entry)) reading (now (key .entry)) rate count draw) r (now (room .exit)) ⌝ }
 {
-    let judged = judge::judge(RoomKind::Suppressed, settings, room, reading, key);
-    let code = judged.code;
-    let x = judged.slot;
-    if code != 0 {
-        return RateLimitDecision::Refused(code);
+    let fault = judge::fault(settings, room);
+    if fault != 0 {
+        return RateLimitDecision::Refused(fault);
+    }
+    let x = judge::open_slot(settings, room, reading, key);
+    let misfit = judge::misfit(RoomKind::Suppressed, settings, room, reading, key, x);
+    if misfit != 0 {
+        return RateLimitDecision::Refused(misfit);
     }
     let at = plan::place(room, x);
-    let lacks = plan::lacks_slot(room, at, x);
-    let ring = suppressed_refusals::ring_of(room);
-    let late = suppressed_refusals::inc_late(settings, x, lacks, ring, reading, rate, count, draw);
+    let late = late(settings, room, x, at, reading, rate, count, draw);
     if late != 0 {
         return RateLimitDecision::Refused(late);
     }
