@@ -29,7 +29,7 @@ pub fn inc(
     if fault != 0 {
         return RateLimitDecision::Refused(fault);
     }
-    let x = judge::open_slot(settings, room, reading, key);
+    let x = opened::open_at(room, judge::address(room, key), reading, window.0);
     let misfit = judge::misfit(RoomKind::Absolute, settings, room, reading, key, x);
     if misfit != 0 {
         return RateLimitDecision::Refused(misfit);

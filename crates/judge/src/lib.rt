@@ -20,7 +20,7 @@ pub struct Judged {
 }
 
 // The lowest slot with the key, or the number of slots.
-fn address(w: &[u64], key: &[u8]) -> usize
+pub fn address(w: &[u64], key: &[u8]) -> usize
     requires { ⌜ Room (now w) ⌝ }
     ensures { λ x. ⌜ x ≡ addressed (now (w .entry)) (now (key .entry)) ⌝ }
 {
@@ -66,15 +66,6 @@ pub fn fault(settings: Settings, w: &[u64]) -> u64
     0
 }
 
-// The key's slot, opened at the reading.
-pub fn open_slot(settings: Settings, w: &[u64], reading: u64, key: &[u8]) -> Slot
-    requires { ⌜ Room (now w) × Proper settings ⌝ }
-    ensures { λ x. ⌜ x ≡ slotIn settings (now (w .entry)) reading (now (key .entry)) ⌝ }
-{
-    let window = settings.window_size;
-    opened::open_at(w, address(w, key), reading, window.0)
-}
-
 // The first of refusals 5 to 7 that the key's slot, the reading or the key meets, or 0.
 pub fn misfit(
     kind: RoomKind,
@@ -99,7 +90,7 @@ pub fn misfit(
     0
 }
 
-// All three at once. An increment asks them one after the other, so that its slot is not copied.
+// All at once. An increment takes these steps itself, so that its slot is not copied.
 pub fn judge(kind: RoomKind, settings: Settings, w: &[u64], reading: u64, key: &[u8]) -> Judged
     ensures { λ x. ⌜ x ≡ judged kind settings (now (w .entry)) reading (now (key .entry)) ⌝ }
 {
@@ -107,7 +98,8 @@ pub fn judge(kind: RoomKind, settings: Settings, w: &[u64], reading: u64, key: &
     if n != 0 {
         return refused(n);
     }
-    let x = open_slot(settings, w, reading, key);
+    let window = settings.window_size;
+    let x = opened::open_at(w, address(w, key), reading, window.0);
     let m = misfit(kind, settings, w, reading, key, x);
     if m != 0 {
         return refused(m);

@@ -60,7 +60,8 @@ pub fn inc(
     if fault != 0 {
         return RateLimitDecision::Refused(fault);
     }
-    let x = judge::open_slot(settings, room, reading, key);
+    let window = settings.window_size;
+    let x = opened::open_at(room, judge::address(room, key), reading, window.0);
     let misfit = judge::misfit(RoomKind::Suppressed, settings, room, reading, key, x);
     if misfit != 0 {
         return RateLimitDecision::Refused(misfit);
@@ -74,7 +75,6 @@ pub fn inc(
     let forecast = forecast_opened::forecast(x, count);
     let outcome = forecast_opened::decide(settings, room, x, limit, forecast, reading, count, draw);
     let blind = outcome.blind;
-    let decision = outcome.decision;
     let caching = outcome.caching;
     let size = settings.bucket_size;
     if blind {
@@ -82,5 +82,5 @@ pub fn inc(
     }
     let change = suppressed_edits::inc_change(x, limit, count, outcome.declined, caching);
     change::apply(room, at, key, size.0, reading, change);
-    decision
+    outcome.decision
 }

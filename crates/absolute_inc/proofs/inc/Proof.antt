@@ -4,9 +4,9 @@ use mathlib.Core.Path.{refl, sym, ap, _∙_}
 use mathlib.Core.Bool.{Bool}
 use Prim.Native.Nat.{ℕ}
 use Rattle.room.specs.Room.{ringOf}
-use Rattle.settings.specs.Settings.{bucketIn}
+use Rattle.settings.specs.Settings.{windowIn, bucketIn}
 use Rattle.rules.specs.declared.RoomKind.the-variants.{Absolute}
-use Rattle.opened.specs.Slot.{noSlot}
+use Rattle.opened.specs.Slot.{noSlot, slotOf}
 use Rattle.judge.specs.declared.Judged.{Judged}
 use Rattle.judge.specs.Laws.{refused-is, passed-is, fault-early, no-fault}
 use Rattle.absolute_test.specs.Test.{allowedAt, decidedAt}
@@ -30,33 +30,40 @@ returns c =
     inc-refused (a .settings) (a .room .now) (a .reading) (a .key .now) (a .rate) (a .count) (record { code = n .result; slot = noSlot 0 })
     (refused-is Absolute (a .settings) (a .room .now) (a .reading) (a .key .now) (n .result) e (c .if1 .taken)) (c .if1 .taken)
 
-open-slot-requires : tie.Need-open-slot-requires
-open-slot-requires c κs =
+address-requires : tie.Need-address-requires
+address-requires c κs =
     let a = c .before .before .before .before .before .before .before .before .args in
-    no-fault Absolute (a .settings) (a .room .now) (a .reading) (a .key .now) (sym (c .before .before .fault .ensures) ∙ c .before .if1 .left)
+    no-fault Absolute (a .settings) (a .room .now) (a .reading) (a .key .now) (sym (c .before .before .fault .ensures) ∙ c .before .if1 .left) .0
+
+open-at-requires : tie.Need-open-at-requires
+open-at-requires c κs =
+    let a = c .before .before .before .before .before .before .before .before .before .args in
+    let o = no-fault Absolute (a .settings) (a .room .now) (a .reading) (a .key .now) (sym (c .before .before .before .fault .ensures) ∙ c .before
+    .before .if1 .left) in
+    (o .0, o .1 .window-high)
 
 misfit-requires : tie.Need-misfit-requires
 misfit-requires c κs =
-    let a = c .before .before .before .before .before .before .before .before .before .before .args in
-    let o = no-fault Absolute (a .settings) (a .room .now) (a .reading) (a .key .now) (sym (c .before .before .before .before .fault .ensures) ∙ c
-    .before .before .before .if1 .left) in
-    (o .0, o .1, c .before .open-slot .ensures)
+    let a = c .before .before .before .before .before .before .before .before .before .before .before .args in
+    let o = no-fault Absolute (a .settings) (a .room .now) (a .reading) (a .key .now) (sym (c .before .before .before .before
+    .before .fault .ensures) ∙ c .before .before .before .before .if1 .left) in
+    (o .0, o .1, c .before .open-at .ensures ∙ ap (slotOf (windowIn (a .settings)) (a .room .now) (a .reading)) (c .before .before .address .ensures))
 
 same-length-2 : tie.Need-same-length-2
 same-length-2 c = search needs
 
 returns-2 : tie.Need-returns-2
 returns-2 c =
-    let a = c .before .before .before .before .before .before .before .before .before .before .before .before .args in
+    let a = c .before .before .before .before .before .before .before .before .before .before .before .before .before .args in
     let n = c .before .misfit in
     inc-refused (a .settings) (a .room .now) (a .reading) (a .key .now) (a .rate) (a .count) (record { code = n .result; slot = noSlot 0 })
     (refused-is Absolute (a .settings) (a .room .now) (a .reading) (a .key .now) (n .result) (sym (n .ensures)) (c .if2 .taken)) (c .if2 .taken)
 
 place-requires : tie.Need-place-requires
 place-requires c κs =
-    let a = c .before .before .before .before .before .before .before .before .before .before .before .before .before .args in
-    no-fault Absolute (a .settings) (a .room .now) (a .reading) (a .key .now) (sym (c .before .before .before .before .before .before
-    .before .fault .ensures) ∙ c .before .before .before .before .before .before .if1 .left) .0
+    let a = c .before .before .before .before .before .before .before .before .before .before .before .before .before .before .args in
+    no-fault Absolute (a .settings) (a .room .now) (a .reading) (a .key .now) (sym (c .before .before .before .before .before .before .before
+    .before .fault .ensures) ∙ c .before .before .before .before .before .before .before .if1 .left) .0
 
 cut-limit-requires : tie.Need-cut-limit-requires
 cut-limit-requires c κs = search needs
@@ -66,17 +73,19 @@ allows-requires c κs = search needs
 
 clears-requires : tie.Need-clears-requires
 clears-requires c κs =
-    let a = c .before .before .before .before .before .before .before .before .before .before .before .before .before .before .before .before .before .args in
+    let a = c .before .before .before .before .before .before .before .before .before .before .before .before .before .before .before .before
+    .before .before .args in
     no-fault Absolute (a .settings) (a .room .now) (a .reading) (a .key .now) (sym (c .before .before .before .before .before .before .before
-    .before .before .before .before .fault .ensures) ∙ c .before .before .before .before .before .before .before .before .before .before .if1 .left) .0
+    .before .before .before .before .before .fault .ensures) ∙ c .before .before .before .before .before .before .before .before .before .before
+    .before .if1 .left) .0
 
 late-requires : tie.Need-late-requires
 late-requires c κs =
     let a = c .before .before .before .before .before .before .before .before .before .before .before .before .before .before .before .before
-    .before .before .before .args in
+    .before .before .before .before .args in
     no-fault Absolute (a .settings) (a .room .now) (a .reading) (a .key .now) (sym (c .before .before .before .before .before .before .before
-    .before .before .before .before .before .before .fault .ensures) ∙ c .before .before .before .before .before .before .before .before .before
-    .before .before .before .if1 .left) .0
+    .before .before .before .before .before .before .before .fault .ensures) ∙ c .before .before .before .before .before .before .before .before
+    .before .before .before .before .before .if1 .left) .0
 
 same-length-3 : tie.Need-same-length-3
 same-length-3 c = search needs
@@ -84,14 +93,16 @@ same-length-3 c = search needs
 returns-3 : tie.Need-returns-3
 returns-3 c =
     let a = c .before .before .before .before .before .before .before .before .before .before .before .before .before .before .before .before
-    .before .before .before .before .before .args in
-    let o = c .before .before .before .before .before .before .before .before .before .before .before .before .open-slot in
+    .before .before .before .before .before .before .args in
+    let o = c .before .before .before .before .before .before .before .before .before .before .before .before .open-at in
     let e = sym (c .before .before .before .before .before .before .before .before .before .before .misfit .ensures) ∙ c .before .before .before
     .before .before .before .before .before .before .if2 .left in
     let x = o .result in
+    let k = o .ensures ∙ ap (slotOf (windowIn (a .settings)) (a .room .now) (a .reading)) (c .before .before .before .before .before .before .before
+    .before .before .before .before .before .before .address .ensures) in
     let j : Judged = record { code = 0; slot = x } in
     let goes : Goes (a .settings) (a .room .now) (a .reading) (a .key .now) j = record
-    { is = passed-is Absolute (a .settings) (a .room .now) (a .reading) (a .key .now) x e (o .ensures); none = refl } in
+    { is = passed-is Absolute (a .settings) (a .room .now) (a .reading) (a .key .now) x e k; none = refl } in
     let i = c .before .before .before .before .before .before .cut-limit in
     let p = c .before .before .before .before .before .before .before .place in
     let n = c .before .before .before .before .before .allows in
@@ -105,14 +116,16 @@ returns-3 c =
 decided-requires : tie.Need-decided-requires
 decided-requires c κs =
     let a = c .before .before .before .before .before .before .before .before .before .before .before .before .before .before .before .before
-    .before .before .before .before .before .args in
-    let o = c .before .before .before .before .before .before .before .before .before .before .before .before .open-slot in
+    .before .before .before .before .before .before .args in
+    let o = c .before .before .before .before .before .before .before .before .before .before .before .before .open-at in
     let e = sym (c .before .before .before .before .before .before .before .before .before .before .misfit .ensures) ∙ c .before .before .before
     .before .before .before .before .before .before .if2 .left in
     let x = o .result in
+    let k = o .ensures ∙ ap (slotOf (windowIn (a .settings)) (a .room .now) (a .reading)) (c .before .before .before .before .before .before .before
+    .before .before .before .before .before .before .address .ensures) in
     let j : Judged = record { code = 0; slot = x } in
     let goes : Goes (a .settings) (a .room .now) (a .reading) (a .key .now) j = record
-    { is = passed-is Absolute (a .settings) (a .room .now) (a .reading) (a .key .now) x e (o .ensures); none = refl } in
+    { is = passed-is Absolute (a .settings) (a .room .now) (a .reading) (a .key .now) x e k; none = refl } in
     window-fits (a .settings) (a .room .now) (a .reading) (a .key .now) j goes
 
 inc-change-requires : tie.Need-inc-change-requires
@@ -121,14 +134,16 @@ inc-change-requires c κs = search needs
 apply-requires : tie.Need-apply-requires
 apply-requires c κs =
     let a = c .before .before .before .before .before .before .before .before .before .before .before .before .before .before .before .before
-    .before .before .before .before .before .before .before .before .args in
-    let o = c .before .before .before .before .before .before .before .before .before .before .before .before .before .before .before .open-slot in
+    .before .before .before .before .before .before .before .before .before .args in
+    let o = c .before .before .before .before .before .before .before .before .before .before .before .before .before .before .before .open-at in
     let e = sym (c .before .before .before .before .before .before .before .before .before .before .before .before .before .misfit .ensures) ∙ c
     .before .before .before .before .before .before .before .before .before .before .before .before .if2 .left in
     let x = o .result in
+    let k = o .ensures ∙ ap (slotOf (windowIn (a .settings)) (a .room .now) (a .reading)) (c .before .before .before .before .before .before .before
+    .before .before .before .before .before .before .before .before .before .address .ensures) in
     let j : Judged = record { code = 0; slot = x } in
     let goes : Goes (a .settings) (a .room .now) (a .reading) (a .key .now) j = record
-    { is = passed-is Absolute (a .settings) (a .room .now) (a .reading) (a .key .now) x e (o .ensures); none = refl } in
+    { is = passed-is Absolute (a .settings) (a .room .now) (a .reading) (a .key .now) x e k; none = refl } in
     let i = c .before .before .before .before .before .before .before .before .before .cut-limit in
     let p = c .before .before .before .before .before .before .before .before .before .before .place in
     let n = c .before .before .before .before .before .before .before .before .allows in
@@ -147,16 +162,18 @@ same-length-4 c = search needs
 returns-4 : tie.Need-returns-4
 returns-4 c =
     let a = c .before .before .before .before .before .before .before .before .before .before .before .before .before .before .before .before
-    .before .before .before .before .before .before .before .before .before .before .before .args in
+    .before .before .before .before .before .before .before .before .before .before .before .before .args in
     let o = c .before .before .before .before .before .before .before .before .before .before .before .before .before .before .before .before
-    .before .before .open-slot in
+    .before .before .open-at in
     let e = sym (c .before .before .before .before .before .before .before .before .before .before .before .before .before .before .before
     .before .misfit .ensures) ∙ c .before .before .before .before .before .before .before .before .before .before .before .before .before .before
     .before .if2 .left in
     let x = o .result in
+    let k = o .ensures ∙ ap (slotOf (windowIn (a .settings)) (a .room .now) (a .reading)) (c .before .before .before .before .before .before .before
+    .before .before .before .before .before .before .before .before .before .before .before .before .address .ensures) in
     let j : Judged = record { code = 0; slot = x } in
     let goes : Goes (a .settings) (a .room .now) (a .reading) (a .key .now) j = record
-    { is = passed-is Absolute (a .settings) (a .room .now) (a .reading) (a .key .now) x e (o .ensures); none = refl } in
+    { is = passed-is Absolute (a .settings) (a .room .now) (a .reading) (a .key .now) x e k; none = refl } in
     let i = c .before .before .before .before .before .before .before .before .before .before .before .before .cut-limit in
     let p = c .before .before .before .before .before .before .before .before .before .before .before .before .before .place in
     let n = c .before .before .before .before .before .before .before .before .before .before .before .allows in
@@ -180,7 +197,8 @@ inc-spec =
     fault-requires
     same-length
     returns
-    open-slot-requires
+    address-requires
+    open-at-requires
     misfit-requires
     same-length-2
     returns-2

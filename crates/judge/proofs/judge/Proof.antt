@@ -1,6 +1,8 @@
 -- The settings and lengths, then the rest.
 -- Assumes nothing.
-use mathlib.Core.Path.{_∙_, sym}
+use mathlib.Core.Path.{_∙_, sym, ap}
+use Rattle.opened.specs.Slot.{slotOf}
+use Rattle.settings.specs.Settings.{windowIn}
 use Rattle.judge.specs.Laws.{refused-is, passed-is, fault-early, no-fault}
 use borrow.Author.Needs.{needs}
 use Rattle.judge.proofs.judge.Statement.{statement}
@@ -23,31 +25,41 @@ returns c =
     c .refused .ensures ∙ refused-is (a .args .kind) s w t key (n .result)
     (fault-early (a .args .kind) s w t key (n .result) (n .ensures) (c .before .if1 .taken)) (c .before .if1 .taken)
 
-open-slot-requires : tie.Need-open-slot-requires
-open-slot-requires c κs =
-    let a = c .before .before .before .before in
-    let s = a .args .settings in
-    let w = a .args .w .now in
-    let key = a .args .key .now in
-    let t = a .args .reading in
-    no-fault (a .args .kind) s w t key (sym (c .before .fault .ensures) ∙ c .if1 .left)
-
-misfit-requires : tie.Need-misfit-requires
-misfit-requires c κs =
+address-requires : tie.Need-address-requires
+address-requires c κs =
     let a = c .before .before .before .before .before in
     let s = a .args .settings in
     let w = a .args .w .now in
     let key = a .args .key .now in
     let t = a .args .reading in
-    let o = no-fault (a .args .kind) s w t key (sym (c .before .before .fault .ensures) ∙ c .before .if1 .left) in
-    (o .0, o .1, c .open-slot .ensures)
+    no-fault (a .args .kind) s w t key (sym (c .before .before .fault .ensures) ∙ c .before .if1 .left) .0
+
+open-at-requires : tie.Need-open-at-requires
+open-at-requires c κs =
+    let a = c .before .before .before .before .before .before in
+    let s = a .args .settings in
+    let w = a .args .w .now in
+    let key = a .args .key .now in
+    let t = a .args .reading in
+    let o = no-fault (a .args .kind) s w t key (sym (c .before .before .before .fault .ensures) ∙ c .before .before .if1 .left) in
+    (o .0, o .1 .window-high)
+
+misfit-requires : tie.Need-misfit-requires
+misfit-requires c κs =
+    let a = c .before .before .before .before .before .before .before in
+    let s = a .args .settings in
+    let w = a .args .w .now in
+    let key = a .args .key .now in
+    let t = a .args .reading in
+    let o = no-fault (a .args .kind) s w t key (sym (c .before .before .before .before .fault .ensures) ∙ c .before .before .before .if1 .left) in
+    (o .0, o .1, c .open-at .ensures ∙ ap (slotOf (windowIn s) w t) (c .before .address .ensures))
 
 refused-requires-2 : tie.Need-refused-requires-2
 refused-requires-2 c κs = search needs
 
 returns-2 : tie.Need-returns-2
 returns-2 c =
-    let a = c .before .before .before .before .before .before .before .before in
+    let a = c .before .before .before .before .before .before .before .before .before .before in
     let s = a .args .settings in
     let w = a .args .w .now in
     let key = a .args .key .now in
@@ -57,13 +69,14 @@ returns-2 c =
 
 returns-3 : tie.Need-returns-3
 returns-3 c =
-    let a = c .before .before .before .before .before .before .before in
+    let a = c .before .before .before .before .before .before .before .before .before in
     let s = a .args .settings in
     let w = a .args .w .now in
     let key = a .args .key .now in
     let t = a .args .reading in
     let m = c .before .misfit in
-    passed-is (a .args .kind) s w t key (c .before .before .open-slot .result) (sym (m .ensures) ∙ c .if2 .left) (c .before .before .open-slot .ensures)
+    passed-is (a .args .kind) s w t key (c .before .before .open-at .result) (sym (m .ensures) ∙ c .if2 .left)
+    (c .before .before .open-at .ensures ∙ ap (slotOf (windowIn s) w t) (c .before .before .before .address .ensures))
 
 pub judge-spec : {M : Type 1} → statement M
 judge-spec =
@@ -72,7 +85,8 @@ judge-spec =
     fault-requires
     refused-requires
     returns
-    open-slot-requires
+    address-requires
+    open-at-requires
     misfit-requires
     refused-requires-2
     returns-2

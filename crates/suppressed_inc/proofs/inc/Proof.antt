@@ -1,12 +1,14 @@
 -- Refusals 1 to 7, then 8 to 12, then 13; then the change is carried out.
 -- Assumes nothing.
-use mathlib.Core.Path.{refl, sym, _∙_}
+use mathlib.Core.Path.{refl, sym, ap, _∙_}
+use Rattle.settings.specs.Settings.{windowIn}
 use Rattle.room.specs.Room.{ringOf}
 use Rattle.rules.specs.declared.RoomKind.the-variants.{Suppressed}
-use Rattle.opened.specs.Slot.{noSlot}
+use Rattle.opened.specs.Slot.{noSlot, slotOf}
 use Rattle.judge.specs.Laws.{refused-is, passed-is, fault-early, no-fault}
 use Rattle.plan.specs.Plan.{lacksAt}
 use Rattle.suppressed_verdicts.specs.Laws.{in-room, inc-early, inc-late, inc-total, inc-blind, inc-applies, inc-done}
+use native.Mathlib.Omega.{arith}
 use borrow.Author.Needs.{needs}
 use Rattle.suppressed_inc.proofs.inc.Statement.{statement}
 use Rattle.suppressed_inc.proofs.inc.Tie as tie
@@ -25,24 +27,32 @@ returns c =
     inc-early (a .settings) (a .room .now) (a .reading) (a .key .now) (record { code = n .result; slot = noSlot 0 })
     (refused-is Suppressed (a .settings) (a .room .now) (a .reading) (a .key .now) (n .result) e (c .if1 .taken)) (a .rate) (a .count) (a .draw) (c .if1 .taken)
 
-open-slot-requires : tie.Need-open-slot-requires
-open-slot-requires c κs =
-    let a = c .before .before .before .before .before .before .args in
-    no-fault Suppressed (a .settings) (a .room .now) (a .reading) (a .key .now) (sym (c .before .before .fault .ensures) ∙ c .before .if1 .left)
+address-requires : tie.Need-address-requires
+address-requires c κs =
+    let a = c .before .before .before .before .before .before .before .args in
+    no-fault Suppressed (a .settings) (a .room .now) (a .reading) (a .key .now)
+    (sym (c .before .before .before .fault .ensures) ∙ c .before .before .if1 .left) .0
+
+open-at-requires : tie.Need-open-at-requires
+open-at-requires c κs =
+    let a = c .before .before .before .before .before .before .before .before .args in
+    let o = no-fault Suppressed (a .settings) (a .room .now) (a .reading) (a .key .now)
+    (sym (c .before .before .before .before .fault .ensures) ∙ c .before .before .before .if1 .left) in
+    (o .0, o .1 .window-high)
 
 misfit-requires : tie.Need-misfit-requires
 misfit-requires c κs =
-    let a = c .before .before .before .before .before .before .before .before .args in
-    let o = no-fault Suppressed (a .settings) (a .room .now) (a .reading) (a .key .now) (sym (c .before .before .before .before .fault .ensures) ∙ c
-    .before .before .before .if1 .left) in
-    (o .0, o .1, c .before .open-slot .ensures)
+    let a = c .before .before .before .before .before .before .before .before .before .before .args in
+    let o = no-fault Suppressed (a .settings) (a .room .now) (a .reading) (a .key .now)
+    (sym (c .before .before .before .before .before .before .fault .ensures) ∙ c .before .before .before .before .before .if1 .left) in
+    (o .0, o .1, c .before .open-at .ensures ∙ ap (slotOf (windowIn (a .settings)) (a .room .now) (a .reading)) (c .before .before .address .ensures))
 
 same-length-2 : tie.Need-same-length-2
 same-length-2 c = search needs
 
 returns-2 : tie.Need-returns-2
 returns-2 c =
-    let a = c .before .before .before .before .before .before .before .before .before .before .args in
+    let a = c .before .before .before .before .before .before .before .before .before .before .before .before .args in
     let n = c .before .misfit in
     inc-early (a .settings) (a .room .now) (a .reading) (a .key .now) (record { code = n .result; slot = noSlot 0 })
     (refused-is Suppressed (a .settings) (a .room .now) (a .reading) (a .key .now) (n .result) (sym (n .ensures)) (c .if2 .taken)) (a .rate) (a .count)
@@ -50,28 +60,31 @@ returns-2 c =
 
 place-requires : tie.Need-place-requires
 place-requires c κs =
-    let a = c .before .before .before .before .before .before .before .before .before .before .before .args in
-    no-fault Suppressed (a .settings) (a .room .now) (a .reading) (a .key .now) (sym (c .before .before .before .before .before .before
-    .before .fault .ensures) ∙ c .before .before .before .before .before .before .if1 .left) .0
+    let a = c .before .before .before .before .before .before .before .before .before .before .before .before .before .args in
+    no-fault Suppressed (a .settings) (a .room .now) (a .reading) (a .key .now)
+    (sym (c .before .before .before .before .before .before .before .before .before .fault .ensures) ∙
+    c .before .before .before .before .before .before .before .before .if1 .left) .0
 
 late-requires : tie.Need-late-requires
 late-requires c κs =
-    let a = c .before .before .before .before .before .before .before .before .before .before .before .before .before .args in
-    no-fault Suppressed (a .settings) (a .room .now) (a .reading) (a .key .now) (sym (c .before .before .before .before .before .before .before
-    .before .before .fault .ensures) ∙ c .before .before .before .before .before .before .before .before .if1 .left) .0
+    let a = c .before .before .before .before .before .before .before .before .before .before .before .before .before .before .before .args in
+    no-fault Suppressed (a .settings) (a .room .now) (a .reading) (a .key .now)
+    (sym (c .before .before .before .before .before .before .before .before .before .before .before .fault .ensures) ∙
+    c .before .before .before .before .before .before .before .before .before .before .if1 .left) .0
 
 same-length-3 : tie.Need-same-length-3
 same-length-3 c = search needs
 
 returns-3 : tie.Need-returns-3
 returns-3 c =
-    let a = c .before .before .before .before .before .before .before .before .before .before .before .before .before .before .before .args in
-    let x = c .before .before .before .before .before .before .before .before .open-slot in
+    let a = c .before .before .before .before .before .before .before .before .before .before .before .before .before .before .before .before .before .args in
+    let x = c .before .before .before .before .before .before .before .before .open-at in
+    let k = x .ensures ∙ ap (slotOf (windowIn (a .settings)) (a .room .now) (a .reading))
+    (c .before .before .before .before .before .before .before .before .before .address .ensures) in
     let e = sym (c .before .before .before .before .before .before .misfit .ensures) ∙ c .before .before .before .before .before .if2 .left in
     let p = c .before .before .before .place in
     let l = c .before .late in
-    inc-late (a .settings) (a .room .now) (a .reading) (a .key .now) e (x .result) (x .ensures) (p .result) (p .ensures)
-    (lacksAt (a .room .now) (p .result) (x .result))
+    inc-late (a .settings) (a .room .now) (a .reading) (a .key .now) e (x .result) k (p .result) (p .ensures) (lacksAt (a .room .now) (p .result) (x .result))
     refl (a .rate) (a .count) (a .draw) (ringOf (a .room .now)) (l .result) refl (l .ensures) (c .if3 .taken)
 
 limit-for-requires : tie.Need-limit-for-requires
@@ -79,24 +92,28 @@ limit-for-requires c κs = search needs
 
 forecast-requires : tie.Need-forecast-requires
 forecast-requires c κs =
-    let a = c .before .before .before .before .before .before .before .before .before .before .before .before .before .before .before .before .args in
-    let x = c .before .before .before .before .before .before .before .before .before .open-slot in
+    let a = c .before .before .before .before .before .before .before .before .before .before .before .before .before .before .before .before
+    .before .before .args in
+    let x = c .before .before .before .before .before .before .before .before .before .open-at in
+    let k = x .ensures ∙ ap (slotOf (windowIn (a .settings)) (a .room .now) (a .reading))
+    (c .before .before .before .before .before .before .before .before .before .before .address .ensures) in
     let e = sym (c .before .before .before .before .before .before .before .misfit .ensures) ∙ c .before .before .before .before .before .before .if2 .left in
     let p = c .before .before .before .before .place in
     let l = c .before .before .late in
-    inc-total (a .settings) (a .room .now) (a .reading) (a .key .now) e (x .result) (x .ensures) (p .result) (p .ensures)
-    (lacksAt (a .room .now) (p .result) (x .result))
+    inc-total (a .settings) (a .room .now) (a .reading) (a .key .now) e (x .result) k (p .result) (p .ensures) (lacksAt (a .room .now) (p .result) (x .result))
     refl (a .rate) (a .count) (a .draw) (ringOf (a .room .now)) (l .result) refl (l .ensures) (c .before .if3 .left)
 
 decide-requires : tie.Need-decide-requires
 decide-requires c κs =
     let a = c .before .before .before .before .before .before .before .before .before .before .before .before .before .before .before .before
-    .before .before .args in
-    let x = c .before .before .before .before .before .before .before .before .before .before .before .open-slot in
-    let e = sym (c .before .before .before .before .before .before .before .before .before .misfit .ensures) ∙ c .before .before .before .before
-    .before .before .before .before .if2 .left in
+    .before .before .before .before .args in
+    let x = c .before .before .before .before .before .before .before .before .before .before .before .open-at in
+    let k = x .ensures ∙ ap (slotOf (windowIn (a .settings)) (a .room .now) (a .reading))
+    (c .before .before .before .before .before .before .before .before .before .before .before .before .address .ensures) in
+    let e = sym (c .before .before .before .before .before .before .before .before .before .misfit .ensures) ∙
+    c .before .before .before .before .before .before .before .before .if2 .left in
     in-room (a .settings) (a .room .now) (a .reading) (a .key .now) (record { code = 0; slot = x .result })
-    (passed-is Suppressed (a .settings) (a .room .now) (a .reading) (a .key .now) (x .result) e (x .ensures)) refl
+    (passed-is Suppressed (a .settings) (a .room .now) (a .reading) (a .key .now) (x .result) e k) refl
 
 same-length-4 : tie.Need-same-length-4
 same-length-4 c = search needs
@@ -104,19 +121,20 @@ same-length-4 c = search needs
 returns-4 : tie.Need-returns-4
 returns-4 c =
     let a = c .before .before .before .before .before .before .before .before .before .before .before .before .before .before .before .before
-    .before .before .before .before .before .args in
-    let x = c .before .before .before .before .before .before .before .before .before .before .before .before .before .before .open-slot in
-    let e = sym (c .before .before .before .before .before .before .before .before .before .before .before .before .misfit .ensures) ∙ c .before
-    .before .before .before .before .before .before .before .before .before .before .if2 .left in
+    .before .before .before .before .before .before .before .args in
+    let x = c .before .before .before .before .before .before .before .before .before .before .before .before .before .before .open-at in
+    let k = x .ensures ∙ ap (slotOf (windowIn (a .settings)) (a .room .now) (a .reading))
+    (c .before .before .before .before .before .before .before .before .before .before .before .before .before .before .before .address .ensures) in
+    let e = sym (c .before .before .before .before .before .before .before .before .before .before .before .before .misfit .ensures) ∙
+    c .before .before .before .before .before .before .before .before .before .before .before .if2 .left in
     let p = c .before .before .before .before .before .before .before .before .before .place in
     let l = c .before .before .before .before .before .before .before .late in
     let i = c .before .before .before .before .before .limit-for in
     let n = c .before .before .before .before .forecast in
     let o = c .before .before .decide in
-    inc-blind (a .settings) (a .room .now) (a .reading) (a .key .now) e (x .result) (x .ensures) (p .result) (p .ensures)
-    (lacksAt (a .room .now) (p .result) (x .result))
-    refl (a .rate) (a .count) (a .draw) (ringOf (a .room .now)) (l .result) refl (l .ensures) (c .before .before .before .before .before
-    .before .if3 .left) (o .result) (i .result)
+    inc-blind (a .settings) (a .room .now) (a .reading) (a .key .now) e (x .result) k (p .result) (p .ensures) (lacksAt (a .room .now) (p .result) (x .result))
+    refl (a .rate) (a .count) (a .draw) (ringOf (a .room .now)) (l .result) refl (l .ensures)
+    (c .before .before .before .before .before .before .if3 .left) (o .result) (i .result)
     (n .result) (i .ensures) (n .ensures) (o .ensures) (c .if4 .taken)
 
 inc-change-requires : tie.Need-inc-change-requires
@@ -125,20 +143,23 @@ inc-change-requires c κs = search needs
 apply-requires : tie.Need-apply-requires
 apply-requires c κs =
     let a = c .before .before .before .before .before .before .before .before .before .before .before .before .before .before .before .before
-    .before .before .before .before .before .before .before .args in
-    let x = c .before .before .before .before .before .before .before .before .before .before .before .before .before .before .before .before .open-slot in
-    let e = sym (c .before .before .before .before .before .before .before .before .before .before .before .before .before
-    .before .misfit .ensures) ∙ c .before .before .before .before .before .before .before .before .before .before .before .before .before .if2 .left in
+    .before .before .before .before .before .before .before .before .before .args in
+    let x = c .before .before .before .before .before .before .before .before .before .before .before .before .before .before .before .before .open-at in
+    let k = x .ensures ∙ ap (slotOf (windowIn (a .settings)) (a .room .now) (a .reading))
+    (c .before .before .before .before .before .before .before .before .before .before .before .before .before .before .before .before
+    .before .address .ensures) in
+    let e = sym (c .before .before .before .before .before .before .before .before .before .before .before .before .before .before .misfit .ensures) ∙
+    c .before .before .before .before .before .before .before .before .before .before .before .before .before .if2 .left in
     let p = c .before .before .before .before .before .before .before .before .before .before .before .place in
     let l = c .before .before .before .before .before .before .before .before .before .late in
     let i = c .before .before .before .before .before .before .before .limit-for in
     let n = c .before .before .before .before .before .before .forecast in
     let o = c .before .before .before .before .decide in
     let h = c .before .inc-change in
-    inc-applies (a .settings) (a .room .now) (a .reading) (a .key .now) e (x .result) (x .ensures) (p .result) (p .ensures)
+    inc-applies (a .settings) (a .room .now) (a .reading) (a .key .now) e (x .result) k (p .result) (p .ensures)
     (lacksAt (a .room .now) (p .result) (x .result))
-    refl (a .rate) (a .count) (a .draw) (ringOf (a .room .now)) (l .result) refl (l .ensures) (c .before .before .before .before .before .before
-    .before .before .if3 .left) (o .result) (i .result)
+    refl (a .rate) (a .count) (a .draw) (ringOf (a .room .now)) (l .result) refl (l .ensures)
+    (c .before .before .before .before .before .before .before .before .if3 .left) (o .result) (i .result)
     (n .result) (i .ensures) (n .ensures) (o .ensures) (h .result) (h .ensures)
 
 same-length-5 : tie.Need-same-length-5
@@ -147,9 +168,12 @@ same-length-5 c = search needs
 returns-5 : tie.Need-returns-5
 returns-5 c =
     let a = c .before .before .before .before .before .before .before .before .before .before .before .before .before .before .before .before
-    .before .before .before .before .before .before .before .before .before .before .args in
+    .before .before .before .before .before .before .before .before .before .before .before .before .args in
     let x = c .before .before .before .before .before .before .before .before .before .before .before .before .before .before .before .before
-    .before .before .before .open-slot in
+    .before .before .before .open-at in
+    let k = x .ensures ∙ ap (slotOf (windowIn (a .settings)) (a .room .now) (a .reading))
+    (c .before .before .before .before .before .before .before .before .before .before .before .before .before .before .before .before .before
+    .before .before .before .address .ensures) in
     let e = sym (c .before .before .before .before .before .before .before .before .before .before .before .before .before .before .before .before
     .before .misfit .ensures) ∙ c .before .before .before .before .before .before .before .before .before .before .before .before .before .before
     .before .before .if2 .left in
@@ -160,10 +184,9 @@ returns-5 c =
     let o = c .before .before .before .before .before .before .before .decide in
     let h = c .before .before .before .before .inc-change in
     let y = c .before .before .apply in
-    inc-done (a .settings) (a .room .now) (a .reading) (a .key .now) e (x .result) (x .ensures) (p .result) (p .ensures)
-    (lacksAt (a .room .now) (p .result) (x .result))
-    refl (a .rate) (a .count) (a .draw) (ringOf (a .room .now)) (l .result) refl (l .ensures) (c .before .before .before .before .before .before
-    .before .before .before .before .before .if3 .left) (o .result) (i .result)
+    inc-done (a .settings) (a .room .now) (a .reading) (a .key .now) e (x .result) k (p .result) (p .ensures) (lacksAt (a .room .now) (p .result) (x .result))
+    refl (a .rate) (a .count) (a .draw) (ringOf (a .room .now)) (l .result) refl (l .ensures)
+    (c .before .before .before .before .before .before .before .before .before .before .before .if3 .left) (o .result) (i .result)
     (n .result) (i .ensures) (n .ensures) (o .ensures) (c .before .before .before .before .before .if4 .left) (h .result) (y .last .0) (h .ensures) (y .ensures)
 
 pub inc-spec : {M : Type 1} → statement M
@@ -173,7 +196,8 @@ inc-spec =
     fault-requires
     same-length
     returns
-    open-slot-requires
+    address-requires
+    open-at-requires
     misfit-requires
     same-length-2
     returns-2
