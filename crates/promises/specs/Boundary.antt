@@ -27,7 +27,7 @@ use Rattle.answers.specs.declared.SnapshotAnswer.the-variants as snapshot
 use Rattle.answers.specs.declared.TotalAnswer.the-variants as total
 use Rattle.ring.specs.Order as Order
 use Rattle.ring.specs.Ring as Ring
-use Rattle.ring.specs.Ring.{bucket, totalOf}
+use Rattle.ring.specs.Ring.{bucket}
 use Rattle.ring.specs.Sound as RingSound
 use Rattle.rules.specs.Buckets as Rules
 use Rattle.sweep.specs.Sweep as Sweep
@@ -35,10 +35,12 @@ use Rattle.history.specs.Words as HistoryWords
 use Rattle.preserve.specs.Preserving as Preserving
 use Rattle.room.specs.Room as Room
 use Rattle.keys.specs.Keys as Keys
-use Rattle.room.specs.Room.{useOf, bodyOf}
+use Rattle.room.specs.Room.{useOf, vacant}
 use Rattle.judge.specs.Judge as Judge
+use Rattle.judge.specs.Judge.{slotIn}
 use Rattle.opened.specs.Slot as Slot
 use Rattle.opened.specs.Sound as Sound
+use Rattle.opened.specs.Sound.{addressed}
 use Rattle.judge.specs.Verdict as Verdicts
 use Rattle.change.specs.Words as Words
 use Rattle.edit.specs.Bodies as Bodies
@@ -48,23 +50,27 @@ use Rattle.stale.specs.Uses as Uses
 use Rattle.cleanup.specs.Every as Every
 use Rattle.absolute_verdicts.specs.Calls as Absolute
 use Rattle.absolute_opened.specs.Opened as AbsoluteEdits
+use Rattle.rules.specs.declared.RoomKind.{RoomKind}
+use Rattle.rules.specs.declared.RoomKind.the-variants as kind
 use Rattle.rules.specs.Both as Both
 use Rattle.rules.specs.Absolute as AbsoluteRules
 use Rattle.rules.specs.Suppressed as SuppressedRules
 use Rattle.rules.specs.Sets as SetRules
 use Rattle.rules.specs.Stale as Stale
 use Rattle.judge.specs.Held as Held
+use Rattle.judge.specs.Held.{heldIn}
 use Rattle.plan.specs.Plan as Plan
+use Rattle.plan.specs.Plan.{placeOf}
 use Rattle.sets_opened.specs.Sets as SetsOpened
 use Rattle.suppressed_verdicts.specs.Calls as SuppressedCalls
 use Rattle.suppressed_edits.specs.Edits as Edits
 use Rattle.factor_opened.specs.Opened as SuppressedSlots
-use Rattle.demand3.specs.History.{hardOf}
+use Rattle.demand3.specs.History.{hardOf, softOf}
 use Rattle.finding.specs.Finding as Finding
 use Rattle.finding.specs.Finding.{bucketsOf}
-use Rattle.steps.specs.Table.{suppressedInc}
-use Rattle.promises.specs.Cases.{half, hardBy, perSecond, key, room, ainc, aget, ten, sinc, factorAt, sget, eightAndTwo, single, twenty, clean}
-use Rattle.promises.specs.Cases.{sevenFive, preserve, twentieth}
+use Rattle.promises.specs.Rules.{incTable}
+use Rattle.promises.specs.Cases.{half, hardBy, perSecond, key, room, ainc, aget, ten, sinc, factorAt, sget, eightAndTwo, twenty, clean}
+use Rattle.promises.specs.Cases.{incAt, most, full, single, inSlot, sevenFive, preserve, twentieth}
 
 pub record Boundary : Type 0 where
   -- "age 10,000 live; 10,001 expired"
@@ -108,24 +114,44 @@ pub record Boundary : Type 0 where
   pub series-after : useOf (clean 500 500 twenty .words) 0 ≡ 1
 
 -- further cases that other promises are told by, computed beside these
+
+-- of one limiter, from an empty room on
+pub record Fills (kind : RoomKind) : Type 0 where
+  -- 1 is the first number: a window of 0
+  pub faulty : first (incTable kind (withWindow defaults (record { 0 = 0 })) room 0 key (perSecond one) 1 0) ≡ 1
+  -- it is filled at once
+  pub fills : incAt kind room 0 (most kind) .answer ≡ Allowed
+  pub filled : inSlot (full kind) ≡ bucket (most kind) 0 0 ∷ []
+  -- or 1 is counted, and 9 more join
+  pub single-allowed : incAt kind room 0 1 .answer ≡ Allowed
+  pub single-buckets : bucketsOf (single kind) key ≡ bucket 1 0 0 ∷ []
+  pub single-slot : inSlot (single kind) ≡ bucket 1 0 0 ∷ []
+  pub more-allowed : incAt kind (single kind) 0 9 .answer ≡ Allowed
+  pub more-slot : inSlot (incAt kind (single kind) 0 9 .words) ≡ bucket 10 0 0 ∷ []
+
 pub record Further : Type 0 where
-  -- nothing is turned away: 20 on an empty room; and 1 is the first number: a window of 0
-  pub passes : first (suppressedInc (hardBy 2) room 0 key (perSecond one) 20 0) ≡ 0
-  pub faulty : first (suppressedInc (withWindow defaults (record { 0 = 0 })) room 0 key (perSecond one) 20 0) ≡ 1
-  -- the hard limit
-  pub hard-20 : hardOf (hardBy 2) (perSecond one) ≡ 20
-  -- an empty room, and one with a series of one bucket
-  pub empty-use : useOf room 0 ≡ 0
+  -- an empty room has no buckets
+  pub empty-slot : inSlot room ≡ []
   pub empty-buckets : bucketsOf room key ≡ []
-  pub single-allowed : sinc 0 1 0 room .answer ≡ Allowed
-  pub single-buckets : bucketsOf single key ≡ bucket 1 0 0 ∷ []
-  -- 9 more are within S, and join
-  pub more-allowed : sinc 0 9 0 single .answer ≡ Allowed
-  pub more-buckets : bucketsOf (sinc 0 9 0 single .words) key ≡ bucket 10 0 0 ∷ []
-  -- the totals that `get` gives; and a total that is not the sum, which is unsound
+  -- either limiter; the slot that its rules speak of is the only one
+  pub absolute : Fills kind.Absolute
+  pub absolute-unknown : heldIn room key .known ≡ false
+  pub absolute-first : vacant room ≡ 0
+  pub absolute-known : heldIn (single kind.Absolute) key .known ≡ true
+  pub absolute-below : AbsoluteRules.allowed defaults 0 (heldIn (single kind.Absolute) key) ≡ true
+  pub absolute-same : addressed (single kind.Absolute) key ≡ 0
+  pub suppressed : Fills kind.Suppressed
+  pub suppressed-first : placeOf room (slotIn (hardBy 2) room 0 key) ≡ 0
+  pub suppressed-same : placeOf (single kind.Suppressed) (slotIn (hardBy 2) (single kind.Suppressed) 0 key) ≡ 0
+  -- the suppressed limiter's limits, and that 1 more than 20 is not admitted
+  pub hard-20 : hardOf (hardBy 2) (perSecond one) ≡ 20
+  pub soft-10 : softOf (hardBy 2) (perSecond one) ≡ 10
+  pub twenty-full : sinc 50 1 0 twenty .answer ≡ Suppressed one false
+  -- the totals that `get` gives; and a total, word 10 of the room, that is not the sum, which is unsound
+  pub twenty-known : heldIn twenty key .known ≡ true
   pub twenty-given : sget 0 twenty .answer ≡ snapshot.Snapshot (record { total = 20; «total_declined» = 0; «suppression_factor» = one })
-  pub twenty-total : totalOf (bodyOf twenty 0) ≡ 20
   pub made-up : (n : ℕ) → n ≢ 20 → sget 0 (set twenty 10 n) .answer ≡ snapshot.Refused 5
+  pub absolute-made-up : (n : ℕ) → n ≢ 10 → aget 0 (set ten 10 n) .answer ≡ total.Refused 5
 
 pub record Computed : Type 0 where
   pub table : Boundary
@@ -177,18 +203,42 @@ computed = record {
     series-after = refl;
   };
   further = record {
-    passes = refl;
-    faulty = refl;
-    hard-20 = refl;
-    empty-use = refl;
+    empty-slot = refl;
     empty-buckets = refl;
-    single-allowed = refl;
-    single-buckets = refl;
-    more-allowed = refl;
-    more-buckets = refl;
+    absolute = record {
+      faulty = refl;
+      fills = refl;
+      filled = refl;
+      single-allowed = refl;
+      single-buckets = refl;
+      single-slot = refl;
+      more-allowed = refl;
+      more-slot = refl;
+    };
+    absolute-unknown = refl;
+    absolute-first = refl;
+    absolute-known = refl;
+    absolute-below = refl;
+    absolute-same = refl;
+    suppressed = record {
+      faulty = refl;
+      fills = refl;
+      filled = refl;
+      single-allowed = refl;
+      single-buckets = refl;
+      single-slot = refl;
+      more-allowed = refl;
+      more-slot = refl;
+    };
+    suppressed-first = refl;
+    suppressed-same = refl;
+    hard-20 = refl;
+    soft-10 = refl;
+    twenty-full = refl;
+    twenty-known = refl;
     twenty-given = refl;
-    twenty-total = refl;
     made-up = λ n h. rw (ne-eqb n 20 h);
+    absolute-made-up = λ n h. rw (ne-eqb n 10 h);
   };
 }
 

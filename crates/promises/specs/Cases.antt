@@ -18,13 +18,17 @@ use Rattle.answers.specs.declared.HistoryPreservation.the-variants.{PreserveNew
 use Rattle.answers.specs.declared.HistoryUpdateMode.the-variants as mode
 use Rattle.settings.specs.declared.Settings.{Settings}
 use Rattle.common.specs.declared.units.RateLimit.{RateLimit}
-use Rattle.room.specs.Room.{empty}
+use Rattle.ring.specs.declared.Bucket.{Bucket}
+use Rattle.ring.specs.Ring.{buckets}
+use Rattle.room.specs.Room.{ringOf, bodyOf, empty}
+use Rattle.rules.specs.declared.RoomKind.{RoomKind}
 use Rattle.rules.specs.declared.RoomKind.the-variants as kind
 use Rattle.judge.specs.Verdict.{Verdict}
 use Rattle.calls.specs.Set as Sets
 use Rattle.cleanup.specs.Cleanup as Cleanup
 use Rattle.absolute_verdicts.specs.Calls as Absolute
 use Rattle.suppressed_verdicts.specs.Calls as Suppressed
+use Rattle.promises.specs.Rules.{Inc, incOf}
 
 -- ---- settings, rates, the room and the key
 
@@ -78,16 +82,40 @@ sget t w = Suppressed.get (hardBy 2) w t key
 abbrev pub eightAndTwo : List ℕ
 eightAndTwo = sinc 1500 2 0 (sinc 0 8 0 room .words) .words
 
--- 1 at reading 0, and then 9 more
-abbrev pub single : List ℕ
-single = sinc 0 1 0 room .words
-
 -- 20 at reading 0: equal to H, so that factor 1 is cached at 0
 abbrev pub twenty : List ℕ
 twenty = sinc 0 20 0 room .words
 
 abbrev pub clean : ℕ → ℕ → List ℕ → Verdict DoneAnswer
 clean t stale w = Cleanup.cleanup kind.Suppressed (hardBy 2) w t stale
+
+-- ---- either limiter at rate 1, and any function in its place, by words, reading and count
+
+abbrev pub settingsFor : RoomKind → Settings
+settingsFor kind.Absolute = defaults
+settingsFor kind.Suppressed = hardBy 2
+
+abbrev pub askAt : RoomKind → Inc → List ℕ → ℕ → ℕ → Verdict RateLimitDecision
+askAt kind f w t count = f (settingsFor kind) w t key (perSecond one) count 0
+
+abbrev pub incAt : RoomKind → List ℕ → ℕ → ℕ → Verdict RateLimitDecision
+incAt kind w t count = askAt kind (incOf kind) w t count
+
+-- as many as fill an empty room at once, and the room then: `ten`, `twenty`
+abbrev pub most : RoomKind → ℕ
+most kind.Absolute = 10
+most kind.Suppressed = 20
+
+abbrev pub full : RoomKind → List ℕ
+full kind = incAt kind room 0 (most kind) .words
+
+-- 1 at reading 0
+abbrev pub single : RoomKind → List ℕ
+single kind = incAt kind room 0 1 .words
+
+-- the buckets of the only slot, whatever its key and use
+abbrev pub inSlot : List ℕ → List Bucket
+inSlot w = buckets (ringOf w) (bodyOf w 0)
 
 -- ---- the suppressed limiter at rate 1/4 and F = 1: H = S = 2, so that 2 are admitted and 5 more declined
 

@@ -4,5 +4,4 @@ pub mod Shared
 pub mod Rules
 pub mod Cases
 pub mod Boundary
-pub mod Wrong
 pub mod Sound

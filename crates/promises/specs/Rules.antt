@@ -1,6 +1,6 @@
 -- Demand 2, on the side of the proofs: what each call that is not turned away answers and leaves is what document 01's rules make of what it finds. A
--- field for each call; what the rules are stands in the records that the fields name. (On the other side the original Rust is run beside the calls:
--- docs/DIFFERENCES.md.)
+-- field for each call; what the rules are stands in the records that the fields name. Of increments and of `get` it is said of any function with their
+-- inputs and results, and the limiters' own are such functions. (On the other side the original Rust is run beside the calls: docs/DIFFERENCES.md.)
 -- Assumes nothing.
 use mathlib.Core.Path.{_≡_, sym, subst, _∙_}
 use mathlib.Core.Bool.{Bool, true, cond}
@@ -11,6 +11,9 @@ use lib.ListN.{length}
 use borrow.Author.Tests.{eq-eqb}
 use Rattle.common.specs.Refusals.{first}
 use Rattle.answers.specs.declared.DoneAnswer.the-variants as done
+use Rattle.answers.specs.declared.RateLimitDecision.{RateLimitDecision}
+use Rattle.answers.specs.declared.SnapshotAnswer.{SnapshotAnswer}
+use Rattle.answers.specs.declared.TotalAnswer.{TotalAnswer}
 use Rattle.common.specs.declared.comparator.RateLimitComparator.{RateLimitComparator}
 use Rattle.answers.specs.declared.HistoryUpdateMode.{HistoryUpdateMode}
 use Rattle.settings.specs.declared.Settings.{Settings}
@@ -20,6 +23,7 @@ use Rattle.frame.specs.Keys.{Bytes}
 use Rattle.rules.specs.declared.RoomKind.{RoomKind}
 use Rattle.rules.specs.declared.RoomKind.the-variants as kind
 use Rattle.judge.specs.Judge.{slotIn}
+use Rattle.judge.specs.Verdict.{Verdict}
 use Rattle.clearing.specs.Clear as Clear
 use Rattle.calls.specs.Delete as Delete
 use Rattle.calls.specs.Rate as Rate
@@ -65,20 +69,52 @@ pub record ReadsOut (kind : RoomKind) (s : Settings) (w key : List ℕ) (row : L
   pub answer : ReadOut.readOut kind s w key row .answer ≡ readOut.Buckets (length (bucketsOf w key))
   pub fills : ReadOut.readOut kind s w key row .row ≡ laid (bucketsOf w key) row
 
+-- ---- an increment, whatever function makes it
+
+-- what it answers and what it leaves, by settings, words, reading, key, rate, count and draw
+abbrev pub Inc : Type 0
+Inc = Settings → List ℕ → ℕ → List ℕ → RateLimit → ℕ → ℕ → Verdict RateLimitDecision
+
+-- the limiters' own; an absolute increment has no draw
+abbrev pub incOf : RoomKind → Inc
+incOf kind.Absolute s w t key rate count draw = Absolute.inc s w t key rate count
+incOf kind.Suppressed s w t key rate count draw = Suppressed.inc s w t key rate count draw
+
+abbrev pub incTable : RoomKind → Settings → List ℕ → ℕ → List ℕ → RateLimit → ℕ → ℕ → List (ℕ × Bool)
+incTable kind.Absolute s w t key rate count draw = absoluteInc s w t key rate count
+incTable kind.Suppressed s w t key rate count draw = suppressedInc s w t key rate count draw
+
+-- answer and room by the rules: of the suppressed limiter `outcome` is what they decide
+abbrev pub IncRule : RoomKind → Settings → List ℕ → ℕ → List ℕ → RateLimit → ℕ → ℕ → Verdict RateLimitDecision → Type 0
+IncRule kind.Absolute s w t key rate count draw v = IncLaw s w t key rate count v
+IncRule kind.Suppressed s w t key rate count draw v =
+    Counts s w t key (limitFor s rate (heldIn w key)) count (slotIn s w t key) (outcome s t (limitFor s rate (heldIn w key)) count draw (heldIn w key)) v
+
+-- of a key of bytes, where it is not turned away
+abbrev pub IncByRules : RoomKind → Inc → Type 0
+IncByRules kind f =
+    (s : Settings) (w : List ℕ) (t : ℕ) (key : List ℕ) (rate : RateLimit) (count draw : ℕ) → Bytes key → first (incTable kind s w t key rate count draw) ≡ 0 →
+    IncRule kind s w t key rate count draw (f s w t key rate count draw)
+
+-- ---- `get`, whatever function makes it: the absolute limiter's, and the suppressed one's
+
+abbrev pub TotalByRules : (Settings → List ℕ → ℕ → List ℕ → Verdict TotalAnswer) → Type 0
+TotalByRules f = (s : Settings) (w : List ℕ) (t : ℕ) (key : List ℕ) → first (plain kind.Absolute s w t key) ≡ 0 → GetLaw s w t key (f s w t key)
+
+abbrev pub SnapshotByRules : (Settings → List ℕ → ℕ → List ℕ → Verdict SnapshotAnswer) → Type 0
+SnapshotByRules f = (s : Settings) (w : List ℕ) (t : ℕ) (key : List ℕ) → Bytes key → first (suppressedGet s w t key) ≡ 0 → Gets s w t key (f s w t key)
+
+-- ---- the promise
+
 pub record Demand2 : Type 0 where
-  -- the absolute limiter; an increment's key is one of bytes
-  pub absolute-inc : (s : Settings) (w : List ℕ) (t : ℕ) (key : List ℕ) (rate : RateLimit) (count : ℕ) → Bytes key →
-      first (absoluteInc s w t key rate count) ≡ 0 → IncLaw s w t key rate count (Absolute.inc s w t key rate count)
+  -- the absolute limiter
+  pub absolute-inc : IncByRules kind.Absolute (incOf kind.Absolute)
   pub absolute-is-allowed : (s : Settings) (w : List ℕ) (t : ℕ) (key : List ℕ) → first (plain kind.Absolute s w t key) ≡ 0 →
       AskLaw s w t key (Absolute.isAllowed s w t key)
-  pub absolute-get : (s : Settings) (w : List ℕ) (t : ℕ) (key : List ℕ) → first (plain kind.Absolute s w t key) ≡ 0 → GetLaw s w t key (Absolute.get s w t key)
-  -- the suppressed limiter: `outcome` is what the rules decide
-  pub suppressed-inc : (s : Settings) (w : List ℕ) (t : ℕ) (key : List ℕ) (rate : RateLimit) (count draw : ℕ) → Bytes key →
-      first (suppressedInc s w t key rate count draw) ≡ 0 →
-      Counts s w t key (limitFor s rate (heldIn w key)) count (slotIn s w t key) (outcome s t (limitFor s rate (heldIn w key)) count draw (heldIn w key))
-      (Suppressed.inc s w t key rate count draw)
-  pub suppressed-get : (s : Settings) (w : List ℕ) (t : ℕ) (key : List ℕ) → Bytes key → first (suppressedGet s w t key) ≡ 0 →
-      Gets s w t key (Suppressed.get s w t key)
+  pub absolute-get : TotalByRules Absolute.get
+  -- the suppressed limiter
+  pub suppressed-inc : IncByRules kind.Suppressed (incOf kind.Suppressed)
+  pub suppressed-get : SnapshotByRules Suppressed.get
   pub suppressed-factor : (s : Settings) (w : List ℕ) (t : ℕ) (key : List ℕ) → Bytes key → first (suppressedFactor s w t key) ≡ 0 →
       GivesFactor s w t key (Suppressed.getFactor s w t key)
   -- the calls that both limiters have; `set_if` has mode Replace, `set_if_preserve_history` Preserve
@@ -125,7 +161,7 @@ reads-out kind s w key row e =
 
 pub demand2 : Demand2
 demand2 = record {
-  absolute-inc = λ s w t key rate count y e. Absolutely.inc-follows s w t key rate count y .done e;
+  absolute-inc = λ s w t key rate count draw y e. Absolutely.inc-follows s w t key rate count y .done e;
   absolute-is-allowed = λ s w t key e. Absolutely.ask-follows s w t key .done e;
   absolute-get = λ s w t key e. Absolutely.get-follows s w t key .done e;
   suppressed-inc = λ s w t key rate count draw y e. Own.inc-follows s w t key rate count draw y .done e;

@@ -128,3 +128,9 @@ judge-turned rowOf turned table n w v e p a o =
     (λ z. rw (e, ne-eqb (first table) 0 z) (p (first table)))
     (λ z. rw (e, eq-eqb (first table) 0 z) o)
     (λ z. rw (e, ne-eqb (first table) 0 z))
+
+-- ---- a number whose condition does not hold is not given
+
+pub not-given : {B : Type 0} (table : List (ℕ × Bool)) (row : List ℕ) (before after : B) → TurnedBy table row before after →
+    (n : ℕ) → n ≢ 0 → met table n ≡ false → numberOf row ≢ n
+not-given table row before after t n z m e = false≢true (sym m ∙ ap (met table) (sym e) ∙ t .only (λ y. z (sym e ∙ y)) .holds)

@@ -1,8 +1,8 @@
 -- Every call's table of refusals, and that it answers by it (demand 1), said once for all calls (`turned`): a number that is given is the lowest whose
 -- condition holds, exactly then, and the words are then as they were.
 -- Assumes nothing.
-use mathlib.Core.Path.{_≡_, refl, sym, ap, _∙_}
-use mathlib.Core.Bool.{Bool, true, false, cond, false≢true}
+use mathlib.Core.Path.{_≡_, refl, ap}
+use mathlib.Core.Bool.{Bool, true, false, cond}
 use mathlib.Core.List.{List, [], _∷_, _++_}
 use mathlib.Core.Logic.{_≢_}
 use Prim.Native.Nat.{ℕ}
@@ -50,7 +50,7 @@ use Rattle.rules.specs.declared.Reach.{Reach}
 use Rattle.rules.specs.declared.Reach.the-variants.{Hard, Soft, Over, Between}
 use Rattle.provider.specs.Provider as Provider
 use Rattle.provider.specs.Laws.{eitherMisfits, both-by-table}
-use Rattle.steps.specs.Lowest.{met, TurnedBy, Rises, numberOf, turned-by, judge-turned}
+use Rattle.steps.specs.Lowest.{met, TurnedBy, Rises, numberOf, turned-by, judge-turned, not-given}
 use Rattle.steps.specs.Ops as Ops
 use Rattle.steps.specs.Ops.{Op, cleanedBoth, after, answerRow, answerNumber}
 
@@ -211,6 +211,5 @@ turned k s w t (Ops.cleanup stale) = judge-turned doneRow done.Refused (cleans k
 turned k s w t (Ops.cleanupBoth other stale) = each-turned k s w t other stale
 turned k s w t Ops.clear = judge-turned doneRow done.Refused (clears s w t) _ w _ refl (λ n. refl) (omega arith) refl
 
--- a number whose condition does not hold is not given
 pub unmet : (k : RoomKind) (s : Settings) (w : List ℕ) (t : ℕ) (op : Op k) (n : ℕ) → n ≢ 0 → met (tableOf k s w t op) n ≡ false → answerNumber k s w t op ≢ n
-unmet k s w t op n z m e = false≢true (sym m ∙ ap (met (tableOf k s w t op)) (sym e) ∙ turned k s w t op .only (λ y. z (sym e ∙ y)) .holds)
+unmet k s w t op = not-given (tableOf k s w t op) (answerRow k s w t op) w (after k s w t op) (turned k s w t op)

@@ -1,0 +1,3 @@
+pub mod Limiters
+pub mod Totals
+pub mod Histories
