@@ -1,5 +1,5 @@
--- Document 01's number and values for each case of each answer, as a row of five numbers: the refusal's number or 0, which case it is (0 for a refusal), and
--- up to three values.
+-- Document 01's number and values for each case of each answer that is an enum, the units' constructors' too, as a row of five numbers: the refusal's number
+-- or 0, which case it is (0 for a refusal), and up to three values.
 -- A refusal "gives its number with zeros elsewhere". A double stands in a row by its bits, yes by 1. Assumes nothing.
 use mathlib.Core.Bool.{Bool, true, false, cond}
 use mathlib.Core.List.{List, [], _∷_}
@@ -21,6 +21,16 @@ use Rattle.answers.specs.declared.SetAnswer.{SetAnswer}
 use Rattle.answers.specs.declared.SetAnswer.the-variants as set
 use Rattle.answers.specs.declared.DoneAnswer.{DoneAnswer}
 use Rattle.answers.specs.declared.DoneAnswer.the-variants as done
+use Rattle.answers.specs.declared.ReadOutAnswer.{ReadOutAnswer}
+use Rattle.answers.specs.declared.ReadOutAnswer.the-variants as readOut
+use Rattle.common.specs.declared.units.WindowSizeAnswer.{WindowSizeAnswer}
+use Rattle.common.specs.declared.units.WindowSizeAnswer.the-variants as windowSize
+use Rattle.common.specs.declared.units.BucketSizeAnswer.{BucketSizeAnswer}
+use Rattle.common.specs.declared.units.BucketSizeAnswer.the-variants as bucketSize
+use Rattle.common.specs.declared.units.CachePeriodAnswer.{CachePeriodAnswer}
+use Rattle.common.specs.declared.units.CachePeriodAnswer.the-variants as cachePeriod
+use Rattle.common.specs.declared.units.RateLimitAnswer.{RateLimitAnswer}
+use Rattle.common.specs.declared.units.RateLimitAnswer.the-variants as rateLimit
 
 abbrev pub row : ℕ → ℕ → ℕ → ℕ → ℕ → List ℕ
 row number case a b c = number ∷ case ∷ a ∷ b ∷ c ∷ []
@@ -71,3 +81,26 @@ setRow (set.Refused n) = refusedRow n
 unfoldable pub doneRow : DoneAnswer → List ℕ
 doneRow done.Done = row 0 1 0 0 0
 doneRow (done.Refused n) = refusedRow n
+
+-- the ring's bucket count
+unfoldable pub readOutRow : ReadOutAnswer → List ℕ
+readOutRow (readOut.Buckets n) = row 0 1 n 0 0
+readOutRow (readOut.Refused n) = refusedRow n
+
+-- ---- the constructors of units: seconds, milliseconds twice, and a rate per second
+
+unfoldable pub windowSizeRow : WindowSizeAnswer → List ℕ
+windowSizeRow (windowSize.Made x) = row 0 1 (x .0) 0 0
+windowSizeRow (windowSize.Refused n) = refusedRow n
+
+unfoldable pub bucketSizeRow : BucketSizeAnswer → List ℕ
+bucketSizeRow (bucketSize.Made x) = row 0 1 (x .0) 0 0
+bucketSizeRow (bucketSize.Refused n) = refusedRow n
+
+unfoldable pub cachePeriodRow : CachePeriodAnswer → List ℕ
+cachePeriodRow (cachePeriod.Made x) = row 0 1 (x .0) 0 0
+cachePeriodRow (cachePeriod.Refused n) = refusedRow n
+
+unfoldable pub rateLimitRow : RateLimitAnswer → List ℕ
+rateLimitRow (rateLimit.Made x) = row 0 1 (bits (x .0)) 0 0
+rateLimitRow (rateLimit.Refused n) = refusedRow n

@@ -96,3 +96,9 @@ pub enum DoneAnswer {
     Done,
     Refused(u64),
 }
+
+// The read-out: how many buckets the key's ring has.
+pub enum ReadOutAnswer {
+    Buckets(u64),
+    Refused(u64),
+}

@@ -1,11 +1,13 @@
--- What `judge` says at the room's own last reading is what the read-out finds; and what the found slot's buckets are.
+-- What `judge` says at the room's own last reading is what the read-out finds; and what the found slot's buckets are: those that the rules say the key
+-- holds, whose times do not fall.
 -- Assumes nothing.
 use mathlib.Core.Path.{_≡_, refl, sym, ap, _∙_}
 use mathlib.Core.Bool.{Bool, true, false, not, _||_, cond}
-use mathlib.Core.List.{List, []}
-use Prim.Native.Nat.{ℕ, _<_}
+use mathlib.Core.List.{List, [], _∷_}
+use Prim.Native.Nat.{ℕ, zero, suc, _≤_, _<_}
+use native.Mathlib.Nat.{not-suc-le-zero, le-of-suc-le-suc}
 use native.Mathlib.Omega.{arith}
-use lib.ListN.{length}
+use lib.ListN.{length, getD}
 use lib.Dec.{ltb, eqb}
 use borrow.Author.Tests.{le-ltb, lt-ltb, ltb-true, eqb-true}
 use Rattle.base.specs.Decides.{and-true}
@@ -19,8 +21,11 @@ use Rattle.opened.specs.Sound.{hasSeries, rightUse, soundSeries, soundSlot, add
 use Rattle.opened.specs.Slot.{opened, slotOf}
 use Rattle.judge.specs.Judge.{misfits, early, judged, Passed}
 use Rattle.judge.specs.Laws.{passed}
+use Rattle.judge.specs.Held.{heldIn}
 use Rattle.opened.specs.Right.{addressed-at}
-use Rattle.ring.specs.Ring.{buckets}
+use Rattle.ring.specs.declared.Bucket.{Bucket}
+use Rattle.ring.specs.Ring.{noBucket, buckets}
+use Rattle.ring.specs.Order.{Fine}
 use Rattle.ring.specs.Sound.{soundBuckets, sound-true}
 use Rattle.ring.specs.View.{view-length}
 use Rattle.room.specs.Room.{slotsOf, ringOf, lastOf, useOf, bodyOf, keySound}
@@ -29,6 +34,18 @@ use Rattle.finding.specs.Finding.{refusal, bucketsOf, shown, found, Read
 
 found-path : {x y : Found} → x .code ≡ y .code → x .slot ≡ y .slot → x .count ≡ y .count → x ≡ y
 found-path p q s = λ i. record { code = p i; slot = q i; count = s i }
+
+-- none is before the start, and none is before one that stands before it
+from : (j lo : ℕ) (xs : List Bucket) (hi : ℕ) → j < length xs → Fine lo xs hi → lo ≤ getD xs j noBucket .time
+from j lo [] hi l f = absurd (not-suc-le-zero l)
+from zero lo (x ∷ xs) hi l f = f .0
+from (suc j) lo (x ∷ xs) hi l f = omega (arith, f .0, from j (x .time) xs hi (le-of-suc-le-suc l) (f .3))
+
+rises : (i j lo : ℕ) (xs : List Bucket) (hi : ℕ) → i ≤ j → j < length xs → Fine lo xs hi → getD xs i noBucket .time ≤ getD xs j noBucket .time
+rises i j lo [] hi h l f = absurd (not-suc-le-zero l)
+rises zero j lo (x ∷ xs) hi h l f = from j (x .time) (x ∷ xs) hi l (omega arith, f .1, f .2, f .3)
+rises (suc i) zero lo (x ∷ xs) hi h l f = absurd (not-suc-le-zero h)
+rises (suc i) (suc j) lo (x ∷ xs) hi h l f = rises i j (x .time) xs hi (le-of-suc-le-suc h) (le-of-suc-le-suc l) (f .3)
 
 module _ (kind : RoomKind) (s : Settings) (w key : List ℕ) where
   -- refusal 6 is not met at the last reading
@@ -101,3 +118,27 @@ module _ (kind : RoomKind) (s : Settings) (w key : List ℕ) where
         view =
             refl;
       })
+
+  -- ---- what the rules say the key holds
+
+  held-as : (x : Bool) → ltb (addressed w key) (slotsOf w) ≡ x → bucketsOf w key ≡ heldIn w key .buckets
+  unfolding bucketsOf heldIn
+  held-as true e = rw e
+  held-as false e = rw e
+
+  pub buckets-held : bucketsOf w key ≡ heldIn w key .buckets
+  buckets-held = held-as _ refl
+
+  fine-as : (x y : Bool) → refusal kind s w key ≡ 0 → ltb (addressed w key) (slotsOf w) ≡ x → hasSeries (useOf w (addressed w key)) ≡ y →
+      Fine 0 (bucketsOf w key) (lastOf w)
+  unfolding bucketsOf
+  fine-as false y n e f = rw e tt
+  fine-as true false n e f = rw (e, f) tt
+  fine-as true true n e f =
+      rw (e, f) (sound-true (ringOf w) (bodyOf w (addressed w key)) (lastOf w)
+      (series-sound (passed kind s w (lastOf w) key (number ∙ n)) (ltb-true _ _ e) f) .each)
+
+  -- "oldest first": times do not fall
+  pub buckets-rise : refusal kind s w key ≡ 0 → (i j : ℕ) → i ≤ j → j < length (bucketsOf w key) →
+      getD (bucketsOf w key) i noBucket .time ≤ getD (bucketsOf w key) j noBucket .time
+  buckets-rise n i j h l = rises i j 0 (bucketsOf w key) (lastOf w) h l (fine-as _ _ n refl refl)

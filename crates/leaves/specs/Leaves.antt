@@ -118,8 +118,8 @@ module _ (s : Settings) (w : List ℕ) (t : ℕ) (key : List ℕ) (e : early kin
       AskedOk t (askedAt s w t x (x .limit) (eqb (x .pass .«live_total») 0))
   factor-ok b = asked-ok s (q .settings) w t x (sums s w t key q x p) (λ c. cached-there s w t key q x p c .word) (x .limit) b
 
-  caching-ok : (a : Asked) → a ≡ askedAt s w t x (x .limit) (eqb (x .pass .«live_total») 0) → a .blind ≡ false → CachingOk t (a .caching)
-  caching-ok a i b = subst (λ (y : Asked). AskedOk t y) (sym i) (factor-ok (sym (ap (λ (y : Asked). y .blind) i) ∙ b)) .caching
+  pub given-ok : (a : Asked) → a ≡ askedAt s w t x (x .limit) (eqb (x .pass .«live_total») 0) → a .blind ≡ false → AskedOk t a
+  given-ok a i b = subst (λ (y : Asked). AskedOk t y) (sym i) (factor-ok (sym (ap (λ (y : Asked). y .blind) i) ∙ b))
 
   -- its slot has the key
   key-has : hasSlot x ≡ true → keyAt w (x .at) ≡ keyOf key
@@ -184,7 +184,7 @@ module _ (s : Settings) (w : List ℕ) (t : ℕ) (key : List ℕ) (e : early kin
     get-stands y h =
         subst (λ (v : List ℕ). Stands kind.Suppressed s w v (x .at) t (keyOf key) (x .limit) (factorAfter (a .caching) (x .factor))
         (timeAfter (a .caching) (x .«factor_time»)) (useAfter (a .caching) x) (liveOf s t (heldIn w key)))
-        (ap (applied w (x .at) key (bucketIn s) t) (get-series x (a .caching) h) ∙ get-words) (evicted-stands (a .caching) y h (caching-ok a i b))
+        (ap (applied w (x .at) key (bucketIn s) t) (get-series x (a .caching) h) ∙ get-words) (evicted-stands (a .caching) y h (given-ok a i b .caching))
 
     -- "`get` on an unknown key .. takes no slot": the reading alone is stored
     pub get-keeps : x .series ≡ false → get s w t key .words ≡ withReading w t
@@ -209,7 +209,7 @@ module _ (s : Settings) (w : List ℕ) (t : ℕ) (key : List ℕ) (e : early kin
           (timeAfter (a .caching) (x .«factor_time»)) (useAfter (a .caching) x) (liveOf s t (heldIn w key)))
           (ap (λ (j : ℕ). applied w j key (bucketIn s) t (Update (recached x (a .caching) (evicting x Nothing)))) (sym n) ∙
           ap (applied w (placeOf w x) key (bucketIn s) t) (get-series x (a .caching) h ∙ factor-series x (a .caching) t h) ∙ factor-words)
-          (evicted-stands (a .caching) y h (caching-ok a i b))
+          (evicted-stands (a .caching) y h (given-ok a i b .caching))
 
       -- "but gives a lone cached factor at age below C": the reading alone is stored
       pub factor-keeps : x .series ≡ false → usableAt (cacheIn s) t x ≡ true → getFactor s w t key .words ≡ withReading w t

@@ -5,10 +5,10 @@
 use mathlib.Core.Path.{_≡_, refl, sym, ap, ap₂, subst, _∙_}
 use mathlib.Core.Bool.{Bool, true, false, not, _&&_, cond, false≢true}
 use mathlib.Core.List.{List, []}
-use Prim.Native.Nat.{ℕ, _-_, _^_, _≤_, _<_}
+use Prim.Native.Nat.{ℕ, _≤_, _<_}
 use native.Mathlib.Decide.{ℕ-discrete}
 use native.Mathlib.Omega.{arith}
-use lib.Dec.{ltb, eqb}
+use lib.Dec.{eqb}
 use Rattle.answers.specs.HistoryMode.{noSnapshot}
 use Rattle.common_laws.specs.LimitLaws.{soft-le-hard}
 use Rattle.common.specs.Limits.{cutWord, softWord}
@@ -24,7 +24,7 @@ use Rattle.answers.specs.declared.SnapshotAnswer.the-variants as snapshot
 use Rattle.answers.specs.declared.SuppressedRateLimitSnapshot.{SuppressedRateLimitSnapshot}
 use Rattle.settings.specs.declared.Settings.{Settings}
 use Rattle.common.specs.declared.units.RateLimit.{RateLimit}
-use Rattle.rules.specs.Buckets.{joined, lastSecond}
+use Rattle.rules.specs.Buckets.{joined}
 use Rattle.ring.specs.Ring.{counts, declineds}
 use Rattle.rules.specs.declared.Asked.{Asked}
 use Rattle.rules.specs.declared.Outcome.{Outcome}
@@ -49,14 +49,14 @@ use Rattle.forecast_opened.specs.Forecast.{forecastAt}
 use Rattle.suppressed_edits.specs.Edits.{factorAfter, timeAfter, useAfter, getChange, factorChange, incChange}
 use Rattle.suppressed_refusals.specs.Refusals.{incLate}
 use Rattle.suppressed_verdicts.specs.Calls.{get, getFactor, inc}
-use Rattle.suppressed_verdicts.specs.Opened.{unperceived, askingAt, snapshotAt, limitAt, incOutcome}
+use Rattle.suppressed_verdicts.specs.Opened.{askingAt, snapshotAt, limitAt, incOutcome}
 use Rattle.suppressed_verdicts.specs.Laws.{get-done, factor-done, inc-done}
 use Rattle.suppressed_verdicts.specs.Seen.{usable-is, second-is, asking-is, limit-is, decides, late-is}
 use Rattle.suppressed_verdicts.specs.Standing.{sums, unperceived-is}
 use Rattle.leaves.specs.Calls.{Stands}
 use Rattle.leaves.specs.Follows.{Follows, call-follows}
-use Rattle.leaves.specs.Unit.{DecisionOk}
-use Rattle.leaves.specs.Leaves.{stays-lone, asked-anew, get-stands, get-keeps, factor-stands, factor-keeps, factor-lone-stands, decision-ok, inc-stands}
+use Rattle.leaves.specs.Unit.{SnapshotOk, FactorOk, DecisionOk, snapshot-ok}
+use Rattle.leaves.specs.Leaves.{asked-anew, given-ok, get-stands, get-keeps, factor-stands, factor-keeps, factor-lone-stands, decision-ok, inc-stands}
 
 -- the number of a refusal, 0 where there is none
 abbrev pub getNumber : Settings → List ℕ → ℕ → List ℕ → ℕ
@@ -84,11 +84,13 @@ pub record Gets (s : Settings) (w : List ℕ) (t : ℕ) (key : List ℕ) (v : Ve
   })
   pub known : heldIn w key .known ≡ true → Evicted s w (v .words) t key (slotIn s w t key) (asking s t (heldIn w key))
   pub unknown-answer : heldIn w key .known ≡ false → v .answer ≡ snapshot.Snapshot noSnapshot
+  pub unit : SnapshotOk (v .answer)
   pub unknown : heldIn w key .known ≡ false → v .words ≡ withReading w t
 
 -- `get_suppression_factor`: "gives a lone cached factor at age below C"; without one it "does take" a slot "and caches 0"
 pub record GivesFactor (s : Settings) (w : List ℕ) (t : ℕ) (key : List ℕ) (v : Verdict FactorAnswer) : Type 0 where
   pub answer : v .answer ≡ factor.Factor (asking s t (heldIn w key) .factor)
+  pub unit : FactorOk (v .answer)
   pub known : heldIn w key .known ≡ true → Evicted s w (v .words) t key (slotIn s w t key) (asking s t (heldIn w key))
   pub kept : heldIn w key .known ≡ false → usable s t (heldIn w key) ≡ true → v .words ≡ withReading w t
   pub anew : heldIn w key .known ≡ false → usable s t (heldIn w key) ≡ false →
@@ -153,6 +155,8 @@ module _ (s : Settings) (w : List ℕ) (t : ℕ) (key : List ℕ) where
           known-answer = λ g. sym r ∙ ap by (series-as true g) ∙ ap₂ (λ (m n : ℕ). snapshot.Snapshot (full m n)) (o .live-is) (o .declined-is);
           known = λ g. get-stands s w t key e x refl a asked-is b y (series-as true g);
           unknown-answer = λ g. sym r ∙ ap by (series-as false g);
+          unit = subst (λ (z : SnapshotAnswer). SnapshotOk z) r
+              (snapshot-ok (x .series) (full (x .pass .«live_total») (x .pass .«live_declined»)) (given-ok s w t key e x refl a asked-is b .unit));
           unknown = λ g. get-keeps s w t key e x refl a asked-is b (series-as false g);
         }
 
@@ -167,9 +171,11 @@ module _ (s : Settings) (w : List ℕ) (t : ℕ) (key : List ℕ) where
         let b : a .blind ≡ false = n .1 .0 in
         let l : lacksAt w (placeOf w x) x ≡ false = lacks-is (windowIn s) t h x o w ∙ n .0 in
         let ch = factorChange x (a .caching) t in
+        let r = factor-done s w t key e x refl (placeOf w x) refl (lacksAt w (placeOf w x) x) refl l a asked-is b ch
+        (applied w (placeOf w x) key (bucketIn s) t ch) refl refl .answer in
         record {
-          answer = sym (factor-done s w t key e x refl (placeOf w x) refl (lacksAt w (placeOf w x) x) refl l a asked-is b ch
-              (applied w (placeOf w x) key (bucketIn s) t ch) refl refl .answer);
+          answer = sym r;
+          unit = subst (λ (z : FactorAnswer). FactorOk z) r (given-ok s w t key e x refl a asked-is b .unit);
           known = λ g. factor-stands s w t key e x refl a asked-is b l y (series-as true g);
           kept = λ g u. factor-keeps s w t key e x refl a asked-is b l (series-as false g) (usable-as ∙ u);
           anew = λ g u. factor-lone-stands s w t key e x refl a asked-is b l y (series-as false g) (usable-as ∙ u);

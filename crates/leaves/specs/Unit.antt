@@ -17,6 +17,12 @@ use Rattle.settings.specs.Settings.{windowIn, factorIn, cacheIn, Proper}
 use Rattle.settings.specs.declared.Settings.{Settings}
 use Rattle.answers.specs.declared.RateLimitDecision.{RateLimitDecision}
 use Rattle.answers.specs.declared.RateLimitDecision.the-variants.{Allowed, Rejected, Suppressed, Refused}
+use Rattle.answers.specs.declared.SnapshotAnswer.{SnapshotAnswer}
+use Rattle.answers.specs.declared.SnapshotAnswer.the-variants as snapshot
+use Rattle.answers.specs.declared.SuppressedRateLimitSnapshot.{SuppressedRateLimitSnapshot}
+use Rattle.answers.specs.declared.FactorAnswer.{FactorAnswer}
+use Rattle.answers.specs.declared.FactorAnswer.the-variants as factor
+use Rattle.answers.specs.HistoryMode.{noSnapshot}
 use Rattle.opened.specs.declared.Slot.{Slot}
 use Rattle.rules.specs.declared.FactorRule.{FactorRule}
 use Rattle.rules.specs.declared.FactorRule.the-variants.{Nil, One, Worked}
@@ -124,7 +130,21 @@ module _ (s : Settings) (p : Proper s) (w : List ℕ) (t : ℕ) (x : Slot) (o : 
   unfolding askedAt
   asked-ok limit b = by-use limit (usableAt (cacheIn s) t x) refl b
 
--- ---- the decision
+-- ---- "It lies in 0 to 1": of what each call answers
+
+abbrev pub SnapshotOk : SnapshotAnswer → Type 0
+SnapshotOk (snapshot.Snapshot x) = Unit01 (x .«suppression_factor»)
+SnapshotOk (snapshot.Refused n) = Unit {0}
+
+abbrev pub FactorOk : FactorAnswer → Type 0
+FactorOk (factor.Factor f) = Unit01 f
+FactorOk (factor.Refused n) = Unit {0}
+
+-- the snapshot of a known key, and of an unknown one
+pub snapshot-ok : (known : Bool) (x : SuppressedRateLimitSnapshot) → Unit01 (x .«suppression_factor») →
+    SnapshotOk (snapshot.Snapshot (cond known x noSnapshot))
+snapshot-ok true x u = u
+snapshot-ok false x u = unit-nil
 
 abbrev pub DecisionOk : RateLimitDecision → Type 0
 DecisionOk Allowed = Unit {0}

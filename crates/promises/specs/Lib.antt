@@ -1,5 +1,7 @@
+pub mod Units
 pub mod Refusals
 pub mod Determined
+pub mod Answers
 pub mod Shared
 pub mod Rules
 pub mod Cases

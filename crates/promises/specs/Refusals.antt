@@ -10,7 +10,7 @@ use native.Mathlib.Omega.{arith}
 use lib.Dec.{ltb}
 use lib.ListN.{length}
 use borrow.Author.Tests.{eq-eqb, ne-eqb}
-use Rattle.answers.specs.Rows.{row, refusedRow, doneRow}
+use Rattle.answers.specs.Rows.{doneRow, readOutRow}
 use Rattle.common.specs.Refusals.{first}
 use Rattle.settings.specs.Settings.{faults}
 use Rattle.settings.specs.declared.Settings.{Settings}
@@ -21,22 +21,16 @@ use Rattle.opened.specs.Sound.{addressed, soundAt}
 use Rattle.provider.specs.Provider as Provider
 use Rattle.readout.specs.ReadOut as ReadOut
 use Rattle.finding.specs.Finding as Finding
-use Rattle.readout.specs.declared.ReadOutAnswer.{ReadOutAnswer}
-use Rattle.readout.specs.declared.ReadOutAnswer.the-variants as readOut
 use Rattle.steps.specs.Lowest.{TurnedBy, turned-by}
 use Rattle.steps.specs.Ops.{Op, after, answerRow}
 use Rattle.steps.specs.Table.{tableOf, cleansBoth, turned, both-turned}
+use Rattle.promises.specs.Units.{Makes, makes}
 
 -- ---- the read-out's table: the calls' stand with the steps (`tableOf`)
 
 -- 1 to 5 and 7
 abbrev pub reads : RoomKind → Settings → List ℕ → List ℕ → List (ℕ × Bool)
 reads kind s w key = faults s ++ ((5, not (sized w && soundAt kind s w (addressed w key))) ∷ (7, ltb 32 (length key)) ∷ [])
-
--- number and values of what the read-out answers
-unfoldable pub readOutRow : ReadOutAnswer → List ℕ
-readOutRow (readOut.Buckets n) = row 0 1 n 0 0
-readOutRow (readOut.Refused n) = refusedRow n
 
 -- ---- the promise
 
@@ -51,6 +45,8 @@ pub record Demand1 : Type 0 where
   -- the row stays
   pub read-out : (kind : RoomKind) (s : Settings) (w key : List ℕ) (cells : List Bucket) →
       TurnedBy (reads kind s w key) (readOutRow (ReadOut.readOut kind s w key cells .answer)) cells (ReadOut.readOut kind s w key cells .row)
+  -- the constructors of units: 1, 2, 3 and 8
+  pub units : Makes
 
 pub reads-number : (kind : RoomKind) (s : Settings) (w key : List ℕ) → Finding.refusal kind s w key ≡ first (reads kind s w key)
 unfolding Finding.refusal
@@ -67,4 +63,4 @@ read-turned kind s w key cells =
     (λ z. rw (e, ne-eqb (first (reads kind s w key)) 0 z))
 
 pub demand1 : Demand1
-demand1 = record { calls = turned; provider-cleanup = both-turned; read-out = read-turned }
+demand1 = record { calls = turned; provider-cleanup = both-turned; read-out = read-turned; units = makes }

@@ -7,7 +7,6 @@ use mathlib.Core.Bool.{Bool, true, cond}
 use mathlib.Core.List.{List}
 use Prim.Native.Nat.{ℕ}
 use lib.Dec.{eqb}
-use lib.ListN.{length}
 use borrow.Author.Tests.{eq-eqb}
 use Rattle.common.specs.Refusals.{first}
 use Rattle.answers.specs.declared.DoneAnswer.the-variants as done
@@ -43,11 +42,10 @@ use Rattle.judge.specs.Held.{heldIn}
 use Rattle.provider.specs.Provider as Provider
 use Rattle.provider.specs.Laws.{lowest-none, both-by-table}
 use Rattle.readout.specs.ReadOut as ReadOut
-use Rattle.finding.specs.Finding as Finding
-use Rattle.finding.specs.Finding.{bucketsOf}
-use Rattle.readout.specs.Row.{laid}
-use Rattle.readout.specs.declared.ReadOutAnswer.the-variants as readOut
-use Rattle.steps.specs.Table.{absoluteInc, plain, suppressedInc, suppressedGet, suppressedFactor, setRate, sets, clears, cleans, cleansBoth}
+use Rattle.readout.specs.Rule.{ReadsOut, reads-out}
+use Rattle.steps.specs.Ops.{Op, answerRow}
+use Rattle.steps.specs.Table.{tableOf, absoluteInc, plain, suppressedInc, suppressedGet, suppressedFactor, setRate, sets, clears, cleans, cleansBoth}
+use Rattle.promises.specs.Answers.{ruleRow, answered}
 use Rattle.promises.specs.Refusals.{reads, reads-number}
 use Rattle.promises.specs.Shared.{RateRule, DeleteRule, SetRule, ClearRule, CleanRule, rate-follows, delete-follows, set-follows, clear-follows}
 use Rattle.promises.specs.Shared.{clean-follows}
@@ -62,12 +60,6 @@ pub record CleansBoth (s : Settings) (a b : List ℕ) (t stale : ℕ) : Type 0 w
   pub answer : Provider.cleanup s a b t stale .answer ≡ done.Done
   pub absolute : CleanRule kind.Absolute s a (Provider.cleanup s a b t stale .absolute) t stale
   pub suppressed : CleanRule kind.Suppressed s b (Provider.cleanup s a b t stale .suppressed) t stale
-
--- "fills a lent row of bucket records, oldest first, expired ones too, as many as fit, leaving the others; it gives the ring's bucket count, 0 for an
--- unknown key"
-pub record ReadsOut (kind : RoomKind) (s : Settings) (w key : List ℕ) (row : List Bucket) : Type 0 where
-  pub answer : ReadOut.readOut kind s w key row .answer ≡ readOut.Buckets (length (bucketsOf w key))
-  pub fills : ReadOut.readOut kind s w key row .row ≡ laid (bucketsOf w key) row
 
 -- ---- an increment, whatever function makes it
 
@@ -107,6 +99,9 @@ SnapshotByRules f = (s : Settings) (w : List ℕ) (t : ℕ) (key : List ℕ) →
 -- ---- the promise
 
 pub record Demand2 : Type 0 where
+  -- what every call of either limiter answers, in document 01's numbers and values; of the provider's cleanup, each room
+  pub answers : (kind : RoomKind) (s : Settings) (w : List ℕ) (t : ℕ) (op : Op kind) → first (tableOf kind s w t op) ≡ 0 →
+      answerRow kind s w t op ≡ ruleRow kind s w t op
   -- the absolute limiter
   pub absolute-inc : IncByRules kind.Absolute (incOf kind.Absolute)
   pub absolute-is-allowed : (s : Settings) (w : List ℕ) (t : ℕ) (key : List ℕ) → first (plain kind.Absolute s w t key) ≡ 0 →
@@ -129,7 +124,8 @@ pub record Demand2 : Type 0 where
   pub clear : (s : Settings) (w : List ℕ) (t : ℕ) → first (clears s w t) ≡ 0 → ClearRule w t (Clear.clear s w t)
   pub cleanup : (kind : RoomKind) (s : Settings) (w : List ℕ) (t stale : ℕ) → first (cleans kind s w t) ≡ 0 → CleansRoom kind s w t stale
   pub provider-cleanup : (s : Settings) (a b : List ℕ) (t stale : ℕ) → first (cleansBoth s a b t) ≡ 0 → CleansBoth s a b t stale
-  pub read-out : (kind : RoomKind) (s : Settings) (w key : List ℕ) (row : List Bucket) → first (reads kind s w key) ≡ 0 → ReadsOut kind s w key row
+  pub read-out : (kind : RoomKind) (s : Settings) (w key : List ℕ) (cells : List Bucket) → first (reads kind s w key) ≡ 0 →
+      ReadsOut w key cells (ReadOut.readOut kind s w key cells)
 
 cleans-room : (kind : RoomKind) (s : Settings) (w : List ℕ) (t stale : ℕ) → Cleanup.refusal kind s w t ≡ 0 → CleansRoom kind s w t stale
 cleans-room kind s w t stale e =
@@ -153,14 +149,9 @@ cleans-both s a b t stale e =
           (clean-follows kind.Suppressed s b t stale (z .1));
     }
 
-reads-out : (kind : RoomKind) (s : Settings) (w key : List ℕ) (row : List Bucket) → first (reads kind s w key) ≡ 0 → ReadsOut kind s w key row
-unfolding ReadOut.readOut
-reads-out kind s w key row e =
-    let z = eq-eqb (Finding.refusal kind s w key) 0 (reads-number kind s w key ∙ e) in
-    record { answer = rw z; fills = rw z }
-
 pub demand2 : Demand2
 demand2 = record {
+  answers = answered;
   absolute-inc = λ s w t key rate count draw y e. Absolutely.inc-follows s w t key rate count y .done e;
   absolute-is-allowed = λ s w t key e. Absolutely.ask-follows s w t key .done e;
   absolute-get = λ s w t key e. Absolutely.get-follows s w t key .done e;
@@ -173,5 +164,5 @@ demand2 = record {
   clear = clear-follows;
   cleanup = cleans-room;
   provider-cleanup = cleans-both;
-  read-out = reads-out;
+  read-out = λ kind s w key cells e. reads-out kind s w key cells (reads-number kind s w key ∙ e);
 }

@@ -14,7 +14,7 @@ use Rattle.ring.specs.Ring.{noBucket, buckets}
 use Rattle.room.specs.Room.{ringOf, bodyOf}
 use Rattle.finding.specs.declared.Found.{Found}
 use Rattle.readout.specs.declared.Plan.{Plan}
-use Rattle.readout.specs.declared.ReadOutAnswer.{ReadOutAnswer}
+use Rattle.answers.specs.declared.ReadOutAnswer.{ReadOutAnswer}
 use Rattle.readout.specs.Row.{laid, laid-nothing, upTo-length, upTo-more}
 use Rattle.readout.specs.ReadOut.{readOut, Shown, answerOf, planOf, rowAt}
 use Rattle.finding.specs.Finding.{refusal, shown, found, Readable, Reads}

@@ -1,3 +1,4 @@
 pub mod Row
 pub mod ReadOut
 pub mod Laws
+pub mod Rule

@@ -11,8 +11,8 @@ use Rattle.rules.specs.declared.RoomKind.{RoomKind}
 use Rattle.ring.specs.declared.Bucket.{Bucket}
 use Rattle.finding.specs.declared.Found.{Found}
 use Rattle.readout.specs.declared.Plan.{Plan}
-use Rattle.readout.specs.declared.ReadOutAnswer.{ReadOutAnswer}
-use Rattle.readout.specs.declared.ReadOutAnswer.the-variants.{Buckets, Refused}
+use Rattle.answers.specs.declared.ReadOutAnswer.{ReadOutAnswer}
+use Rattle.answers.specs.declared.ReadOutAnswer.the-variants.{Buckets, Refused}
 use Rattle.readout.specs.Row.{upTo, laid}
 use Rattle.finding.specs.Finding.{bucketsOf, refusal, shown}
 

@@ -4,16 +4,11 @@ ghost use mathlib.Core.Path.{_≡_};
 ghost use Prim.Native.Nat.{min};
 ghost use Rattle.readout.specs.ReadOut.{answerOf, planOf, readOut, Shown};
 ghost use Rattle.finding.specs.Finding.{found};
+use answers::ReadOutAnswer;
 use finding::Found;
 use ring::Bucket;
 use rules::RoomKind;
 use settings::Settings;
-
-// How many buckets the key's ring has, or the number of the refusal.
-pub enum ReadOutAnswer {
-    Buckets(u64),
-    Refused(u64),
-}
 
 // What the read-out is to do: what it answers, and how many buckets of which slot it writes.
 pub struct Plan {

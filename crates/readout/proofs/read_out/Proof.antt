@@ -72,8 +72,8 @@ use Rattle.finding.specs.Finding.{found}
 use Rattle.readout.specs.Laws.{row-readable, row-length, row-more, row-shown}
 use Rattle.readout.proofs.Plan as P
 use Rattle.readout.proofs.Plan.Laws as P′
-use Rattle.readout.proofs.ReadOutAnswer as N
-use Rattle.readout.proofs.ReadOutAnswer.Laws as N′
+use Rattle.answers.proofs.ReadOutAnswer as N
+use Rattle.answers.proofs.ReadOutAnswer.Laws as N′
 use Rattle.readout.proofs.decide as decide
 use Rattle.readout.proofs.decide.Symbol as decide-def
 use Rattle.readout.proofs.decide.Symbol.{name as #readout·decide}
