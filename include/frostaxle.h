@@ -115,7 +115,7 @@ enum {
     FROSTAXLE_NO_FREE_SLOT = 11,     /* a slot is needed and none is free: clean up, or make a larger room */
     FROSTAXLE_RING_FULL = 12,        /* a bucket must be added to a full ring: take longer rings, or longer buckets */
     FROSTAXLE_NO_PERCEIVED_RATE = 13, /* a factor would be worked out at perceived rate zero */
-    FROSTAXLE_NO_CALL = 14           /* comparator or preservation is none of the numbers below */
+    FROSTAXLE_NO_CALL = 14           /* comparator or preservation is none of the numbers below, and 1 to 8 and 10 are not met */
 };
 
 /* row[1] */

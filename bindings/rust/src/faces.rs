@@ -95,54 +95,68 @@ faces! {
 mod tests {
     use super::*;
 
-    /// Numbers that name nothing are 14 before anything else is judged, and the room stays. The safe types cannot say them.
+    /// Numbers that name nothing are 14 where nothing is refused that can be judged without them, and the room stays. The safe
+    /// types cannot say them.
     #[test]
     fn no_call() {
-        let mut room = [7_u64; 3];
+        let mut room = [0_u64; 19];
+        // SAFETY: the pointer and the length are those of a live slice.
+        assert_eq!(unsafe { frostaxle_make(room.as_mut_ptr(), room.len(), 1, 1) }, 0);
+        let made = room;
         let mut row = [9_u64; 5];
         let name = [0_u8; 40];
-        for (comparator, preservation) in [(5, 0), (u64::MAX, 1), (0, 2), (4, u64::MAX)] {
-            // SAFETY: the pointers and lengths are those of live slices that do not overlap.
+        let many = u64::MAX;
+        let calls = [
+            (10, 1, 1.0, 1, 14),
+            (10, 1, 1.0, many, 10),
+            (10, 1, 0.0, many, 8),
+            (10, 40, 0.0, many, 7),
+            (0, 40, 0.0, many, 1),
+        ];
+        for (window, key_len, rate, count, lowest) in calls {
+            for (comparator, preservation) in [(5, 0), (u64::MAX, 1), (0, 2), (4, u64::MAX)] {
+                // SAFETY: the pointers and lengths are those of live slices that do not overlap.
+                let number = unsafe {
+                    frostaxle_absolute_set_if_preserve_history(
+                        window,
+                        100,
+                        100,
+                        1.0,
+                        room.as_mut_ptr(),
+                        room.len(),
+                        0,
+                        name.as_ptr(),
+                        key_len,
+                        rate,
+                        count,
+                        comparator,
+                        0,
+                        preservation,
+                        &mut row,
+                    )
+                };
+                assert_eq!((number, row, room), (lowest, [lowest, 0, 0, 0, 0], made));
+            }
+            // SAFETY: as above.
             let number = unsafe {
-                frostaxle_absolute_set_if_preserve_history(
-                    0,
-                    0,
-                    0,
-                    0.0,
+                frostaxle_suppressed_set_if(
+                    window,
+                    100,
+                    100,
+                    1.0,
                     room.as_mut_ptr(),
                     room.len(),
                     0,
                     name.as_ptr(),
-                    name.len(),
-                    0.0,
-                    1,
-                    comparator,
+                    key_len,
+                    rate,
+                    count,
+                    5,
                     0,
-                    preservation,
                     &mut row,
                 )
             };
-            assert_eq!((number, row, room), (14, [14, 0, 0, 0, 0], [7; 3]));
+            assert_eq!((number, row, room), (lowest, [lowest, 0, 0, 0, 0], made));
         }
-        // SAFETY: as above.
-        let number = unsafe {
-            frostaxle_suppressed_set_if(
-                0,
-                0,
-                0,
-                0.0,
-                room.as_mut_ptr(),
-                room.len(),
-                0,
-                name.as_ptr(),
-                name.len(),
-                0.0,
-                1,
-                5,
-                0,
-                &mut row,
-            )
-        };
-        assert_eq!((number, row, room), (14, [14, 0, 0, 0, 0], [7; 3]));
     }
 }

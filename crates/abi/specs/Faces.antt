@@ -5,13 +5,15 @@ use mathlib.Core.Bool.{Bool, cond}
 use mathlib.Core.List.{List}
 use Prim.Native.Nat.{ℕ}
 use Rattle.answers.specs.Rows.{refusedRow, doneRow, setRow}
-use Rattle.answers.specs.declared.SetAnswer.{SetAnswer}
-use Rattle.common.specs.declared.comparator.RateLimitComparator.{RateLimitComparator}
-use Rattle.answers.specs.declared.HistoryUpdateMode.{HistoryUpdateMode}
+use Rattle.common.specs.declared.units.RateLimit.{RateLimit}
+use Rattle.settings.specs.declared.Settings.{Settings}
 use Rattle.room.specs.Room.{lengthOf, fits}
+use Rattle.rules.specs.declared.RoomKind.{RoomKind}
 use Rattle.judge.specs.Verdict.{Verdict}
-use Rattle.rows.specs.Plain.{badCall, numberOf}
+use Rattle.rows.specs.Plain.{numberOf}
 use Rattle.provider.specs.Provider as Provider
+use Rattle.calls.specs.Set as Set
+use Rattle.unnamed_set.specs.Unnamed as Unnamed
 use Rattle.inputs.specs.declared.Comparison.{Comparison}
 use Rattle.inputs.specs.declared.Comparison.the-variants as compared
 use Rattle.inputs.specs.declared.Mode.{Mode}
@@ -41,11 +43,11 @@ shown rowOf v = face (rowOf (v .answer)) (v .words)
 abbrev pub shownBoth : Provider.Verdict → Face (List ℕ × List ℕ)
 shownBoth v = face (doneRow (v .answer)) (v .absolute, v .suppressed)
 
--- a set whose numbers name a comparator and a mode; else no call, and every word stays
-unfoldable pub shownSet : List ℕ → Comparison → Mode → (RateLimitComparator → HistoryUpdateMode → Verdict SetAnswer) → Face (List ℕ)
-shownSet w compared.Unnamed m v = face (refusedRow badCall) w
-shownSet w (compared.Named c) chosen.Unnamed v = face (refusedRow badCall) w
-shownSet w (compared.Named c) (chosen.Named m) v = shown setRow (v c m)
+-- a set whose numbers name a comparator and a mode; else it is no call, is judged without them, and every word stays
+unfoldable pub shownSet : RoomKind → Settings → List ℕ → ℕ → List ℕ → RateLimit → Comparison → ℕ → Mode → Face (List ℕ)
+shownSet kind s w t key rate (compared.Named c) count (chosen.Named m) = shown setRow (Set.set kind s w t key rate c count m)
+shownSet kind s w t key rate (compared.Named c) count chosen.Unnamed = face (refusedRow (Unnamed.refusal kind s w t key rate count)) w
+shownSet kind s w t key rate compared.Unnamed count m = face (refusedRow (Unnamed.refusal kind s w t key rate count)) w
 
 -- ---- rooms
 

@@ -3,13 +3,13 @@
 ghost use mathlib.Core.Path.{_≡_};
 ghost use mathlib.Core.Bool.{cond};
 ghost use lib.ListN.{length};
-ghost use Rattle.answers.specs.Rows.{decisionRow, totalRow, snapshotRow, factorRow, oldRateRow, deleteRow, doneRow};
+ghost use Rattle.answers.specs.Rows.{refusedRow, decisionRow, totalRow, snapshotRow, factorRow, oldRateRow, deleteRow, doneRow};
 ghost use Rattle.room.specs.Room.{fits, empty};
 ghost use Rattle.rules.specs.declared.RoomKind.the-variants.{Absolute, Suppressed};
 ghost use Rattle.clearing.specs.Clear as Clear;
 ghost use Rattle.calls.specs.Delete as Delete;
 ghost use Rattle.calls.specs.Rate.{setRateLimit};
-ghost use Rattle.calls.specs.Set as Set;
+ghost use Rattle.unnamed_set.specs.Unnamed as Unnamed;
 ghost use Rattle.cleanup.specs.Cleanup as Cleanup;
 ghost use Rattle.absolute_verdicts.specs.Calls as AbsoluteCalls;
 ghost use Rattle.suppressed_verdicts.specs.Calls as SuppressedCalls;
@@ -64,6 +64,24 @@ pub extern "C" fn frostaxle_make(room: &mut [u64], slots: u64, ring: u64) -> u64
     WRONG_LENGTHS
 }
 
+// A set whose numbers name no comparator or no mode.
+fn unnamed(
+    kind: RoomKind,
+    settings: Settings,
+    room: &[u64],
+    reading: u64,
+    key: &[u8],
+    rate: f64,
+    count: u64,
+    row: &mut [u64; 5],
+) -> u64
+    ensures { λ n. ⌜ Given (refusedRow (Unnamed.refusal kind settings (now (room .entry)) reading (now (key .entry)) (rated rate) count)) n
+        (now (row .exit)) ⌝ }
+{
+    let number = unnamed_set::refusal(kind, settings, room, reading, key, RateLimit(rate), count);
+    rows::give(rows::refused_row(number), row)
+}
+
 // A set of either limiter, once its numbers are read.
 fn set(
     kind: RoomKind,
@@ -77,14 +95,14 @@ fn set(
     mode: Mode,
     row: &mut [u64; 5],
 ) -> u64
-    ensures { λ n. ⌜ Faced (shownSet (now (room .entry)) comparison mode
-        (λ c m. Set.set kind settings (now (room .entry)) reading (now (key .entry)) (rated rate) c count m)) n (now (row .exit)) (now (room .exit)) ⌝ }
+    ensures { λ n. ⌜ Faced (shownSet kind settings (now (room .entry)) reading (now (key .entry)) (rated rate) comparison count mode) n (now (row .exit))
+        (now (room .exit)) ⌝ }
 {
     let Comparison::Named(c) = comparison else {
-        return rows::give(rows::bad_call_row(), row);
+        return unnamed(kind, settings, room, reading, key, rate, count, row);
     };
     let Mode::Named(m) = mode else {
-        return rows::give(rows::bad_call_row(), row);
+        return unnamed(kind, settings, room, reading, key, rate, count, row);
     };
     let answer = calls::set(
         kind,
@@ -238,9 +256,8 @@ pub extern "C" fn frostaxle_absolute_set_if(
     operand: u64,
     row: &mut [u64; 5],
 ) -> u64
-    ensures { λ n. ⌜ Faced (shownSet (now (room .entry)) (comparisonOf comparator operand) replacing
-        (λ c m. Set.set Absolute (settings window bucket cache factor) (now (room .entry)) reading (now (key .entry)) (rated rate) c count m)) n
-        (now (row .exit)) (now (room .exit)) ⌝ }
+    ensures { λ n. ⌜ Faced (shownSet Absolute (settings window bucket cache factor) (now (room .entry)) reading (now (key .entry)) (rated rate)
+        (comparisonOf comparator operand) count replacing) n (now (row .exit)) (now (room .exit)) ⌝ }
 {
     let settings = inputs::settings(window, bucket, cache, factor);
     let comparison = inputs::comparison_of(comparator, operand);
@@ -275,9 +292,8 @@ pub extern "C" fn frostaxle_absolute_set_if_preserve_history(
     preservation: u64,
     row: &mut [u64; 5],
 ) -> u64
-    ensures { λ n. ⌜ Faced (shownSet (now (room .entry)) (comparisonOf comparator operand) (preserving preservation)
-        (λ c m. Set.set Absolute (settings window bucket cache factor) (now (room .entry)) reading (now (key .entry)) (rated rate) c count m)) n
-        (now (row .exit)) (now (room .exit)) ⌝ }
+    ensures { λ n. ⌜ Faced (shownSet Absolute (settings window bucket cache factor) (now (room .entry)) reading (now (key .entry)) (rated rate)
+        (comparisonOf comparator operand) count (preserving preservation)) n (now (row .exit)) (now (room .exit)) ⌝ }
 {
     let settings = inputs::settings(window, bucket, cache, factor);
     let comparison = inputs::comparison_of(comparator, operand);
@@ -454,9 +470,8 @@ pub extern "C" fn frostaxle_suppressed_set_if(
     operand: u64,
     row: &mut [u64; 5],
 ) -> u64
-    ensures { λ n. ⌜ Faced (shownSet (now (room .entry)) (comparisonOf comparator operand) replacing
-        (λ c m. Set.set Suppressed (settings window bucket cache factor) (now (room .entry)) reading (now (key .entry)) (rated rate) c count m)) n
-        (now (row .exit)) (now (room .exit)) ⌝ }
+    ensures { λ n. ⌜ Faced (shownSet Suppressed (settings window bucket cache factor) (now (room .entry)) reading (now (key .entry)) (rated rate)
+        (comparisonOf comparator operand) count replacing) n (now (row .exit)) (now (room .exit)) ⌝ }
 {
     let settings = inputs::settings(window, bucket, cache, factor);
     let comparison = inputs::comparison_of(comparator, operand);
@@ -491,9 +506,8 @@ pub extern "C" fn frostaxle_suppressed_set_if_preserve_history(
     preservation: u64,
     row: &mut [u64; 5],
 ) -> u64
-    ensures { λ n. ⌜ Faced (shownSet (now (room .entry)) (comparisonOf comparator operand) (preserving preservation)
-        (λ c m. Set.set Suppressed (settings window bucket cache factor) (now (room .entry)) reading (now (key .entry)) (rated rate) c count m)) n
-        (now (row .exit)) (now (room .exit)) ⌝ }
+    ensures { λ n. ⌜ Faced (shownSet Suppressed (settings window bucket cache factor) (now (room .entry)) reading (now (key .entry)) (rated rate)
+        (comparisonOf comparator operand) count (preserving preservation)) n (now (row .exit)) (now (room .exit)) ⌝ }
 {
     let settings = inputs::settings(window, bucket, cache, factor);
     let comparison = inputs::comparison_of(comparator, operand);

@@ -14,16 +14,26 @@ use Rattle.answers.specs.Rows.{doneRow, readOutRow}
 use Rattle.common.specs.Refusals.{first}
 use Rattle.settings.specs.Settings.{faults}
 use Rattle.settings.specs.declared.Settings.{Settings}
+use Rattle.common.specs.declared.units.RateLimit.{RateLimit}
 use Rattle.ring.specs.declared.Bucket.{Bucket}
 use Rattle.room.specs.Room.{sized}
 use Rattle.rules.specs.declared.RoomKind.{RoomKind}
 use Rattle.opened.specs.Sound.{addressed, soundAt}
+use Rattle.judge.specs.Judge.{misfits}
 use Rattle.provider.specs.Provider as Provider
 use Rattle.readout.specs.ReadOut as ReadOut
 use Rattle.finding.specs.Finding as Finding
+use Rattle.inputs.specs.declared.Comparison.{Comparison}
+use Rattle.inputs.specs.declared.Comparison.the-variants as compared
+use Rattle.inputs.specs.declared.Mode.{Mode}
+use Rattle.inputs.specs.declared.Mode.the-variants as chosen
+use Rattle.unnamed_set.specs.Unnamed as Unnamed
+use Rattle.unnamed_set.specs.Unnamed.{unnamed}
+use Rattle.abi.specs.Faces.{shownSet}
 use Rattle.steps.specs.Lowest.{TurnedBy, turned-by}
+use Rattle.steps.specs.Ops as Ops
 use Rattle.steps.specs.Ops.{Op, after, answerRow}
-use Rattle.steps.specs.Table.{tableOf, cleansBoth, turned, both-turned}
+use Rattle.steps.specs.Table.{tableOf, sets, cleansBoth, turned, both-turned}
 use Rattle.promises.specs.Units.{Makes, makes}
 
 -- ---- the read-out's table: the calls' stand with the steps (`tableOf`)
@@ -31,6 +41,14 @@ use Rattle.promises.specs.Units.{Makes, makes}
 -- 1 to 5 and 7
 abbrev pub reads : RoomKind → Settings → List ℕ → List ℕ → List (ℕ × Bool)
 reads kind s w key = faults s ++ ((5, not (sized w && soundAt kind s w (addressed w key))) ∷ (7, ltb 32 (length key)) ∷ [])
+
+-- ---- the table of a set over a face for C or Rust
+
+-- as of any set; where comparator or mode is not named, all of it that can be judged without them, and else 14
+abbrev pub setsShown : RoomKind → Settings → List ℕ → ℕ → List ℕ → RateLimit → Comparison → ℕ → Mode → List (ℕ × Bool)
+setsShown kind s w t key rate (compared.Named c) count (chosen.Named m) = sets kind s w t key rate c count m
+setsShown kind s w t key rate (compared.Named c) count chosen.Unnamed = unnamed kind s w t key rate count
+setsShown kind s w t key rate compared.Unnamed count m = unnamed kind s w t key rate count
 
 -- ---- the promise
 
@@ -47,6 +65,10 @@ pub record Demand1 : Type 0 where
       TurnedBy (reads kind s w key) (readOutRow (ReadOut.readOut kind s w key cells .answer)) cells (ReadOut.readOut kind s w key cells .row)
   -- the constructors of units: 1, 2, 3 and 8
   pub units : Makes
+  -- the sets over a face
+  pub set-shown : (kind : RoomKind) (s : Settings) (w : List ℕ) (t : ℕ) (key : List ℕ) (rate : RateLimit) (comparison : Comparison) (count : ℕ) (mode : Mode) →
+      TurnedBy (setsShown kind s w t key rate comparison count mode) (shownSet kind s w t key rate comparison count mode .row) w
+      (shownSet kind s w t key rate comparison count mode .words)
 
 pub reads-number : (kind : RoomKind) (s : Settings) (w key : List ℕ) → Finding.refusal kind s w key ≡ first (reads kind s w key)
 unfolding Finding.refusal
@@ -62,5 +84,19 @@ read-turned kind s w key cells =
     (λ z. rw (e, eq-eqb (first (reads kind s w key)) 0 z))
     (λ z. rw (e, ne-eqb (first (reads kind s w key)) 0 z))
 
+-- a number is always given, and 14 where none is lower
+unnamed-turned : (kind : RoomKind) (s : Settings) (w : List ℕ) (t : ℕ) (key : List ℕ) (rate : RateLimit) (count : ℕ) →
+    TurnedBy (unnamed kind s w t key rate count) (refusedRow (Unnamed.refusal kind s w t key rate count)) w w
+unfolding Unnamed.refusal faults misfits
+unnamed-turned kind s w t key rate count = turned-by (unnamed kind s w t key rate count) _ w w (omega arith) (λ z. refl) (λ z. z) (λ z. refl)
+
+set-turned : (kind : RoomKind) (s : Settings) (w : List ℕ) (t : ℕ) (key : List ℕ) (rate : RateLimit) (comparison : Comparison) (count : ℕ) (mode : Mode) →
+    TurnedBy (setsShown kind s w t key rate comparison count mode) (shownSet kind s w t key rate comparison count mode .row) w
+    (shownSet kind s w t key rate comparison count mode .words)
+unfolding shownSet
+set-turned kind s w t key rate (compared.Named c) count (chosen.Named m) = turned kind s w t (Ops.set key rate c count m)
+set-turned kind s w t key rate (compared.Named c) count chosen.Unnamed = unnamed-turned kind s w t key rate count
+set-turned kind s w t key rate compared.Unnamed count m = unnamed-turned kind s w t key rate count
+
 pub demand1 : Demand1
-demand1 = record { calls = turned; provider-cleanup = both-turned; read-out = read-turned; units = makes }
+demand1 = record { calls = turned; provider-cleanup = both-turned; read-out = read-turned; units = makes; set-shown = set-turned }

@@ -11,10 +11,6 @@ use lib.ListN.{getD}
 abbrev pub numberOf : List ℕ → ℕ
 numberOf row = getD row 0 0
 
--- what is no call is 14, as for a bad line of `desk`
-abbrev pub badCall : ℕ
-badCall = 14
-
 -- a row was handed over
 pub record Given (row : List ℕ) (n : ℕ) (a : List ℕ) : Type 0 where
   pub number : n ≡ numberOf row

@@ -1,7 +1,7 @@
 // The answer row: five words, as `answers`' specs/Rows.antt gives them for each answer.
 ghost use mathlib.Core.Path.{_≡_};
 ghost use Rattle.answers.specs.Rows.{refusedRow, said, decisionRow, totalRow, snapshotRow, factorRow, oldRateRow, deleteRow, setRow, doneRow};
-ghost use Rattle.rows.specs.Plain.{badCall, Given};
+ghost use Rattle.rows.specs.Plain.{Given};
 use answers::DeleteAnswer;
 use answers::DoneAnswer;
 use answers::FactorAnswer;
@@ -16,13 +16,6 @@ pub fn refused_row(number: u64) -> [u64; 5]
     ensures { λ r. ⌜ r ≡ refusedRow number ⌝ }
 {
     [number, 0, 0, 0, 0]
-}
-
-// What is no call.
-pub fn bad_call_row() -> [u64; 5]
-    ensures { λ r. ⌜ r ≡ refusedRow badCall ⌝ }
-{
-    refused_row(14)
 }
 
 // 1 for yes.

@@ -1,0 +1,2 @@
+pub mod Unnamed
+pub mod Laws
