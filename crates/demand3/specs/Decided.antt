@@ -16,7 +16,8 @@ use Rattle.rules.specs.Held.{Held}
 use Rattle.rules.specs.Both.{liveOf}
 use Rattle.rules.specs.Suppressed.{admits, asked, forecast, reachOf, outcome}
 use Rattle.rules.specs.Laws.{reach-admits, reach-soft, declined-all}
-use Rattle.demand3.specs.History.{numberOf, admitsCount}
+use Rattle.steps.specs.Lowest.{numberOf}
+use Rattle.demand3.specs.History.{admitsCount}
 
 -- ---- the rows of the decisions
 
@@ -32,7 +33,7 @@ admits-is (Refused n) = refl
 pub admits-refused : (n : ℕ) → admitsCount (Refused n) ≡ false
 admits-refused n = admits-is (Refused n)
 
-pub number-refused : (n : ℕ) → numberOf (Refused n) ≡ n
+pub number-refused : (n : ℕ) → numberOf (decisionRow (Refused n)) ≡ n
 unfolding decisionRow
 number-refused n = refl
 

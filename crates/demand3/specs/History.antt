@@ -4,7 +4,7 @@
 use mathlib.Core.Path.{_≡_, refl, ap₂}
 use mathlib.Core.Bool.{Bool, true, false, _&&_, _||_, false≢true}
 use mathlib.Core.List.{List, [], _∷_}
-use mathlib.Core.Logic.{_≢_}
+use mathlib.Core.Logic.{_≢_, _⊎_}
 use Prim.Native.Nat.{ℕ, _≤_}
 use lib.Dec.{eqb}
 use lib.ListN.{length, getD}
@@ -17,18 +17,17 @@ use Rattle.answers.specs.declared.RateLimitDecision.{RateLimitDecision}
 use Rattle.settings.specs.declared.Settings.{Settings}
 use Rattle.common.specs.declared.units.RateLimit.{RateLimit}
 use Rattle.rules.specs.Buckets.{windowTicks}
+use Rattle.rules.specs.Sets.{stillFor}
 use Rattle.frame.specs.Keys.{Bytes}
 use Rattle.rules.specs.declared.RoomKind.the-variants as kind
+use Rattle.judge.specs.Held.{heldIn}
 use Rattle.suppressed_verdicts.specs.Calls as Own
 use Rattle.admissions.specs.Log.{Entry, noted}
-use Rattle.steps.specs.Ops.{Op, draws, snapshot, getFactor, setRate, set, delete, cleanup, cleanupBoth, clear, Call, words}
+use Rattle.steps.specs.Ops.{Op, draws, snapshot, getFactor, setRate, set, delete, cleanup, cleanupBoth, clear, Call, words, answerNumber}
 
 -- ---- what a key was admitted
 
--- a decision's number, by its row of document 01's numbers; and whether it admits: case 1, Allowed, or case 3, Suppressed, with yes
-abbrev pub numberOf : RateLimitDecision → ℕ
-numberOf d = getD (decisionRow d) 0 0
-
+-- whether a decision admits, by its row of document 01's numbers: case 1, Allowed, or case 3, Suppressed, with yes
 abbrev pub rowAdmits : List ℕ → Bool
 rowAdmits row = eqb (getD row 1 0) 1 || (eqb (getD row 1 0) 3 && eqb (getD row 3 0) 1)
 
@@ -71,31 +70,12 @@ abbrev pub admitted : Settings → List ℕ → List ℕ → List (Call kind.Sup
 admitted s key w [] = []
 admitted s key w (c ∷ cs) = logged s key (words kind.Suppressed s w cs) (c .reading) (c .op) (admitted s key w cs)
 
--- ---- calls that leave a key to the limiter
+-- ---- the key, and its limits: H, and S
 
 -- "Key: 0 to 32 bytes"
 pub record IsKey (key : List ℕ) : Type 0 where
   pub bytes : Bytes key
   pub short : length key ≤ 32
-
--- the key's rate never changes, nobody sets or deletes the key, and nobody clears the room or cleans it with a stale time below the window. Keys are
--- bytes, of any number
-abbrev pub Spares : Settings → List ℕ → RateLimit → Op kind.Suppressed → Type 0
-Spares s key rate (draws k r count draw) = Bytes k × (k ≡ key → r ≡ rate)
-Spares s key rate (snapshot k) = Bytes k
-Spares s key rate (getFactor k) = Bytes k
-Spares s key rate (setRate k r) = Bytes k × (k ≡ key → r ≡ rate)
-Spares s key rate (set k r comparator count mode) = Bytes k × (k ≢ key)
-Spares s key rate (delete k) = Bytes k × (k ≢ key)
-Spares s key rate (cleanup stale) = windowTicks (windowIn s) ≤ stale
-Spares s key rate (cleanupBoth absolute stale) = windowTicks (windowIn s) ≤ stale
-Spares s key rate clear = ⊥
-
-abbrev pub AllSpare : Settings → List ℕ → RateLimit → List (Call kind.Suppressed) → Type 0
-AllSpare s key rate [] = Unit {0}
-AllSpare s key rate (c ∷ cs) = Spares s key rate (c .op) × AllSpare s key rate cs
-
--- ---- the key's limits: H, and S
 
 abbrev pub limitWord : Settings → RateLimit → ℕ
 limitWord s rate = hardWord (rate .0) (factorIn s) (windowIn s)
@@ -105,3 +85,69 @@ hardOf s rate = cutWord (limitWord s rate)
 
 abbrev pub softOf : Settings → RateLimit → ℕ
 softOf s rate = softWord (factorIn s) (limitWord s rate)
+
+-- ---- what is asked of the calls
+
+-- of a call: by settings, key and rate, the words before it and its reading
+abbrev pub Clause : Type 1
+Clause = Settings → List ℕ → RateLimit → List ℕ → ℕ → Op kind.Suppressed → Type 0
+
+abbrev pub Or : Clause → Clause → Clause
+Or P Q s key rate w t op = P s key rate w t op ⊎ Q s key rate w t op
+
+-- of every call of a history, from the words w
+abbrev pub AllBy : Clause → Settings → List ℕ → RateLimit → List ℕ → List (Call kind.Suppressed) → Type 0
+AllBy P s key rate w [] = Unit {0}
+AllBy P s key rate w (c ∷ cs) = P s key rate (words kind.Suppressed s w cs) (c .reading) (c .op) × AllBy P s key rate w cs
+
+-- one clause asks for no less than another
+abbrev pub Gives : Clause → Clause → Type 0
+Gives P Q = (s : Settings) (key : List ℕ) (rate : RateLimit) (w : List ℕ) (t : ℕ) (op : Op kind.Suppressed) → P s key rate w t op → Q s key rate w t op
+
+-- ---- calls that leave a key to the limiter
+
+-- in the mission's words: the key is at one rate, nobody sets, deletes or clears it, or cleans below the window. Keys are bytes, of any number
+abbrev pub LeavesAlone : Clause
+LeavesAlone s key rate w t (draws k r count draw) = Bytes k × (k ≡ key → r ≡ rate)
+LeavesAlone s key rate w t (snapshot k) = Bytes k
+LeavesAlone s key rate w t (getFactor k) = Bytes k
+LeavesAlone s key rate w t (setRate k r) = Bytes k × (k ≡ key → r ≡ rate)
+LeavesAlone s key rate w t (set k r comparator count mode) = Bytes k × (k ≢ key)
+LeavesAlone s key rate w t (delete k) = Bytes k × (k ≢ key)
+LeavesAlone s key rate w t (cleanup stale) = windowTicks (windowIn s) ≤ stale
+LeavesAlone s key rate w t (cleanupBoth absolute stale) = windowTicks (windowIn s) ≤ stale
+LeavesAlone s key rate w t clear = ⊥
+
+-- ---- and all other calls that change neither its limit nor its counts, by what the key holds before them
+
+-- a call that is turned away, whichever it is
+abbrev pub Refused : Clause
+Refused s key rate w t op = answerNumber kind.Suppressed s w t op ≢ 0
+
+-- an increment at rate r finds the limit of rate: a known key keeps its own, whatever r is, and an unknown one begins with r's (`limitFor`)
+abbrev pub Begins : Settings → List ℕ → RateLimit → List ℕ → RateLimit → Type 0
+Begins s key rate w r = heldIn w key .known ≡ false → limitWord s r ≡ limitWord s rate
+
+-- a call that counts the key under its limit, stores the limit that it has, sets it so that nothing changes, deletes it while it is unknown, or cleans from
+-- the window on; or a call of another key
+abbrev pub Harmless : Clause
+Harmless s key rate w t (draws k r count draw) = Bytes k × (k ≡ key → Begins s key rate w r)
+Harmless s key rate w t (snapshot k) = Bytes k
+Harmless s key rate w t (getFactor k) = Bytes k
+Harmless s key rate w t (setRate k r) = Bytes k × (k ≡ key → heldIn w key .known ≡ true → limitWord s r ≡ limitWord s rate)
+Harmless s key rate w t (set k r comparator count mode) =
+    Bytes k × (k ≡ key → stillFor kind.Suppressed s t r comparator count mode (heldIn w key) ≡ true)
+Harmless s key rate w t (delete k) = Bytes k × (k ≡ key → heldIn w key .known ≡ false)
+Harmless s key rate w t (cleanup stale) = windowTicks (windowIn s) ≤ stale
+Harmless s key rate w t (cleanupBoth absolute stale) = windowTicks (windowIn s) ≤ stale
+Harmless s key rate w t clear = ⊥
+
+abbrev pub Spares : Clause
+Spares = Or Refused Harmless
+
+-- of a history
+abbrev pub AllLeaveAlone : Settings → List ℕ → RateLimit → List ℕ → List (Call kind.Suppressed) → Type 0
+AllLeaveAlone = AllBy LeavesAlone
+
+abbrev pub AllSpare : Settings → List ℕ → RateLimit → List ℕ → List (Call kind.Suppressed) → Type 0
+AllSpare = AllBy Spares

@@ -7,6 +7,7 @@ use mathlib.Core.Logic.{_≢_}
 use Prim.Native.Nat.{ℕ, _+_, _-_, _≤_}
 use native.Mathlib.Omega.{arith}
 use lib.ListN.{drop}
+use Rattle.answers.specs.Rows.{decisionRow}
 use Rattle.common.specs.Limits.{cutWord, softWord}
 use Rattle.common.specs.Refusals.{first}
 use Rattle.settings.specs.Settings.{windowIn, bucketIn, factorIn}
@@ -53,7 +54,8 @@ use Rattle.admissions.specs.Log.{Entry, noted, aged}
 use Rattle.places.specs.Placed.{Own, own-either}
 use Rattle.steps.specs.Each.{draws-does}
 use Rattle.steps.specs.Moves.{moves-placed}
-use Rattle.demand3.specs.History.{IsKey, numberOf, admitsCount}
+use Rattle.steps.specs.Lowest.{numberOf}
+use Rattle.demand3.specs.History.{IsKey, admitsCount}
 use Rattle.demand3.specs.Decided.{admits-refused, number-refused, declines, admits-hard, allows-soft}
 use Rattle.demand3.specs.Kept.{GoodAt, Kept}
 use Rattle.demand3.specs.Owned.{after-series, edit-kept, limit-known, good-known, live-is, live-fine, live-sums, good-live, good-bare}
@@ -132,8 +134,8 @@ module _ (s : Settings) (le : bucketIn s ≤ windowTicks (windowIn s)) (limit : 
         })
         (λ h. absurd (true≢false (sym (after-series k known) ∙ h)))
 
-  -- the rate is the one that the key's limit is of
-  module _ (rate : RateLimit) (r : limitIn kind.Suppressed s rate ≡ limit) (c draw : ℕ) where
+  -- the rate is the one that the key's limit is of, where the key begins
+  module _ (rate : RateLimit) (r : heldIn w key .known ≡ false → limitIn kind.Suppressed s rate ≡ limit) (c draw : ℕ) where
     abbrev slot : Slot
     slot = slotIn s w t key
 
@@ -157,7 +159,7 @@ module _ (s : Settings) (le : bucketIn s ≤ windowTicks (windowIn s)) (limit : 
         go true e =
             ap (λ (z : Bool). cond z (held .limit) (limitIn kind.Suppressed s rate)) e ∙ sym (sees p .limit-is e) ∙
             limit-known s le limit key is w t log a p (sees p .series-is ∙ e)
-        go false e = ap (λ (z : Bool). cond z (held .limit) (limitIn kind.Suppressed s rate)) e ∙ r
+        go false e = ap (λ (z : Bool). cond z (held .limit) (limitIn kind.Suppressed s rate)) e ∙ r e
 
     -- the slot's live counts are the live buckets'
     forecast-is : Passed kind.Suppressed s w t key → forecast (liveOf s t (heldIn w key)) c ≡ forecastAt (slotIn s w t key) c
@@ -232,12 +234,12 @@ module _ (s : Settings) (le : bucketIn s ≤ windowTicks (windowIn s)) (limit : 
             omega (arith, h, g, m, live-sums s le limit key is w t log a p e)
         go false e = omega (arith, h, nothing p e)
 
-    pub inc-soft : numberOf (inc s w t key rate c draw .answer) ≡ 0 → c + aged (windowTicks (windowIn s)) t log ≤ softWord (factorIn s) limit →
+    pub inc-soft : numberOf (decisionRow (inc s w t key rate c draw .answer)) ≡ 0 → c + aged (windowTicks (windowIn s)) t log ≤ softWord (factorIn s) limit →
         inc s w t key rate c draw .answer ≡ decided.Allowed
     unfolding inc
     inc-soft =
         call-either decided.Refused kind.Suppressed s w t key (incTurns s (ringOf w) (noneFree w) t rate c draw held) _
-        (λ v. numberOf (v .answer) ≡ 0 → c + aged (windowTicks (windowIn s)) t log ≤ softWord (factorIn s) limit → v .answer ≡ decided.Allowed)
+        (λ v. numberOf (decisionRow (v .answer)) ≡ 0 → c + aged (windowTicks (windowIn s)) t log ≤ softWord (factorIn s) limit → v .answer ≡ decided.Allowed)
         (λ m z n h. absurd (z (sym (number-refused m) ∙ n)))
         (λ e f n h.
         let p = passed kind.Suppressed s w t key e in

@@ -6,5 +6,5 @@ pub mod Steps
 pub mod Owned
 pub mod Increments
 pub mod Folds
-pub mod Sharp
+pub mod Mission
 pub mod Demand3

@@ -1,4 +1,5 @@
--- The key's own calls but `inc` keep what holds of it: they evict, store the same limit again, or cache a factor.
+-- The key's own calls but `inc` keep what holds of it, where they change neither its limit nor its counts: they evict, store the same limit again, cache a
+-- factor, or let a lone one go.
 -- Assumes nothing.
 use mathlib.Core.Path.{_≡_, refl, sym, ap, ap₂, subst, _∙_}
 use mathlib.Core.Bool.{Bool, true, false, cond, false≢true, true≢false}
@@ -10,8 +11,12 @@ use Rattle.common.specs.Limits.{cutWord}
 use Rattle.settings.specs.Settings.{windowIn, bucketIn}
 use Rattle.settings.specs.declared.Settings.{Settings}
 use Rattle.common.specs.declared.units.RateLimit.{RateLimit}
+use Rattle.common.specs.declared.comparator.RateLimitComparator.{RateLimitComparator}
+use Rattle.answers.specs.declared.HistoryUpdateMode.{HistoryUpdateMode}
+use Rattle.answers.specs.declared.DeleteAnswer.the-variants as deleted
 use Rattle.answers.specs.declared.FactorAnswer.the-variants as factored
 use Rattle.answers.specs.declared.OldRateAnswer.the-variants as rated
+use Rattle.answers.specs.declared.SetAnswer.the-variants as answered
 use Rattle.answers.specs.declared.SnapshotAnswer.the-variants as gotten
 use Rattle.sweep.specs.Measured.{evicted-live}
 use Rattle.rules.specs.Buckets.{windowTicks, recent}
@@ -21,7 +26,8 @@ use Rattle.ring.specs.Ring.{counts, declineds, buckets}
 use Rattle.keys.specs.declared.Key.{Key}
 use Rattle.room.specs.Room.{ringOf, bodyOf}
 use Rattle.keys.specs.Keys.{keyOf}
-use Rattle.change.specs.declared.Change.the-variants.{Keep, Update}
+use Rattle.frame.specs.Distinct.{distinct-freed}
+use Rattle.change.specs.declared.Change.the-variants.{Keep, Free, Update}
 use Rattle.edit.specs.declared.Edit.{Edit}
 use Rattle.edit.specs.declared.Then.the-variants as then
 use Rattle.edit.specs.BodyLaws.{edited-is}
@@ -31,17 +37,22 @@ use Rattle.rules.specs.declared.RoomKind.the-variants as kind
 use Rattle.opened.specs.declared.Slot.{Slot}
 use Rattle.judge.specs.Judge.{early, Passed, slotIn}
 use Rattle.judge.specs.Laws.{passed}
+use Rattle.opened.specs.Slot.{hasSlot}
 use Rattle.opened.specs.Sound.{hasSeries}
 use Rattle.judge.specs.Verdict.{call-either}
 use Rattle.plan.specs.Known.{Known}
 use Rattle.plan.specs.Plan.{keeping, evicting, relimited, placeOf}
-use Rattle.calls.specs.Calls.{known-at}
+use Rattle.plan.specs.Seen.{seen}
+use Rattle.calls.specs.Calls.{slot-within, known-at}
 use Rattle.rules.specs.Both.{limitIn}
-use Rattle.shared_opened.specs.Opened.{forgotten, usedWith, limiting}
-use Rattle.rules.specs.Sets.{rateTurns}
+use Rattle.shared_opened.specs.Opened.{deleting, forgotten, usedWith, limiting}
+use Rattle.sets_opened.specs.Sets.{setting}
+use Rattle.rules.specs.Sets.{stillFor, setTurns, rateTurns}
 use Rattle.rules.specs.Suppressed.{asking, getTurns, factorTurns}
 use Rattle.judge.specs.Held.{heldIn, noneFree}
+use Rattle.calls.specs.Delete.{delete}
 use Rattle.calls.specs.Rate.{setRateLimit}
+use Rattle.calls.specs.Set.{set}
 use Rattle.calls.specs.Applies.{rate-applies, known-has}
 use Rattle.rules.specs.declared.Caching.{Caching}
 use Rattle.rules.specs.declared.Caching.the-variants.{Left, Cached}
@@ -51,12 +62,14 @@ use Rattle.factor_opened.specs.Opened.{staysAt}
 use Rattle.suppressed_verdicts.specs.Laws.{get-applies, place-used}
 use Rattle.admissions.specs.Good.{good-later, good-evict}
 use Rattle.admissions.specs.Log.{Entry}
+use Rattle.leaves.specs.Calls.{free-changed}
+use Rattle.places.specs.Has.{free-has, changed-same}
 use Rattle.places.specs.Placed.{Placed, Own, own-either}
 use Rattle.steps.specs.Each.{snapshot-does, factor-does}
 use Rattle.steps.specs.Moves.{moves-placed}
 use Rattle.steps.specs.Places.{owns, series-has, has-series}
 use Rattle.demand3.specs.History.{IsKey}
-use Rattle.demand3.specs.Kept.{GoodAt, Kept, kept-own}
+use Rattle.demand3.specs.Kept.{GoodAt, Kept, kept-same, kept-own}
 use Rattle.demand3.specs.Steps.{keep-kept}
 
 -- ---- uses
@@ -185,23 +198,40 @@ module _ (s : Settings) (le : bucketIn s ≤ windowTicks (windowIn s)) (limit : 
             (change-kept k (get-applies s w t key n x refl k (getChange x k) refl))
         go false e u v = lone-kept k e u v
 
-    -- ---- set_rate_limit, with the same limit
+    -- ---- set_rate_limit, with the same limit where the key is known
 
-    limiting-kept : Applies w (x .at) (bucketIn s) t (limiting x limit) → Kept s (keyOf key) limit (applied w (x .at) key (bucketIn s) t (limiting x limit)) log
+    limiting-kept : (l : ℕ) → (x .series ≡ true → l ≡ limit) → Applies w (x .at) (bucketIn s) t (limiting x l) →
+        Kept s (keyOf key) limit (applied w (x .at) key (bucketIn s) t (limiting x l)) log
     unfolding limiting editedView actedView startedView
-    limiting-kept o = go (x .series) refl o
+    limiting-kept l same o = go (x .series) refl o
       where
         go : (z : Bool) → x .series ≡ z →
-            Applies w (x .at) (bucketIn s) t (cond z (Update (relimited (keeping x then.Nothing) limit (usedWith x limit))) Keep) →
-            Kept s (keyOf key) limit
-            (applied w (x .at) key (bucketIn s) t (cond z (Update (relimited (keeping x then.Nothing) limit (usedWith x limit))) Keep)) log
+            Applies w (x .at) (bucketIn s) t (cond z (Update (relimited (keeping x then.Nothing) l (usedWith x l))) Keep) →
+            Kept s (keyOf key) limit (applied w (x .at) key (bucketIn s) t (cond z (Update (relimited (keeping x then.Nothing) l (usedWith x l))) Keep)) log
         go true e q =
-            let c = relimited (keeping x then.Nothing) limit (usedWith x limit) in
+            let c = relimited (keeping x then.Nothing) l (usedWith x l) in
             let u : hasSeries (x .used) ≡ true = ap hasSeries (known e .used-is) ∙ series-has kind.Suppressed s w t key p e .series in
             edit-kept (keyOf key) w _ (x .at) c t log
             (own-either w (x .at) key (bucketIn s) t (a .distinct) c true q (owns kind.Suppressed s w t key p (known-has x e)))
-            (λ h. record { limit-is = refl; good = good-known e }) (λ h. absurd (true≢false (sym (used-series x limit u) ∙ h)))
+            (λ h. record { limit-is = same e; good = good-known e }) (λ h. absurd (true≢false (sym (used-series x l u) ∙ h)))
         go false e q = keep-kept s le limit key is w t log a (x .at) key q (p .later)
+
+    -- ---- delete of a key that is unknown: at most a lone cached factor goes
+
+    freed-kept : x .series ≡ false → hasSlot x ≡ true → Kept s (keyOf key) limit (applied w (x .at) key (bucketIn s) t Free) log
+    freed-kept e h =
+        let c = free-changed w (x .at) key (bucketIn s) t (p .room) (slot-within kind.Suppressed s w t key p h) in
+        kept-same s le (keyOf key) limit w _ t log
+        (changed-same c (keyOf key) (λ q. true≢false (sym (has-series kind.Suppressed s w t key p (a .distinct) (x .at) q) ∙ e)) (λ q. free-has (c .used) q))
+        (p .later) (distinct-freed c (a .distinct) refl) a
+
+    deleting-kept : x .series ≡ false → Kept s (keyOf key) limit (applied w (x .at) key (bucketIn s) t (deleting x)) log
+    unfolding deleting
+    deleting-kept e = go (hasSlot x) refl
+      where
+        go : (z : Bool) → hasSlot x ≡ z → Kept s (keyOf key) limit (applied w (x .at) key (bucketIn s) t (cond z Free Keep)) log
+        go true h = freed-kept e h
+        go false h = keep-kept s le limit key is w t log a (x .at) key (p .room) (p .later)
 
   -- ---- the calls
 
@@ -225,14 +255,35 @@ module _ (s : Settings) (le : bucketIn s ≤ windowTicks (windowIn s)) (limit : 
         factor-kept key is w t log a (d .passed) e (k .caching) (d .applies)
         (moves-placed x w (keyOf key) (placeOf w x) (factorChange x (k .caching) t) (d .moves)))
 
-    pub rate-own : (rate : RateLimit) → limitIn kind.Suppressed s rate ≡ limit →
+    pub rate-own : (rate : RateLimit) → (heldIn w key .known ≡ true → limitIn kind.Suppressed s rate ≡ limit) →
         Kept s (keyOf key) limit (setRateLimit kind.Suppressed s w t key rate .words) log
     unfolding setRateLimit
     rate-own rate q =
+        let l = limitIn kind.Suppressed s rate in
+        call-either rated.Refused kind.Suppressed s w t key (rateTurns rate) _ (λ v. Kept s (keyOf key) limit (v .words) log) (λ m z. a)
+        (λ e f.
+        let p = passed kind.Suppressed s w t key e in
+        limiting-kept key is w t log a p l (λ h. q (sym (seen kind.Suppressed s w t key p .series-is) ∙ h)) (rate-applies kind.Suppressed s w t key l p))
+
+    pub set-own : (rate : RateLimit) (comparator : RateLimitComparator) (count : ℕ) (mode : HistoryUpdateMode) →
+        stillFor kind.Suppressed s t rate comparator count mode (heldIn w key) ≡ true →
+        Kept s (keyOf key) limit (set kind.Suppressed s w t key rate comparator count mode .words) log
+    unfolding set setting
+    set-own rate comparator count mode q =
         let x = slotIn s w t key in
-        call-either rated.Refused kind.Suppressed s w t key (rateTurns rate) _
+        call-either answered.Refused kind.Suppressed s w t key (setTurns kind.Suppressed s (noneFree w) t rate comparator count mode (heldIn w key)) _
         (λ v. Kept s (keyOf key) limit (v .words) log) (λ m z. a)
         (λ e f.
         let p = passed kind.Suppressed s w t key e in
-        subst (λ (l : ℕ). Kept s (keyOf key) limit (applied w (x .at) key (bucketIn s) t (limiting x l)) log) (sym q)
-        (limiting-kept key is w t log a p (rate-applies kind.Suppressed s w t key limit p)))
+        subst
+        (λ (z : Bool).
+        Kept s (keyOf key) limit (applied w (placeOf w x) key (bucketIn s) t (setting x z (limitIn kind.Suppressed s rate) count mode)) log)
+        (sym q) (keep-kept s le limit key is w t log a (placeOf w x) key (p .room) (p .later)))
+
+    pub delete-own : heldIn w key .known ≡ false → Kept s (keyOf key) limit (delete kind.Suppressed s w t key .words) log
+    unfolding delete
+    delete-own q =
+        call-either deleted.Refused kind.Suppressed s w t key [] _ (λ v. Kept s (keyOf key) limit (v .words) log) (λ m z. a)
+        (λ e f.
+        let p = passed kind.Suppressed s w t key e in
+        deleting-kept key is w t log a p (seen kind.Suppressed s w t key p .series-is ∙ q))

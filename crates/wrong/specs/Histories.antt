@@ -19,10 +19,11 @@ use Rattle.rules.specs.declared.RoomKind.the-variants.{Suppressed}
 use Rattle.judge.specs.Verdict.{Verdict}
 use Rattle.suppressed_verdicts.specs.Calls as Own
 use Rattle.admissions.specs.Log.{Entry, noted, pick, pick-all, inSpan, aged}
+use Rattle.steps.specs.Lowest.{numberOf}
 use Rattle.steps.specs.Ops as Ops
 use Rattle.steps.specs.Ops.{Call, draws, words, rows}
-use Rattle.demand3.specs.History.{rowAdmits, admitsCount, sameBytes, logged, admitted, numberOf, IsKey, AllSpare}
-use Rattle.demand3.specs.Demand3.{lessBucket, ceiling, floor}
+use Rattle.demand3.specs.History.{rowAdmits, admitsCount, sameBytes, logged, admitted, IsKey, AllLeaveAlone}
+use Rattle.demand3.specs.Demand3.{lessBucket, mission-ceiling, mission-floor}
 use Rattle.promises.specs.Rules.{Inc}
 use Rattle.promises.specs.Cases.{hardBy, perSecond, key, room, single}
 use Rattle.promises.specs.Boundary.{further}
@@ -62,7 +63,7 @@ Ceiling f = (shots : List Shot) (from : ℕ) → inSpan from (from + lessBucket 
 -- and its floor: one that is not refused and that with all admitted at ages up to one window comes to at most S is Allowed
 abbrev pub Floor : Inc → Type 0
 Floor f =
-    (shots : List Shot) (c : Shot) → numberOf (shotBy f (wordsBy f shots) c .answer) ≡ 0 →
+    (shots : List Shot) (c : Shot) → numberOf (decisionRow (shotBy f (wordsBy f shots) c .answer)) ≡ 0 →
     c .count + aged (windowTicks (windowIn (hardBy 2))) (c .reading) (logBy f shots) ≤ soft → shotBy f (wordsBy f shots) c .answer ≡ Allowed
 
 -- ---- the limiter itself keeps both
@@ -72,9 +73,9 @@ abbrev calls : List Shot → List (Call Suppressed)
 calls [] = []
 calls (c ∷ cs) = record { reading = c .reading; op = draws key (perSecond one) (c .count) (c .draw) } ∷ calls cs
 
-calls-spare : (shots : List Shot) → AllSpare (hardBy 2) key (perSecond one) (calls shots)
-calls-spare [] = tt
-calls-spare (c ∷ cs) = ((key-bytes, λ e. refl), calls-spare cs)
+calls-alone : (shots : List Shot) → AllLeaveAlone (hardBy 2) key (perSecond one) room (calls shots)
+calls-alone [] = tt
+calls-alone (c ∷ cs) = ((key-bytes, λ e. refl), calls-alone cs)
 
 same-words : (shots : List Shot) → words Suppressed (hardBy 2) room (calls shots) ≡ wordsBy Own.inc shots
 same-words [] = refl
@@ -90,17 +91,17 @@ is-key = record { bytes = key-bytes; short = omega arith }
 
 pub own-ceiling : Ceiling Own.inc
 own-ceiling shots from =
-    let g = ceiling (hardBy 2) 1 3 key (perSecond one) (calls shots) is-key (omega arith) (calls-spare shots) from in
+    let g = mission-ceiling (hardBy 2) 1 3 key (perSecond one) (calls shots) is-key (omega arith) (calls-alone shots) from in
     subst (λ (l : List Entry). inSpan from (from + lessBucket (hardBy 2)) l ≤ hard) (same-log shots) (omega (arith, g, further .hard-20))
 
 pub own-floor : Floor Own.inc
 own-floor shots c z h =
-    let n = subst (λ (v : List ℕ). numberOf (shotBy Own.inc v c .answer) ≡ 0) (sym (same-words shots)) z in
+    let n = subst (λ (v : List ℕ). numberOf (decisionRow (shotBy Own.inc v c .answer)) ≡ 0) (sym (same-words shots)) z in
     let a : c .count + aged (windowTicks (windowIn (hardBy 2))) (c .reading) (admitted (hardBy 2) key room (calls shots)) ≤ soft =
     subst (λ (l : List Entry). c .count + aged (windowTicks (windowIn (hardBy 2))) (c .reading) l ≤ soft) (sym (same-log shots)) h in
     subst (λ (v : List ℕ). shotBy Own.inc v c .answer ≡ Allowed) (same-words shots)
-    (floor (hardBy 2) 1 3 key (perSecond one) (calls shots) is-key (omega arith) (calls-spare shots) (c .reading) (c .count) (c .draw) n
-    (omega (arith, a, further .soft-10)))
+    (mission-floor (hardBy 2) 1 3 key (perSecond one) (calls shots) (c .reading) (perSecond one) (c .count) (c .draw) is-key (omega arith)
+    (calls-alone (c ∷ shots)) n (omega (arith, a, further .soft-10)))
 
 -- ---- shots at reading 0 lie in the span from 0 on
 

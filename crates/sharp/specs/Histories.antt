@@ -1,0 +1,168 @@
+-- Short histories of one key on a room of one slot and a ring of two buckets, and what each admits, computed by the calls themselves. Default settings (window
+-- 10 s, bucket 100 ms, factor 1) and 1 per second, so that H = S = 10, unless something else is said. Newest first.
+-- Assumes nothing.
+use mathlib.Core.Path.{_≡_, refl}
+use mathlib.Core.Bool.{true, false}
+use mathlib.Core.List.{List, [], _∷_}
+use Prim.Native.Nat.{ℕ}
+use native.Mathlib.Decide as Decide
+use lib.Ieee as Ieee
+use lib.IntN.{pos}
+use Rattle.base.specs.Seek as Seek
+use Rattle.base.specs.Splice as Splice
+use Rattle.base.specs.Tab as Tab
+use Rattle.answers.specs.Rows as Answers
+use Rattle.answers.specs.declared.HistoryUpdateMode.the-variants.{Replace}
+use Rattle.answers.specs.declared.RateLimitDecision.{RateLimitDecision}
+use Rattle.answers.specs.declared.RateLimitDecision.the-variants as decided
+use Rattle.suppression.specs.Factor as Factor
+use Rattle.common.specs.Limits as Limits
+use Rattle.common.specs.Ranges as Ranges
+use Rattle.common.specs.Refusals as Refusals
+use Rattle.common.specs.declared.comparator.RateLimitComparator.the-variants.{Always}
+use Rattle.settings.specs.Settings as Settings
+use Rattle.settings.specs.declared.Settings as settings
+use Rattle.common.specs.declared.units.RateLimit.{RateLimit}
+use Rattle.rules.specs.Buckets as Rules
+use Rattle.sweep.specs.Sweep as Sweep
+use Rattle.history.specs.Words as HistoryWords
+use Rattle.ring.specs.Order as Order
+use Rattle.ring.specs.Ring as Ring
+use Rattle.ring.specs.Sound as RingSound
+use Rattle.room.specs.Room as Room
+use Rattle.keys.specs.Keys as Keys
+use Rattle.rules.specs.declared.RoomKind.the-variants as kind
+use Rattle.judge.specs.Judge as Judge
+use Rattle.opened.specs.Slot as Slot
+use Rattle.opened.specs.Sound as Sound
+use Rattle.judge.specs.Verdict as Verdicts
+use Rattle.change.specs.Words as Words
+use Rattle.edit.specs.Bodies as Bodies
+use Rattle.suppressed_verdicts.specs.Calls as Calls
+use Rattle.suppressed_edits.specs.Edits as Edits
+use Rattle.factor_opened.specs.Opened as Slots
+use Rattle.plan.specs.Plan as Plan
+use Rattle.rules.specs.Both as Both
+use Rattle.rules.specs.Stale as Stale
+use Rattle.rules.specs.Sets as SetRules
+use Rattle.rules.specs.Suppressed as Suppressed
+use Rattle.judge.specs.Held as Held
+use Rattle.stale.specs.Uses as Uses
+use Rattle.cleanup.specs.Cleanup as Cleanup
+use Rattle.cleanup.specs.Every as Every
+use Rattle.clearing.specs.Clear as Clear
+use Rattle.calls.specs.Delete as Delete
+use Rattle.calls.specs.Rate as Rate
+use Rattle.calls.specs.Set as Set
+use Rattle.shared_opened.specs.Opened as Shared
+use Rattle.sets_opened.specs.Sets as SetsOpened
+use Rattle.admissions.specs.Log.{inSpan, aged}
+use Rattle.steps.specs.Ops.{Op, draws, setRate, set, delete, cleanup, clear, Call, words}
+use Rattle.demand3.specs.History.{admitted, hardOf, softOf}
+
+abbrev pub one : RateLimit
+one = record { 0 = Ranges.one }
+
+abbrev pub two : RateLimit
+two = record { 0 = Ieee.ofInt Ieee.binary64 (pos 2) }
+
+-- the defaults with hard limit factor 2: H = 20, S = 10
+abbrev pub doubled : settings.Settings
+doubled = Settings.withFactor Settings.defaults (two .0)
+
+abbrev pub room : List ℕ
+room = Room.empty 1 2
+
+abbrev pub call : ℕ → Op kind.Suppressed → Call kind.Suppressed
+call t op = record { reading = t; op = op }
+
+-- n counted at reading t
+abbrev pub counted : ℕ → ℕ → Call kind.Suppressed
+counted t n = call t (draws [] one n 0)
+
+-- ---- the histories
+
+-- 10 counted at 0
+abbrev pub tenOnce : List (Call kind.Suppressed)
+tenOnce = counted 0 10 ∷ []
+
+-- 0 counted at 0 begins a bucket, 10 at 100 join it, and at 10,001 it is expired: 10 more
+abbrev pub joinedLate : List (Call kind.Suppressed)
+joinedLate = counted 100 10 ∷ counted 0 0 ∷ []
+
+abbrev pub expired : List (Call kind.Suppressed)
+expired = counted 10001 10 ∷ joinedLate
+
+-- a cleanup at 10,000 with a stale time of window less 1 takes that bucket, one millisecond before it expires
+abbrev pub cleaned : List (Call kind.Suppressed)
+cleaned = counted 10000 10 ∷ call 10000 (cleanup 9999) ∷ joinedLate
+
+-- 10 counted, a call, and n more
+abbrev pub around : Op kind.Suppressed → ℕ → List (Call kind.Suppressed)
+around op n = counted 0 n ∷ call 0 op ∷ tenOnce
+
+-- a set that lowers the total from 10 to 9
+abbrev pub lowers : Op kind.Suppressed
+lowers = set [] one Always 9 Replace
+
+-- 20 counted at 2 per second, which the key begins with
+abbrev pub begun : List (Call kind.Suppressed)
+begun = call 0 (draws [] two 20 0) ∷ []
+
+-- ---- what they admit, and what follows them
+
+-- what the key was admitted from one reading to another, both included
+abbrev pub spent : ℕ → ℕ → List (Call kind.Suppressed) → ℕ
+spent from to calls = inSpan from to (admitted Settings.defaults [] room calls)
+
+-- what n counted at reading t after the calls are answered
+abbrev pub answerTo : settings.Settings → List (Call kind.Suppressed) → ℕ → ℕ → RateLimitDecision
+answerTo s calls t n = Calls.inc s (words kind.Suppressed s room calls) t [] one n 0 .answer
+
+pub record Computed : Type 0 where
+  pub hard : hardOf Settings.defaults one ≡ 10
+  pub reaches : spent 0 9900 tenOnce ≡ 10
+  pub expires : spent 100 10001 expired ≡ 20
+  pub cleans : spent 100 10000 cleaned ≡ 20
+  pub sets : spent 0 9900 (around lowers 1) ≡ 11
+  pub deletes : spent 0 9900 (around (delete []) 10) ≡ 20
+  pub clears : spent 0 9900 (around clear 10) ≡ 20
+  pub rates : spent 0 9900 (around (setRate [] two) 10) ≡ 20
+  pub begins : spent 0 9900 begun ≡ 20
+  -- 1 more at 10,000, when the 10 are as old as the window, is over H
+  pub soft : softOf Settings.defaults one ≡ 10
+  pub past : aged 9999 10000 (admitted Settings.defaults [] room tenOnce) ≡ 0
+  pub over : answerTo Settings.defaults tenOnce 10000 1 ≡ decided.Suppressed Ranges.one false
+  -- 11 on an empty room lie between S and H: admitted, by the factor
+  pub soft-doubled : softOf doubled one ≡ 10
+  pub between : answerTo doubled [] 0 11 ≡ decided.Suppressed Ranges.nil true
+
+pub computed : Computed
+unfolding Decide.decLe Seek.seek Splice.splice Tab.tab Answers.decisionRow Factor.perceivesNothing Factor.factorWordOk Factor.admitted Limits.hardWord
+    Limits.cutWord Limits.softWord Limits.limitOk Ranges.rateOk Ranges.factorOk Refusals.first Settings.faults Order.fine Ring.sumOf Ring.wrap
+    Ring.bucketAt Ring.buckets Ring.shaped Ring.pushed Ring.rewritten Ring.without RingSound.soundBuckets Rules.older Rules.recent Rules.ahead
+    Rules.joins Sweep.passOf HistoryWords.incremented HistoryWords.replacedWords Room.fits Room.empty Keys.keyOf Keys.sameKey Keys.unusedZero
+    Keys.keyFits Room.keyAt Room.free Room.has Room.bodyFrom Room.entered Room.withUse Room.withReading Room.freed Judge.misfits Slot.opened
+    Slot.slotOf Sound.rightUse Sound.soundSeries Sound.soundCached Sound.soundSlot Sound.addressed Sound.soundAt Verdicts.unlessRefused Bodies.begun
+    Bodies.started Bodies.acted Bodies.fixed Bodies.edited Words.withEdit Words.updated Words.taken Words.carried Words.applied Every.every
+    Uses.useAfter Uses.swept Uses.cleaned Cleanup.slotPasses Cleanup.misfits Cleanup.cleanup Clear.unclear Delete.delete Rate.setRateLimit Set.set
+    Shared.deleting Shared.usedWith Shared.limiting SetsOpened.stored SetsOpened.setting Calls.inc Edits.recached Edits.incEdit Edits.incChange
+    Ieee.le Ieee.lt Ieee.eq Ieee.mul Ieee.div Ieee.sub Ieee.add Ieee.ofInt Ieee.ofBits Ieee.ofFields Ieee.toBits Ieee.toUnsigned Ieee.fits Held.heldIn
+    Plan.placeOf Slots.staysAt Both.passes Both.ringFull SetRules.already SetRules.idle SetRules.rateTurns Stale.seriesStays Stale.factorStays
+    Suppressed.stays Suppressed.asked Suppressed.reachOf Suppressed.drawn Suppressed.outcome
+computed = record {
+  hard = refl;
+  reaches = refl;
+  expires = refl;
+  cleans = refl;
+  sets = refl;
+  deletes = refl;
+  clears = refl;
+  rates = refl;
+  begins = refl;
+  soft = refl;
+  past = refl;
+  over = refl;
+  soft-doubled = refl;
+  between = refl;
+}

@@ -1,0 +1,130 @@
+-- That demand 3 is sharp in each clause: with a larger span, a lower limit or one call more that is let pass the ceiling fails, and with a shorter look
+-- back or a higher limit the floor. Each by a history of a few calls that the checker computes (`Histories.antt`). P is what is asked of the calls
+-- otherwise: the mission's wording, or anything that asks for less, as `Spares` does (`alone-spares`).
+-- Assumes nothing.
+use mathlib.Core.Path.{_≡_, refl, sym, ap, _∙_}
+use mathlib.Core.Bool.{Bool}
+use mathlib.Core.List.{List, [], _∷_}
+use mathlib.Core.Logic.{inl, inr}
+use Prim.Native.Nat.{ℕ, _+_, _-_, _≤_, _<_}
+use native.Mathlib.Omega.{arith}
+use lib.Ieee.{Float}
+use lib.ListN.{getD}
+use Rattle.answers.specs.Rows.{decisionRow}
+use Rattle.answers.specs.declared.HistoryUpdateMode.the-variants.{Replace}
+use Rattle.answers.specs.declared.RateLimitDecision.{RateLimitDecision}
+use Rattle.answers.specs.declared.RateLimitDecision.the-variants as decided
+use Rattle.common.specs.declared.comparator.RateLimitComparator.the-variants.{Always}
+use Rattle.common.specs.declared.units.RateLimit.{RateLimit}
+use Rattle.settings.specs.Settings.{defaults, bucketIn}
+use Rattle.settings.specs.declared.Settings.{Settings}
+use Rattle.frame.specs.Keys.{Bytes}
+use Rattle.rules.specs.declared.RoomKind.the-variants as kind
+use Rattle.admissions.specs.Log.{aged}
+use Rattle.steps.specs.Ops.{Op, draws, setRate, set, delete, cleanup, clear, Call, words}
+use Rattle.demand3.specs.History.{IsKey, admitted, hardOf, softOf, Clause, Or, AllBy, Gives, LeavesAlone}
+use Rattle.demand3.specs.Demand3.{lessBucket, oneWindow, Ceiling, increment, Floor}
+use Rattle.sharp.specs.Histories.{one, two, doubled, room, tenOnce, expired, cleaned, around, lowers, begun, spent, answerTo, computed}
+
+fine : IsKey []
+fine = record { bytes = λ i. omega arith; short = omega arith }
+
+-- an increment of the key at its rate is by `LeavesAlone`
+own : Bytes [] × (_≡_ {A = List ℕ} [] [] → one ≡ one)
+own = (fine .bytes, λ e. refl)
+
+-- calls that are by the clause, and that are admitted n in a span, more than the limit
+breaks : (span : Settings → ℕ) (limit : Settings → RateLimit → ℕ) (Q : Clause) (calls : List (Call kind.Suppressed)) (from n : ℕ) →
+    AllBy Q defaults [] one room calls → spent from (from + span defaults) calls ≡ n → limit defaults one < n → Ceiling span limit Q → ⊥
+breaks span limit Q calls from n p e h f =
+    let g : spent from (from + span defaults) calls ≤ limit defaults one = f defaults 1 2 [] one calls fine (omega arith) p from in
+    absurd (omega (arith, e, h, g))
+
+-- n counted after the calls, at most the limit with what is admitted, that are answered Suppressed
+falls : (back : Settings → ℕ) (limit : Settings → RateLimit → ℕ) (Q : Clause) (s : Settings) (calls : List (Call kind.Suppressed)) (t n : ℕ) (x : Float)
+    (is : Bool) → bucketIn s ≤ oneWindow s → AllBy Q s [] one room (increment t [] one n 0 ∷ calls) → answerTo s calls t n ≡ decided.Suppressed x is →
+    n + aged (back s) t (admitted s [] room calls) ≤ limit s one → Floor back limit Q → ⊥
+unfolding decisionRow
+falls back limit Q s calls t n x is le p e h f =
+    let a = f s 1 2 [] one calls t one n 0 fine le p (ap (λ (d : RateLimitDecision). getD (decisionRow d) 0 0) e) h in
+    let c : _≡_ {A = ℕ} 3 1 = ap (λ (d : RateLimitDecision). getD (decisionRow d) 1 0) (sym e ∙ a) in
+    absurd (omega (arith, c))
+
+-- ---- one call more that is let pass
+
+-- the stale time: a cleanup with window less 1
+abbrev pub Cleans : Clause
+Cleans s key rate w t op = op ≡ cleanup (oneWindow s - 1)
+
+-- a set, at the key's rate
+abbrev pub Sets : Clause
+Sets s key rate w t op = (n : ℕ) × (op ≡ set key rate Always n Replace)
+
+abbrev pub Deletes : Clause
+Deletes s key rate w t op = op ≡ delete key
+
+abbrev pub Clears : Clause
+Clears s key rate w t op = op ≡ clear
+
+-- another rate: set on a known key, and of an increment that a key begins with
+abbrev pub Rates : Clause
+Rates s key rate w t op = (r : RateLimit) × (op ≡ setRate key r)
+
+abbrev pub Increments : Clause
+Increments s key rate w t op = (r : RateLimit) × ((n : ℕ) × (op ≡ draws key r n 0))
+
+-- ---- the clauses of the demand; P is `LeavesAlone`, or a clause that asks for less
+
+module _ (P : Clause) (less : Gives LeavesAlone P) where
+  counts : {s : Settings} {w : List ℕ} {t n : ℕ} → P s [] one w t (draws [] one n 0)
+  counts {s} {w} {t} {n} = less s [] one w t (draws [] one n 0) own
+
+  -- the span: one millisecond more
+  pub span-sharp : Ceiling (λ s. lessBucket s + 1) hardOf P → ⊥
+  span-sharp =
+      breaks (λ s. lessBucket s + 1) hardOf P expired 100 20 (counts, (counts, (counts, tt))) (computed .expires)
+      (omega (arith, computed .hard))
+
+  -- the hard limit: it is reached
+  pub hard-sharp : Ceiling lessBucket (λ s rate. hardOf s rate - 1) P → ⊥
+  hard-sharp =
+      breaks lessBucket (λ s rate. hardOf s rate - 1) P tenOnce 0 10 (counts, tt) (computed .reaches) (omega (arith, computed .hard))
+
+  pub stale-sharp : Ceiling lessBucket hardOf (Or P Cleans) → ⊥
+  stale-sharp =
+      breaks lessBucket hardOf (Or P Cleans) cleaned 100 20
+      (inl counts, (inr refl, (inl counts, (inl counts, tt)))) (computed .cleans) (omega (arith, computed .hard))
+
+  -- a call between 10 counted and n more, with which the key is admitted m
+  between-sharp : (Q : Clause) (op : Op kind.Suppressed) (n m : ℕ) → Q defaults [] one (words kind.Suppressed defaults room tenOnce) 0 op →
+      spent 0 9900 (around op n) ≡ m → 10 < m → Ceiling lessBucket hardOf (Or P Q) → ⊥
+  between-sharp Q op n m q e h =
+      breaks lessBucket hardOf (Or P Q) (around op n) 0 m (inl counts, (inr q, (inl counts, tt))) e (omega (arith, h, computed .hard))
+
+  pub set-sharp : Ceiling lessBucket hardOf (Or P Sets) → ⊥
+  set-sharp = between-sharp Sets lowers 1 11 (9, refl) (computed .sets) (omega arith)
+
+  pub delete-sharp : Ceiling lessBucket hardOf (Or P Deletes) → ⊥
+  delete-sharp = between-sharp Deletes (delete []) 10 20 refl (computed .deletes) (omega arith)
+
+  pub clear-sharp : Ceiling lessBucket hardOf (Or P Clears) → ⊥
+  clear-sharp = between-sharp Clears clear 10 20 refl (computed .clears) (omega arith)
+
+  pub rate-sharp : Ceiling lessBucket hardOf (Or P Rates) → ⊥
+  rate-sharp = between-sharp Rates (setRate [] two) 10 20 (two, refl) (computed .rates) (omega arith)
+
+  pub increment-sharp : Ceiling lessBucket hardOf (Or P Increments) → ⊥
+  increment-sharp =
+      breaks lessBucket hardOf (Or P Increments) begun 0 20 (inr (two, (20, refl)), tt) (computed .begins) (omega (arith, computed .hard))
+
+  -- the floor's window: one millisecond less
+  pub window-sharp : Floor (λ s. oneWindow s - 1) softOf P → ⊥
+  window-sharp =
+      falls (λ s. oneWindow s - 1) softOf P defaults tenOnce 10000 1 _ _ (omega arith) (counts, (counts, tt)) (computed .over)
+      (omega (arith, computed .past, computed .soft))
+
+  -- its soft limit: one more
+  pub soft-sharp : Floor oneWindow (λ s rate. softOf s rate + 1) P → ⊥
+  soft-sharp =
+      falls oneWindow (λ s rate. softOf s rate + 1) P doubled [] 0 11 _ _ (omega arith) (counts, tt) (computed .between)
+      (omega (arith, computed .soft-doubled))
