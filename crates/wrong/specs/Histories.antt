@@ -175,7 +175,7 @@ module _ (f : Inc) (declines : Always (λ d. d ≡ decision.Suppressed one false
   unfolding decisionRow
   declining-breaks-the-floor p =
       let d = declines (hardBy 2) room 0 key (perSecond one) 1 0 in
-      let e : decision.Suppressed one false ≡ Allowed = sym d ∙ p [] (at0 1) (ap numberOf d) (omega arith) in
+      let e : decision.Suppressed one false ≡ Allowed = sym d ∙ p [] (at0 1) (ap (λ (x : RateLimitDecision). numberOf (decisionRow x)) d) (omega arith) in
       let n : _≡_ {A = ℕ} 3 1 = ap caseOf e in
       omega (arith, n)
 
