@@ -10,7 +10,7 @@ use Prim.Native.Nat.{ℕ, zero, suc, _<_}
 use native.Mathlib.Decide.{ℕ-discrete}
 use native.Mathlib.Omega.{arith}
 use Rattle.base.specs.Decides.{true-and}
-use Rattle.answers.specs.Rows.{doneRow}
+use Rattle.answers.specs.Rows.{doneRow, readOutRow}
 use Rattle.settings.specs.Settings.{faults}
 use Rattle.settings.specs.declared.Settings.{Settings}
 use Rattle.ring.specs.declared.Bucket.{Bucket}
@@ -35,7 +35,7 @@ use Rattle.steps.specs.Ops as Ops
 use Rattle.steps.specs.Ops.{Op, Call, Keyed, AllKeyed, after, answerNumber, words}
 use Rattle.steps.specs.Sound.{step-sound}
 use Rattle.steps.specs.Table.{tableOf, clears, cleansBoth, unmet}
-use Rattle.promises.specs.Refusals.{demand1, reads, readOutRow}
+use Rattle.promises.specs.Refusals.{demand1, reads}
 
 -- every call of either limiter, and the provider's cleanup. A key that may enter the room is to be of bytes (`Keyed`)
 abbrev pub StaysSound : Type 0
