@@ -1,12 +1,14 @@
 #!/bin/sh
 # Builds the judge with rustc alone: the original source as it stands, small shims, the twin, and the archive of the Rattle code
-# where there is one. TRYPEMA_SRC names the folder of the original source, FROSTAXLE_ARCHIVE the archive.
+# where there is one and this machine can link it, which is x86-64 alone. TRYPEMA_SRC names the folder of the original source,
+# FROSTAXLE_ARCHIVE the archive; empty, none is linked.
 set -eu
 cd "$(dirname "$0")"
 here=$(pwd)
 source=${TRYPEMA_SRC:-$here/../../shared/docs/src}
 source=$(cd "$source" && pwd)
-archive=$here/../target/staticlib/libabi.a
+archive=
+if [ "$(uname -m)" = x86_64 ]; then archive=${FROSTAXLE_ARCHIVE-$here/../target/staticlib/libabi.a}; fi
 linked=
 if [ -n "${FROSTAXLE_ARCHIVE:-}" ]; then
     archive=$(realpath "$FROSTAXLE_ARCHIVE")

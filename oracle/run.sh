@@ -1,7 +1,8 @@
 #!/bin/sh
-# run.sh [calls] [seed]: builds, checks the worked desk example, compares; prints one line.
+# run.sh [calls] [seed] [few]: builds, checks the worked desk example, compares; prints one line. With `few`, most short histories are
+# left out.
 set -eu
 here=$(cd "$(dirname "$0")" && pwd)
 "$here/build.sh"
 "$here/../twin/target/desk" < "$here/../twin/example.input" | cmp - "$here/../twin/example.output"
-"$here/target/judge" "${1:-10000000}" "${2:-1}"
+"$here/target/judge" "${1:-10000000}" "${2:-1}" ${3:+"$3"}

@@ -1,4 +1,4 @@
-//! Every history of up to three calls over a small alphabet.
+//! Every history of up to three calls over a small alphabet, or a part of them.
 
 use twin::calls::{Call, Op};
 use twin::rules::{Comparator, Kind, Mode, Settings};
@@ -73,13 +73,27 @@ fn letters<'a>(ops: &[Op], rises: &[u64], keys: &'a [Key]) -> Vec<Letter<'a>> {
     letters
 }
 
-fn all_words(comparison: &mut Comparison, settings: Settings, letters: &[Letter], keys: &[Key]) {
+/// Where few words are wanted, one in so many is taken. Prime to the numbers of letters, so that each letter comes in each place.
+pub const FEW: u64 = 17;
+
+/// All words of three letters, or one in `comparison.short`; `next` counts them.
+fn words(
+    comparison: &mut Comparison,
+    settings: Settings,
+    letters: &[Letter],
+    keys: &[Key],
+    next: &mut u64,
+) {
     for first in letters {
         for second in letters {
             if !comparison.goes_on() {
                 return;
             }
             for third in letters {
+                *next += 1;
+                if !next.is_multiple_of(comparison.short) {
+                    continue;
+                }
                 let mut history = History::new(settings, 1, 2, keys);
                 comparison.begin(&history);
                 let mut reading = 0;
@@ -102,10 +116,13 @@ const CASES: [(Settings, f64, [u64; 3]); 4] = [
     (Settings { window: 1, bucket: 2000, cache: 1002, factor: 1.5 }, 1.4, [0, 1000, 1001]),
 ];
 
-pub fn run(comparison: &mut Comparison) {
+/// The short histories; where some are left out, the seed says which.
+pub fn run(comparison: &mut Comparison, seed: u64) {
     let keys = [Key::new(b"a"), Key::new(b"b")];
+    let mut next = seed % comparison.short;
     for (settings, rate, rises) in CASES {
-        all_words(comparison, settings, &letters(&absolute_ops(rate), &rises, &keys), &keys);
-        all_words(comparison, settings, &letters(&suppressed_ops(rate), &rises, &keys), &keys);
+        for ops in [absolute_ops(rate), suppressed_ops(rate)] {
+            words(comparison, settings, &letters(&ops, &rises, &keys), &keys, &mut next);
+        }
     }
 }

@@ -8,7 +8,7 @@ use twin::set::Wanted;
 use crate::compare::Comparison;
 use crate::expected::is_sound;
 use crate::long::{self, Falls};
-use crate::random::{Dice, bad_rate, bad_settings, key_pool, rate, rooms_left};
+use crate::random::{Dice, bad_rate, bad_settings, key_pool, nameless, rate, rooms_left};
 use crate::state::Key;
 use crate::together;
 use crate::trial::Trials;
@@ -30,7 +30,7 @@ struct Scene<'a> {
     keys: &'a [Key],
 }
 
-const CALLS: u64 = 10;
+const CALLS: u64 = 11;
 
 impl Scene<'_> {
     fn count(&mut self) -> u64 {
@@ -87,7 +87,11 @@ impl Scene<'_> {
             6 => Op::Set { kind, wanted: self.wanted() },
             7 => Op::Cleanup { kind, stale: self.stale() },
             8 => Op::CleanupBoth { stale: self.stale() },
-            _ => Op::ReadOut { kind },
+            9 => Op::ReadOut { kind },
+            _ => {
+                let (rate, count, nameless) = (self.rate(), self.count(), nameless(self.dice));
+                Op::NamelessSet { kind, rate, count, nameless }
+            }
         }
     }
 
@@ -425,7 +429,7 @@ pub fn run(rooms: u64, seed: u64) -> Trials {
     }
     together::run(&mut trials, &mut dice);
     #[cfg(archive)]
-    trials.count_faces(crate::faces::run(&mut dice));
+    trials.count_faces(crate::faces::run());
     trials.differed += histories.differed;
     trials
 }

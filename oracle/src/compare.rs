@@ -25,9 +25,8 @@ pub struct Comparison {
     pub histories: u64,
     /// Calls put to the original and compared.
     pub calls: u64,
-    /// Calls put to the others, refused ones included, and those that one of them does not have.
+    /// Calls put to the others, refused ones included.
     pub with_others: u64,
-    pub without_others: u64,
     /// Refused calls: number and unchanged rooms judged.
     pub refused: u64,
     /// Histories that ended where 01 ends the comparison.
@@ -37,6 +36,8 @@ pub struct Comparison {
     pub seed: Option<u64>,
     /// The sample's lines, if they are kept.
     pub record: Option<String>,
+    /// Of how many short histories one is compared; 0 where none is.
+    pub short: u64,
     /// So many differing histories end the run.
     pub most_differing: u64,
     /// How often each kind of call had each kind of answer, if that is kept.
@@ -46,23 +47,25 @@ pub struct Comparison {
 impl fmt::Display for Comparison {
     fn fmt(&self, f: &mut fmt::Formatter) -> fmt::Result {
         let Comparison { histories, calls, refused, ended, differed, .. } = self;
+        let short = match self.short {
+            0 => String::new(),
+            1 => " (all short ones)".to_string(),
+            some => format!(" (of the short ones 1 in {some} ONLY)"),
+        };
         write!(
             f,
-            "{histories} histories, {calls} calls compared with the original, {refused} refusals judged, {ended} ended early by 01; {}; {differed} differed",
-            who(&self.others, self.with_others, self.without_others)
+            "{histories} histories{short}, {calls} calls compared with the original, {refused} refusals judged, {ended} ended early by 01; {}; {differed} differed",
+            who(&self.others, self.with_others)
         )
     }
 }
 
 /// Which implementations over rooms were compared, and how many calls the others had.
-pub fn who(others: &[Box<dyn Limiters>], with: u64, without: u64) -> String {
+pub fn who(others: &[Box<dyn Limiters>], with: u64) -> String {
     let names: Vec<&str> = others.iter().map(|other| other.name()).collect();
     match names[..] {
         [] => "the twin ALONE: no archive of the Rattle code is linked".to_string(),
-        _ => format!(
-            "the twin and {}, the same {with} calls ({without} read-outs not: its C face has none)",
-            names.join(" and ")
-        ),
+        _ => format!("the twin and {}, the same {with} calls", names.join(" and ")),
     }
 }
 
@@ -87,8 +90,10 @@ pub struct History<'a> {
     leaves_expired_out: bool,
     given: Vec<Given<'a>>,
     before: Rooms,
+    /// The read-outs' row, and its lengths by turns: half as long as the ring, and longer than it.
     row: Row,
     row_before: Row,
+    row_lengths: [usize; 2],
     states: (Vec<u64>, Vec<u64>),
 }
 
@@ -102,8 +107,9 @@ impl<'a> History<'a> {
             leaves_expired_out: false,
             given: Vec::new(),
             before: Rooms::empty(slots, ring),
-            row: vec![UNTOUCHED; ring.div_ceil(2) + 1],
-            row_before: Vec::new(),
+            row: Row::new(),
+            row_before: Row::new(),
+            row_lengths: [ring.div_ceil(2), ring + 1],
             states: Default::default(),
         }
     }
@@ -151,12 +157,12 @@ impl Comparison {
             histories: 0,
             calls: 0,
             with_others: 0,
-            without_others: 0,
             refused: 0,
             ended: 0,
             differed: 0,
             seed: None,
             record: None,
+            short: 0,
             most_differing: 100,
             tally: None,
         }
@@ -235,6 +241,7 @@ impl Comparison {
         with_original: bool,
     ) -> bool {
         let wanted = expected(settings, &history.rooms, reading, call);
+        history.row.resize(history.row_lengths[history.given.len() % 2], UNTOUCHED);
         let History { rooms, before, row, row_before, .. } = history;
         before.clone_from(rooms);
         row_before.clone_from(row);
@@ -273,10 +280,6 @@ impl Comparison {
         answer: Answer,
     ) -> Result<(), Difference> {
         for other in &self.others {
-            if !other.offers(&call.op) {
-                self.without_others += 1;
-                continue;
-            }
             self.with_others += 1;
             let mut rooms = history.before.clone();
             let mut row = history.row_before.clone();

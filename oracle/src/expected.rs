@@ -218,7 +218,8 @@ fn rate(op: &Op) -> Option<f64> {
     match op {
         Op::AbsoluteInc { rate, .. }
         | Op::SuppressedInc { rate, .. }
-        | Op::SetRateLimit { rate, .. } => Some(*rate),
+        | Op::SetRateLimit { rate, .. }
+        | Op::NamelessSet { rate, .. } => Some(*rate),
         Op::Set { wanted, .. } => Some(wanted.rate),
         _ => None,
     }
@@ -235,6 +236,7 @@ pub fn kind(op: &Op) -> Kind {
         | Op::Delete { kind }
         | Op::Clear { kind }
         | Op::Set { kind, .. }
+        | Op::NamelessSet { kind, .. }
         | Op::Cleanup { kind, .. }
         | Op::ReadOut { kind } => *kind,
     }
@@ -245,36 +247,39 @@ pub fn has_key(op: &Op) -> bool {
     !matches!(op, Op::Clear { .. } | Op::Cleanup { .. } | Op::CleanupBoth { .. })
 }
 
-pub fn expected(settings: &Settings, rooms: &Rooms, reading: u64, call: Call) -> Expected {
-    let refused = |refusal| Expected { refusal, takes_out: false };
+/// The first of 1 to 8, or 0.
+fn early(settings: &Settings, rooms: &Rooms, reading: u64, call: Call) -> u64 {
     let fault = settings_fault(settings);
     if fault != 0 {
-        return refused(fault);
+        return fault;
     }
     let room = rooms.of(kind(&call.op));
     let is_both = matches!(call.op, Op::CleanupBoth { .. });
     if is_unsound(settings, kind(&call.op), room, call)
         || (is_both && is_unsound(settings, Kind::Suppressed, &rooms.suppressed, call))
     {
-        return refused(5);
+        return 5;
     }
     let is_read_out = matches!(call.op, Op::ReadOut { .. });
     let mut last = last_reading(room);
     if is_both {
         last = last.max(last_reading(&rooms.suppressed));
     }
-    if reading < last && !is_read_out {
-        return refused(6);
+    match () {
+        _ if reading < last && !is_read_out => 6,
+        _ if has_key(&call.op) && call.key.len() > 32 => 7,
+        _ if rate(&call.op).is_some_and(is_bad_rate) => 8,
+        _ => 0,
     }
-    if has_key(&call.op) && call.key.len() > 32 {
-        return refused(7);
+}
+
+pub fn expected(settings: &Settings, rooms: &Rooms, reading: u64, call: Call) -> Expected {
+    let refused = |refusal| Expected { refusal, takes_out: false };
+    let number = early(settings, rooms, reading, call);
+    if number != 0 || !has_key(&call.op) {
+        return refused(number);
     }
-    if rate(&call.op).is_some_and(is_bad_rate) {
-        return refused(8);
-    }
-    if !has_key(&call.op) {
-        return Expected::default();
-    }
+    let room = rooms.of(kind(&call.op));
     let (series, cached) = of_key(room, call.key);
     let met = Met { settings, room, reading, key: call.key, series, cached };
     match call.op {
@@ -291,6 +296,8 @@ pub fn expected(settings: &Settings, rooms: &Rooms, reading: u64, call: Call) ->
                 _ => 0,
             })
         }
+        // The lowest number goes first, and a set's count is judged before its comparator. Whether a slot is needed (11) hangs on it.
+        Op::NamelessSet { count, .. } => refused(if count > TOP { 10 } else { 14 }),
         _ => Expected::default(),
     }
 }

@@ -74,17 +74,21 @@ fn main() {
             println!("{trials}");
             std::process::exit(i32::from(trials.differed > 0));
         }
-        [calls, seed] => compare(number(calls), number(seed), Comparison::new(others())),
-        [calls, seed, "tally"] => {
-            let tally = Some(Default::default());
-            compare(number(calls), number(seed), Comparison { tally, ..Comparison::new(others()) });
-        }
-        [calls, seed, "first"] => {
-            let first = Comparison { most_differing: 1, ..Comparison::new(others()) };
-            compare(number(calls), number(seed), first);
+        [calls, seed, ref wishes @ ..]
+            if wishes.iter().all(|wish| ["tally", "first", "few"].contains(wish)) =>
+        {
+            let mut comparison = Comparison { short: 1, ..Comparison::new(others()) };
+            for wish in wishes {
+                match *wish {
+                    "tally" => comparison.tally = Some(Default::default()),
+                    "first" => comparison.most_differing = 1,
+                    _ => comparison.short = all_short::FEW,
+                }
+            }
+            compare(number(calls), number(seed), comparison);
         }
         _ => panic!(
-            "CALLS SEED [tally | first], history SEED, broken ROOMS SEED, sample CALLS SEED, or desk LINES SEED"
+            "CALLS SEED [tally] [first] [few], history SEED, broken ROOMS SEED, sample CALLS SEED, or desk LINES SEED"
         ),
     }
 }
@@ -100,11 +104,11 @@ fn others() -> Others {
     return vec![];
 }
 
-/// Desk inputs, random histories and all short ones, and units; one line.
+/// Desk inputs, random histories and short ones, and units; one line.
 fn compare(calls: u64, seed: u64, mut comparison: Comparison) {
     desk_check::run(&mut comparison, calls / 10_000, seed);
     random::run(&mut comparison, calls, seed);
-    all_short::run(&mut comparison);
+    all_short::run(&mut comparison, seed);
     units_check::run(&mut comparison);
     comparison.show_tally();
     println!("{comparison}");

@@ -149,6 +149,7 @@ impl Original {
                 Answer::Done
             }
             Op::Set { kind, wanted } => self.set(key, kind, wanted),
+            Op::NamelessSet { .. } => unreachable!("always refused"),
             Op::Cleanup { kind, stale } => {
                 match kind {
                     Kind::Absolute => absolute.cleanup(stale),

@@ -1,6 +1,6 @@
 //! Random histories that crowd the boundaries, from a generator of our own.
 
-use twin::calls::{Call, Op, Rooms};
+use twin::calls::{Call, Nameless, Op, Rooms};
 use twin::room::{is_room, last_reading};
 use twin::rules::{Comparator, Kind, Mode, Settings};
 use twin::set::Wanted;
@@ -98,6 +98,20 @@ pub fn bad_rate(dice: &mut Dice) -> f64 {
         f64::from_bits(least.to_bits() - 1),
         5e-324,
     ])
+}
+
+/// A set's numbers of which one names nothing, or both.
+pub fn nameless(dice: &mut Dice) -> Nameless {
+    let odd = dice.pick(&[5, 6, 255, 1 << 32, u64::MAX]);
+    let odd_side = dice.pick(&[2, 3, 255, 1 << 32, u64::MAX]);
+    let (named, side) = (dice.below(5), dice.below(2));
+    let (comparator, preservation) = dice.pick(&[
+        (odd, None),
+        (odd, Some(side)),
+        (named, Some(odd_side)),
+        (odd, Some(odd_side)),
+    ]);
+    Nameless { comparator, preservation }
 }
 
 pub fn bad_settings(dice: &mut Dice, good: &Settings) -> Settings {
@@ -258,6 +272,14 @@ impl Source {
         Wanted { rate: self.rate(), comparator: self.comparator(live), count, mode }
     }
 
+    /// A set whose numbers name nothing, now and then with a count or a rate at fault.
+    fn nameless_set(&mut self) -> Op {
+        let kind = if self.is_suppressed { Kind::Suppressed } else { Kind::Absolute };
+        let count = self.dice.pick(&[0, 1, TOP, TOP + 1, u64::MAX]);
+        let (rate, nameless) = (self.rate(), nameless(&mut self.dice));
+        Op::NamelessSet { kind, rate, count, nameless }
+    }
+
     fn op(&mut self, history: &History, key: &[u8]) -> Op {
         let settings = &history.settings;
         let kind = if self.is_suppressed { Kind::Suppressed } else { Kind::Absolute };
@@ -364,7 +386,11 @@ fn played<'a>(
         if source.dice.once_in(150) {
             key = &LONG_KEY;
         }
-        let op = source.op(&history, key);
+        // The sample has no refused call: its draws stay as they are.
+        let op = match comparison.record.is_none() && source.dice.once_in(100) {
+            true => source.nameless_set(),
+            false => source.op(&history, key),
+        };
         let given = match source.dice.once_in(150) {
             true => bad_settings(&mut source.dice, &settings),
             false => settings,

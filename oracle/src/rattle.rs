@@ -1,10 +1,12 @@
 //! The Rattle code, over the C face of its archive. What is lent stands between words that no call may reach.
 
-use twin::calls::{Answer, Call, Limiters, Op, Rooms, Row};
+use twin::calls::{Answer, Call, Limiters, Nameless, Op, Rooms, Row};
+use twin::room::Bucket;
 use twin::rules::{Comparator, Kind, Mode, Settings};
 use twin::set::Wanted;
 
-/// The archive's functions: settings, a room, a reading, what the call asks for, and the row of five words for the answer.
+/// The archive's functions: settings, a room, what the call asks for, mostly with a reading first, and the row of five words for
+/// the answer.
 macro_rules! faces {
     ($($name:ident($($argument:ident: $type:ty),*);)*) => {
         unsafe extern "C" {
@@ -49,6 +51,8 @@ faces! {
         reading: u64, key: *const u8, length: usize, rate: f64, count: u64, comparator: u64, operand: u64, preservation: u64
     );
     frostaxle_suppressed_cleanup(reading: u64, stale: u64);
+    frostaxle_absolute_bucket(key: *const u8, length: usize, at: usize);
+    frostaxle_suppressed_bucket(key: *const u8, length: usize, at: usize);
     frostaxle_provider_cleanup(suppressed: *mut u64, suppressed_words: usize, reading: u64, stale: u64);
 }
 
@@ -75,6 +79,7 @@ pub fn make(room: &mut [u64], slots: u64, ring: u64) -> u64 {
 const GUARD: u64 = 0x5a5a_a5a5_c3c3_3c3c;
 const GUARDS: usize = 8;
 const ROW: usize = 5;
+const MOST_BUCKETS: usize = 512;
 
 /// Words with guards on both sides.
 struct Lent(Vec<u64>);
@@ -121,19 +126,24 @@ struct Face<'a> {
     row: Lent,
 }
 
-/// A function of the archive on one of the rooms, with what follows the reading.
-macro_rules! call {
+/// A function of the archive on one of the rooms, with what follows the room.
+macro_rules! ask {
     ($face:ident.$room:ident, $function:ident $(, $argument:expr)*) => {{
         let Settings { window, bucket, cache, factor } = $face.settings;
-        let (reading, room, row) = ($face.reading, $face.$room.words(), $face.row.words());
+        let (room, row) = ($face.$room.words(), $face.row.words());
         let (start, words) = (room.as_mut_ptr(), room.len());
         // The room, the key and the row live through the call, and only the call has them.
         unsafe {
-            $function(
-                window, bucket, cache, factor, start, words, reading $(, $argument)*, row.as_mut_ptr(),
-            )
+            $function(window, bucket, cache, factor, start, words $(, $argument)*, row.as_mut_ptr())
         }
     }};
+}
+
+/// The same, with what follows the reading.
+macro_rules! call {
+    ($face:ident.$room:ident, $function:ident $(, $argument:expr)*) => {
+        ask!($face.$room, $function, $face.reading $(, $argument)*)
+    };
 }
 
 /// The function of the room's kind.
@@ -166,6 +176,13 @@ impl From<Wanted> for SetNumbers {
             Mode::PreserveOldest => Some(1),
         };
         SetNumbers { rate, count, comparator, operand, preservation }
+    }
+}
+
+impl From<(f64, u64, Nameless)> for SetNumbers {
+    fn from((rate, count, nameless): (f64, u64, Nameless)) -> Self {
+        let Nameless { comparator, preservation } = nameless;
+        SetNumbers { rate, count, comparator, operand: 0, preservation }
     }
 }
 
@@ -279,6 +296,9 @@ impl<'a> Face<'a> {
                 either!(self, kind, frostaxle_absolute_clear | frostaxle_suppressed_clear)
             }
             Op::Set { kind, wanted } => self.set(kind, wanted.into()),
+            Op::NamelessSet { kind, rate, count, nameless } => {
+                self.set(kind, (rate, count, nameless).into())
+            }
             Op::Cleanup { kind, stale } => {
                 either!(
                     self,
@@ -287,8 +307,74 @@ impl<'a> Face<'a> {
                     stale
                 )
             }
-            op => unreachable!("the C face has no {op:?}"),
+            op => unreachable!("no one function of the C face is {op:?}"),
         }
+    }
+
+    /// The row that a call leaves, once it returned this number.
+    fn told(&mut self, number: u64) -> [u64; ROW] {
+        let mut row = [0; ROW];
+        row.copy_from_slice(self.row.words());
+        assert_eq!(number, row[0], "what is returned is the row's first word");
+        row
+    }
+
+    /// The answer of a call that is one function.
+    fn answer(&mut self, op: Op) -> Answer {
+        let number = self.make(op);
+        let row = self.told(number);
+        answer(op, row).unwrap_or_else(|| panic!("no answer to {op:?} has the row {row:?}"))
+    }
+
+    /// The bucket at a place of the read-out, none past the newest, or the refusal.
+    fn bucket(&mut self, kind: Kind, at: usize) -> Result<Option<Bucket>, u64> {
+        let (key, length) = (self.key.as_ptr(), self.key.len());
+        self.row.words().fill(GUARD);
+        let number = match kind {
+            Kind::Absolute => ask!(self.absolute, frostaxle_absolute_bucket, key, length, at),
+            Kind::Suppressed => ask!(self.suppressed, frostaxle_suppressed_bucket, key, length, at),
+        };
+        match self.told(number) {
+            [0, 1, count, declined, time] => Ok(Some(Bucket { count, declined, time })),
+            [0, 2, 0, 0, 0] => Ok(None),
+            [number, 0, 0, 0, 0] => Err(number),
+            row => panic!("no bucket of a read-out has the row {row:?}"),
+        }
+    }
+
+    /// How many buckets a read-out has. The row is filled from the oldest on until there is none or it is full; where the others
+    /// end is found by halving.
+    fn fill(&mut self, kind: Kind, row: &mut Row) -> Result<usize, u64> {
+        let mut held = 0;
+        for place in row {
+            let Some(bucket) = self.bucket(kind, held)? else {
+                return Ok(held);
+            };
+            *place = bucket;
+            held += 1;
+        }
+        let mut end = MOST_BUCKETS;
+        while held < end {
+            let middle = (held + end) / 2;
+            match self.bucket(kind, middle)? {
+                Some(_) => held = middle + 1,
+                None => end = middle,
+            }
+        }
+        Ok(held)
+    }
+
+    /// The read-out. From its end on there is no bucket, and a refusal is the same at every place.
+    fn read_out(&mut self, kind: Kind, row: &mut Row) -> Answer {
+        let (answer, end, wanted) = match self.fill(kind, row) {
+            Ok(held) => (Answer::Buckets(held as u64), held, Ok(None)),
+            Err(number) => (Answer::Refused(number), 0, Err(number)),
+        };
+        for at in [end, end + 1, MOST_BUCKETS, 1 << 63, usize::MAX] {
+            let told = self.bucket(kind, at);
+            assert!(told == wanted, "{answer:?}, and place {at} has {told:?}");
+        }
+        answer
     }
 }
 
@@ -331,27 +417,6 @@ fn answer(op: Op, row: [u64; ROW]) -> Option<Answer> {
     })
 }
 
-/// The row that a set by these numbers leaves, which may name nothing.
-pub fn odd_set(
-    kind: Kind,
-    settings: &Settings,
-    room: &mut [u64],
-    comparator: u64,
-    preservation: Option<u64>,
-) -> [u64; ROW] {
-    let mut face = Face::new(settings, 0, b"a", room, room);
-    face.set(kind, SetNumbers { rate: 1.0, count: 1, comparator, operand: 0, preservation });
-    let (lent, unused) = match kind {
-        Kind::Absolute => (face.absolute, face.suppressed),
-        Kind::Suppressed => (face.suppressed, face.absolute),
-    };
-    drop(unused);
-    lent.give_back(room);
-    let mut row = [0; ROW];
-    face.row.give_back(&mut row);
-    row
-}
-
 /// The Rattle code.
 pub struct Rattle;
 
@@ -360,26 +425,23 @@ impl Limiters for Rattle {
         "the Rattle code"
     }
 
-    fn offers(&self, op: &Op) -> bool {
-        !matches!(op, Op::ReadOut { .. })
-    }
-
     fn call(
         &self,
         settings: &Settings,
         rooms: &mut Rooms,
         reading: u64,
         call: Call,
-        _row: &mut Row,
+        row: &mut Row,
     ) -> Answer {
         let mut face = Face::new(settings, reading, call.key, &rooms.absolute, &rooms.suppressed);
-        let number = face.make(call.op);
-        let mut row = [0; ROW];
+        let answer = match call.op {
+            Op::ReadOut { kind } => face.read_out(kind, row),
+            op => face.answer(op),
+        };
         let Face { absolute, suppressed, row: told, .. } = face;
         absolute.give_back(&mut rooms.absolute);
         suppressed.give_back(&mut rooms.suppressed);
-        told.give_back(&mut row);
-        assert_eq!(number, row[0], "what is returned is the row's first word");
-        answer(call.op, row).unwrap_or_else(|| panic!("no answer to {call:?} has the row {row:?}"))
+        told.give_back(&mut [0; ROW]);
+        answer
     }
 }

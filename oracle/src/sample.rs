@@ -78,7 +78,7 @@ fn numbers(op: Op) -> Option<Numbers> {
         Op::Set { kind, wanted } => set_numbers(kind, wanted),
         Op::Cleanup { kind, stale } => Numbers { stale, ..plain(in_room(kind, 8)) },
         Op::CleanupBoth { stale } => Numbers { stale, ..plain(9) },
-        Op::ReadOut { .. } => return None,
+        Op::ReadOut { .. } | Op::NamelessSet { .. } => return None,
     })
 }
 

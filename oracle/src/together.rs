@@ -1,12 +1,13 @@
-//! Refusals met together: every set of 1 to 13 on every call. The lowest that the call can meet must be given.
+//! Refusals met together: every set of 1 to 13 on every call. The lowest that the call can meet must be given; a set whose numbers name
+//! nothing meets 14 besides.
 
-use twin::calls::{Call, Op, Rooms};
+use twin::calls::{Call, Nameless, Op, Rooms};
 use twin::room::empty_room;
 use twin::rules::{Comparator, Kind, Mode, Settings};
 use twin::set::Wanted;
 
 use crate::expected::{has_key, kind};
-use crate::random::{Dice, bad_rate};
+use crate::random::{Dice, bad_rate, nameless};
 use crate::trial::Trials;
 
 const TOP: u64 = 1 << 53;
@@ -19,6 +20,9 @@ const TIMES: u64 = 3;
 const SETTINGS: Settings =
     Settings { window: 10, bucket: 100, cache: 100, factor: (1u64 << 60) as f64 };
 const RATE: f64 = 0.0625;
+
+/// Stands in the form of a call, each of which draws its own.
+const NAMELESS: Nameless = Nameless { comparator: 5, preservation: None };
 
 /// A set of refusals.
 #[derive(Clone, Copy)]
@@ -54,6 +58,7 @@ fn calls() -> Vec<Op> {
             Op::Clear { kind },
             Op::Cleanup { kind, stale: 500 },
             Op::ReadOut { kind },
+            Op::NamelessSet { kind, rate: RATE, count: 2, nameless: NAMELESS },
         ]);
         for mode in [Mode::Replace, Mode::PreserveNewest, Mode::PreserveOldest] {
             let wanted = Wanted { rate: RATE, comparator: Comparator::Always, count: 2, mode };
@@ -104,6 +109,10 @@ fn with_faults(dice: &mut Dice, op: Op, faults: Faults) -> Op {
             let (rate, count) = (rate_of(wanted.rate), count_of(wanted.count));
             Op::Set { kind, wanted: Wanted { rate, count, ..wanted } }
         }
+        Op::NamelessSet { kind, rate, count, .. } => {
+            let (rate, count) = (rate_of(rate), count_of(count));
+            Op::NamelessSet { kind, rate, count, nameless: nameless(dice) }
+        }
         op => op,
     }
 }
@@ -144,15 +153,16 @@ fn spoil(dice: &mut Dice, room: &mut Vec<u64>, unfit: Unfit) {
 fn meets(op: &Op, faults: Faults, number: u64, unfit: Unfit) -> bool {
     use Op::*;
     let is_inc = matches!(op, AbsoluteInc { .. } | SuppressedInc { .. });
+    let is_nameless = matches!(op, NamelessSet { .. });
     let is_set = matches!(op, Set { .. });
     let is_named = has_key(op) && !faults.has(7) && !faults.has(11);
     match number {
         5 if unfit == Unfit::Slot => !matches!(op, Clear { .. }) && (is_named || !has_key(op)),
         6 => !matches!(op, ReadOut { .. }),
         7 => has_key(op),
-        8 => is_inc || is_set || matches!(op, SetRateLimit { .. }),
+        8 => is_inc || is_set || is_nameless || matches!(op, SetRateLimit { .. }),
         9 => matches!(op, SuppressedInc { .. }),
-        10 => is_inc || is_set,
+        10 => is_inc || is_set || is_nameless,
         11 => is_inc || is_set || matches!(op, GetSuppressionFactor),
         12 => is_inc && is_named,
         13 => is_named && matches!(op, SuppressedInc { .. } | SuppressedGet | GetSuppressionFactor),
@@ -189,9 +199,10 @@ fn one(trials: &mut Trials, dice: &mut Dice, op: Op, faults: Faults) {
         _ => b"a",
     };
     let op = with_faults(dice, op, faults);
+    let last = if matches!(op, Op::NamelessSet { .. }) { 14 } else { 0 };
     let lowest = (1..14)
         .find(|number| faults.has(*number) && meets(&op, faults, *number, unfit))
-        .unwrap_or(0);
+        .unwrap_or(last);
     let told = trials.put(&settings(dice, faults), &mut rooms, reading, Call { key, op });
     if told != lowest {
         trials.differed += 1;

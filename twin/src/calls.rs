@@ -24,9 +24,17 @@ pub enum Op {
     Delete { kind: Kind },
     Clear { kind: Kind },
     Set { kind: Kind, wanted: Wanted },
+    NamelessSet { kind: Kind, rate: f64, count: u64, nameless: Nameless },
     Cleanup { kind: Kind, stale: u64 },
     CleanupBoth { stale: u64 },
     ReadOut { kind: Kind },
+}
+
+/// A set's comparator and, unless it replaces, its preservation as the numbers of the C face, of which one at least names nothing.
+#[derive(Clone, Copy, Debug)]
+pub struct Nameless {
+    pub comparator: u64,
+    pub preservation: Option<u64>,
 }
 
 /// An answer, doubles as their bits.
@@ -92,11 +100,6 @@ pub type Row = Vec<Bucket>;
 /// The twin is one; an archive with C faces becomes another by forwarding each call.
 pub trait Limiters {
     fn name(&self) -> &'static str;
-
-    /// Whether it has this call: an archive's C face may lack one.
-    fn offers(&self, _op: &Op) -> bool {
-        true
-    }
 
     fn call(
         &self,
@@ -177,6 +180,9 @@ impl Limiters for Twin {
             Op::Clear { kind } => told(shared::clear(settings, rooms.of_mut(kind), t)),
             Op::Set { kind, wanted } => {
                 told(set::set(kind, settings, rooms.of_mut(kind), t, key, wanted))
+            }
+            Op::NamelessSet { kind, rate, count, .. } => {
+                told(set::nameless(kind, settings, rooms.of(kind), t, key, rate, count))
             }
             Op::Cleanup { kind, stale } => {
                 told(shared::cleanup(kind, settings, rooms.of_mut(kind), t, stale))

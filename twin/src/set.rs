@@ -45,6 +45,36 @@ impl Wanted {
     }
 }
 
+/// The key's slot, once all is judged that a set is refused for before its comparator is looked at: 1 to 8 and 10.
+fn judge_set(
+    kind: Kind,
+    settings: &Settings,
+    room: &[u64],
+    reading: u64,
+    key: &[u8],
+    rate: f64,
+    count: u64,
+) -> Result<Found, Refusal> {
+    let found = judge(kind, settings, room, reading, key)?;
+    judge_rate(rate)?;
+    refuse_if(count > TOP, 10)?;
+    Ok(found)
+}
+
+/// A set whose comparator or preservation names nothing meets 14, after all that is judged without them.
+pub fn nameless(
+    kind: Kind,
+    settings: &Settings,
+    room: &[u64],
+    reading: u64,
+    key: &[u8],
+    rate: f64,
+    count: u64,
+) -> Result<SetOutcome, Refusal> {
+    judge_set(kind, settings, room, reading, key, rate, count)?;
+    Err(Refusal(14))
+}
+
 /// A set with mode Replace is `set_if`, with another `set_if_preserve_history`.
 pub fn set(
     kind: Kind,
@@ -54,9 +84,8 @@ pub fn set(
     key: &[u8],
     wanted: Wanted,
 ) -> Result<SetOutcome, Refusal> {
-    let found = judge(kind, settings, room, reading, key)?;
-    judge_rate(wanted.rate)?;
-    refuse_if(wanted.count > TOP, 10)?;
+    let Wanted { rate, count, .. } = wanted;
+    let found = judge_set(kind, settings, room, reading, key, rate, count)?;
     let limit = settings.limit(kind, wanted.rate);
     let known = found.series(room).map(|at| slot(room, at));
     let live = known.map_or(0, |slot| slot.total() - found.expired.count);
