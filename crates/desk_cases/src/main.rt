@@ -1,4 +1,5 @@
-// `desk` on inputs that a file has each, the lessons' among them: after a heading, what it prints for it.
+// `desk` on inputs that a file has each, the lessons' among them: after a heading, what it prints for it. `many-lines` (many-lines.awk printed it) has
+// answers for five times what `desk` writes at once, and lines that the blocks cut.
 use libc::STDOUT_FILENO;
 
 fn run(name: &[u8]) {
@@ -27,6 +28,7 @@ fn main() {
     run(b"largest-settings");
     run(b"bad-lines");
     run(b"long-lines");
+    run(b"many-lines");
     run(b"two-rooms");
     run(b"nine-keys");
     run(b"full-ring");

@@ -90,6 +90,13 @@ finishAs false w = ending w
 unfoldable pub finishing : ℕ → Whole → Effect
 finishing l w = finishAs (ltb l roomy || isOver (w .desk)) w
 
+-- a whole run: the input's bytes and then its end
+abbrev pub finished : ℕ → Whole → After
+finished l w = afterLine (finishing l w) (w .hold)
+
+abbrev pub running : ℕ → Whole → List ℕ → After
+running l w xs = andThen (feed w xs) (finished l (feed w xs .whole))
+
 -- "and ends"
 abbrev pub endedIn : Phase → Bool
 endedIn Waiting = false

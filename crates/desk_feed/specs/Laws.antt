@@ -64,16 +64,23 @@ rooms-made a b x y z a′ b′ p q e =
 
 -- ---- a block
 
+-- it does not matter where the blocks are cut
+pub feed-blocks : (w : Whole) (xs ys : List ℕ) → feed w (xs ++ ys) ≡ andThen (feed w xs) (feed (feed w xs .whole) ys)
+unfolding feed
+feed-blocks w [] ys = refl
+feed-blocks w (x ∷ xs) ys =
+    ap (andThen (byte w x)) (feed-blocks (byte w x .whole) xs ys) ∙
+    (λ i. record {
+      whole = feed (feed (byte w x .whole) xs .whole) ys .whole;
+      prints = sym (append-assoc (byte w x .prints) (feed (byte w x .whole) xs .prints) (feed (feed (byte w x .whole) xs .whole) ys .prints)) i;
+    })
+
 -- the last byte
 feed-snoc : (w : Whole) (xs : List ℕ) (b : ℕ) → feed w (xs ++ (b ∷ [])) ≡ andThen (feed w xs) (byte (feed w xs .whole) b)
 unfolding feed
-feed-snoc w [] b = λ i. record { whole = byte w b .whole; prints = append-nil (byte w b .prints) i }
-feed-snoc w (x ∷ xs) b =
-    ap (andThen (byte w x)) (feed-snoc (byte w x .whole) xs b) ∙
-    (λ i. record {
-      whole = byte (feed (byte w x .whole) xs .whole) b .whole;
-      prints = sym (append-assoc (byte w x .prints) (feed (byte w x .whole) xs .prints) (byte (feed (byte w x .whole) xs .whole) b .prints)) i;
-    })
+feed-snoc w xs b =
+    feed-blocks w xs (b ∷ []) ∙
+    (λ i. record { whole = byte (feed w xs .whole) b .whole; prints = feed w xs .prints ++ append-nil (byte (feed w xs .whole) b .prints) i })
 
 -- where the loop stands: i bytes of the block are taken, p bytes are put
 pub record Stands (w₀ : Whole) (block old : List ℕ) (w : Whole) (new : List ℕ) (i p : ℕ) : Type 0 where
@@ -154,6 +161,16 @@ takes-inside l w p (x ∷ xs) = go (ltb l (p + roomy)) (takes-inside l (byte w x
 
 pub feeding-inside : (w : Whole) (block old : List ℕ) (r : Progress) (a b h new : List ℕ) → Feeding w block old r a b h new → r .taken ≤ length block
 feeding-inside w block old r a b h new f = let t = takes-inside (length old) w 0 block in omega (arith, f .taken)
+
+-- and at least a byte of what there is, where out has room for a line: so a block goes in whole, part after part
+takes-some : (l : ℕ) (w : Whole) (xs : List ℕ) → roomy ≤ l → 0 < length xs → 0 < takes l w 0 xs
+unfolding takes
+takes-some l w [] h k = absurd (omega arith)
+takes-some l w (x ∷ xs) h k = rw (le-ltb l roomy h) (omega arith)
+
+pub progress : (w : Whole) (block old : List ℕ) (r : Progress) (a b h new : List ℕ) → Feeding w block old r a b h new → roomy ≤ length old → 0 < length block →
+    0 < r .taken
+progress w block old r a b h new f o k = let t = takes-some (length old) w block o k in omega (arith, f .taken)
 
 -- nor put than there is room
 pub put-inside : (old xs new : List ℕ) (n : ℕ) → Put old 0 xs new n → n ≤ length new

@@ -13,7 +13,7 @@ use lib.Seq.{length-take-le, take-all, take-nil, take-suc-set, take-append-le, s
 use lib.Dec.{ltb, eqb}
 use borrow.Author.Tests.{lt-ltb, le-ltb, eq-eqb, ne-eqb}
 use Rattle.settings.specs.declared.Settings.{Settings}
-use Rattle.room.specs.Room.{fits}
+use Rattle.room.specs.Room.{empty}
 use Rattle.fields.specs.Numbers.{show-short}
 use Rattle.lines.specs.Shown.{opText, showCall, showSettings, CallFits, SettingsFit}
 use Rattle.lines.specs.Laws.{keyIn, CallRead, SettingsRead, call-read, settings-read}
@@ -31,7 +31,7 @@ use Rattle.desk_step.specs.declared.Opening.{Opening}
 use Rattle.desk_step.specs.declared.Opening.the-variants as opening
 use Rattle.desk_turn.specs.declared.Phase.{Phase}
 use Rattle.desk_turn.specs.declared.Phase.the-variants.{Waiting, Open, Ended}
-use Rattle.desk_feed.specs.Feed.{Whole, whole, fresh, After, afterLine, byteAs, byte, andThen, feed, isOver, finishing}
+use Rattle.desk_feed.specs.Feed.{Whole, whole, fresh, After, afterLine, byteAs, byte, feed, isOver, finishing, running}
 use Rattle.desk_turn.specs.Lines.{newline, roomy, shown, Effect, phaseIn, printsIn, turn}
 
 -- ---- the definition
@@ -168,7 +168,7 @@ desk p n a b h = whole (record { phase = p; held = n }) a b h
 
 -- everything that is printed from w on: l bytes may be put at the end
 abbrev pub runOut : Whole → List ℕ → ℕ → List ℕ
-runOut w xs l = feed w xs .prints ++ finishing l (feed w xs .whole) .prints
+runOut w xs l = running l w xs .prints
 
 abbrev runFrom : After → List ℕ → ℕ → List ℕ
 runFrom f xs l = (f .prints ++ feed (f .whole) xs .prints) ++ finishing l (feed (f .whole) xs .whole) .prints
@@ -295,21 +295,11 @@ first-run (x ∷ xs) = first-step x xs (first-run xs)
 pub desk-whole : (a b h xs : List ℕ) (l : ℕ) → longestRead < length h → roomy ≤ l → runOut (whole fresh a b h) xs l ≡ turns Waiting a b (inputLines [] xs)
 desk-whole a b h xs l g m = first-run xs a b h [] 0 l g m (holds-none h)
 
--- the words that the program lends for a room are as many as 8 slots with rings of 128 need
-pub desk-fits : fits 8 128 3179 ≡ true
-unfolding fits
-desk-fits = refl
-
--- and it does not matter where the blocks are cut
-pub feed-blocks : (w : Whole) (xs ys : List ℕ) → feed w (xs ++ ys) ≡ andThen (feed w xs) (feed (feed w xs .whole) ys)
-unfolding feed
-feed-blocks w [] ys = refl
-feed-blocks w (x ∷ xs) ys =
-    ap (andThen (byte w x)) (feed-blocks (byte w x .whole) xs ys) ∙
-    (λ i. record {
-      whole = feed (feed (byte w x .whole) xs .whole) ys .whole;
-      prints = sym (append-assoc (byte w x .prints) (feed (byte w x .whole) xs .prints) (feed (feed (byte w x .whole) xs .whole) ys .prints)) i;
-    })
+-- so at the rooms that the program makes, what its run prints is what the input's lines print, for every input: rooms of 8 slots with rings of 128, 200 bytes
+-- to hold a line and 65,536 to put lines (`desk_run`'s contracts speak of this run)
+pub desk-prints : (h xs : List ℕ) → length h ≡ 200 → running 65536 (whole fresh (empty 8 128) (empty 8 128) h) xs .prints ≡
+    turns Waiting (empty 8 128) (empty 8 128) (inputLines [] xs)
+desk-prints h xs e = desk-whole (empty 8 128) (empty 8 128) h xs 65536 (omega arith) (omega arith)
 
 -- ---- bad lines
 

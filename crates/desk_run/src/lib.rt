@@ -1,17 +1,63 @@
-// Reads a desk's input and writes its answers. What is printed is decided in `desk_feed`; here it only goes in and out.
-ghost use Prim.Native.Nat.{_≤_};
+// Reads a desk's input and writes its answers, and says where either fails. What is printed is decided in `desk_feed`; here it goes in and out, all of it
+// once. How many bytes went each way is counted, since no contract can say which.
+ghost use mathlib.Core.Path.{_≡_};
+ghost use Prim.Native.Nat.{_+_, _≤_};
 ghost use lib.ListN.{length};
+ghost use Rattle.room.specs.Room.{empty};
+ghost use Rattle.desk_turn.specs.Lines.{roomy};
+ghost use Rattle.desk_feed.specs.Feed.{whole, fresh, finished};
+ghost use Rattle.desk_run.specs.Run.{capped, heardOf, Pumping, Leaves, Closing, Serves};
 use desk_feed::Desk;
+use libc::STDERR_FILENO;
 use libc::STDOUT_FILENO;
 
-// The first `n` bytes of `out` go out.
-fn write_put(out: &[u8], n: usize) -> bool
-    requires { ⌜ n ≤ length (now out) ⌝ }
+// The words of a room of 8 slots with rings of 128.
+const ROOM: usize = 3179;
+
+// The bytes that are held of a line that a block cuts: more than any line has that is not bad.
+const HOLD: usize = 200;
+
+// The bytes that are read, and written, at a time.
+const BLOCK: usize = 65536;
+
+// A count with n more, or the largest number.
+fn more(count: u64, n: usize) -> u64
+    ensures { λ r. ⌜ r ≡ capped (count + n) ⌝ }
 {
-    io::write_all(STDOUT_FILENO, &out[..n])
+    if u64::MAX - count < n as u64 {
+        return u64::MAX;
+    }
+    count + n as u64
 }
 
-// Takes a block whole, and writes what it prints as often as `out` is full.
+// Whether a write was fine, and how many bytes were written with it.
+struct Sent {
+    fine: bool,
+    put: u64,
+}
+
+// The first `n` bytes of `out` go out.
+fn write_put(out: &[u8], n: usize, put: u64) -> Sent
+    requires { ⌜ n ≤ length (now out) ⌝ }
+    ensures { λ r. ⌜ r .put ≡ capped (put + n) ⌝ }
+{
+    let part = &out[..n];
+    let fine = io::write_all(STDOUT_FILENO, part);
+    Sent {
+        fine,
+        put: more(put, part.len()),
+    }
+}
+
+// The desk after a block, how many of its bytes were taken, how many bytes were written, and whether every write was fine.
+struct Pumped {
+    desk: Desk,
+    taken: usize,
+    put: u64,
+    fine: bool,
+}
+
+// Takes a block whole, and writes what it prints as often as `out` is full; or stops at a write that fails.
 fn pump(
     desk: Desk,
     absolute: &mut [u64],
@@ -19,75 +65,220 @@ fn pump(
     hold: &mut [u8],
     block: &[u8],
     out: &mut [u8],
-) -> Desk {
+    put: u64,
+) -> Pumped
+    requires { ⌜ roomy ≤ length (now out) ⌝ }
+    ensures { λ r. ⌜ Pumping (whole desk (now (absolute .entry)) (now (suppressed .entry)) (now (hold .entry))) (now (block .entry)) put r
+        (now (absolute .exit)) (now (suppressed .exit)) (now (hold .exit)) ⌝ }
+{
     let mut state = desk;
     let mut at = 0;
+    let mut sent = Sent { fine: true, put };
     while at < block.len() {
         let progress = desk_feed::feed(state, absolute, suppressed, hold, &block[at..], out);
-        let taken = progress.taken;
-        write_put(out, progress.put);
         state = progress.desk;
-        if taken == 0 {
-            return state;
+        at += progress.taken;
+        sent = write_put(out, progress.put, sent.put);
+        if !sent.fine {
+            return Pumped {
+                desk: state,
+                taken: at,
+                put: sent.put,
+                fine: false,
+            };
         }
-        at += taken;
     }
-    state
+    Pumped {
+        desk: state,
+        taken: at,
+        put: sent.put,
+        fine: true,
+    }
 }
 
 // The end of the input.
-fn end(desk: Desk, absolute: &mut [u64], suppressed: &mut [u64], hold: &[u8], out: &mut [u8]) {
+fn end(
+    desk: Desk,
+    absolute: &mut [u64],
+    suppressed: &mut [u64],
+    hold: &[u8],
+    out: &mut [u8],
+    put: u64,
+) -> Sent
+    ensures { λ r. ⌜ Leaves (finished (length (now (out .entry))) (whole desk (now (absolute .entry)) (now (suppressed .entry)) (now (hold .entry)))) put
+        (r .put) (now (absolute .exit)) (now (suppressed .exit)) ⌝ }
+{
     let turn = desk_feed::finish(desk, absolute, suppressed, hold, out);
-    write_put(out, turn.next);
+    write_put(out, turn.next, put)
+}
+
+// What a read gave: it failed, it gave nothing since the input has ended, or it gave bytes.
+enum Heard {
+    Failed,
+    Nothing,
+    Bytes(usize),
+}
+
+// What the answer of a read into `block` says.
+fn hear(got: isize, block: &[u8]) -> Heard
+    ensures { λ r. ⌜ r ≡ heardOf got (length (now (block .entry))) ⌝ }
+{
+    if got < 0 {
+        return Heard::Failed;
+    }
+    let n = io::count(got, block);
+    if n == 0 {
+        return Heard::Nothing;
+    }
+    Heard::Bytes(n)
+}
+
+// How a run ends: all was read and written, a read failed, a write failed, or there was more to read than can be counted.
+enum Ending {
+    Done,
+    Unread,
+    Unwritten,
+    Endless,
+}
+
+// With what the last read gave, and how many bytes were read and written.
+struct Served {
+    ending: Ending,
+    last: Heard,
+    read: u64,
+    put: u64,
+}
+
+// After a read that gave no bytes: a read that failed is not the end of the input.
+fn close(
+    desk: Desk,
+    absolute: &mut [u64],
+    suppressed: &mut [u64],
+    hold: &[u8],
+    out: &mut [u8],
+    last: Heard,
+    read: u64,
+    put: u64,
+) -> Served
+    ensures { λ r. ⌜ Closing (length (now (out .entry))) (whole desk (now (absolute .entry)) (now (suppressed .entry)) (now (hold .entry))) last read put r
+        (now (absolute .exit)) (now (suppressed .exit)) ⌝ }
+{
+    if let Heard::Failed = last {
+        return Served {
+            ending: Ending::Unread,
+            last,
+            read,
+            put,
+        };
+    }
+    let sent = end(desk, absolute, suppressed, hold, out, put);
+    if !sent.fine {
+        return Served {
+            ending: Ending::Unwritten,
+            last,
+            read,
+            put: sent.put,
+        };
+    }
+    Served {
+        ending: Ending::Done,
+        last,
+        read,
+        put: sent.put,
+    }
 }
 
 // All answers to what was read are written before the next read.
 fn serve(
     from: i32,
-    absolute: &mut [u64],
-    suppressed: &mut [u64],
-    hold: &mut [u8],
+    absolute: &mut [u64; ROOM],
+    suppressed: &mut [u64; ROOM],
+    hold: &mut [u8; HOLD],
     block: &mut [u8],
-    out: &mut [u8],
-) {
+    out: &mut [u8; BLOCK],
+) -> Served
+    ensures { λ r. ⌜ Serves 65536 (whole fresh (now (absolute .entry)) (now (suppressed .entry)) (now (hold .entry))) r
+        (now (absolute .exit)) (now (suppressed .exit)) (now (hold .exit)) ⌝ }
+{
     let mut desk = desk_feed::start();
-    let mut turns = u64::MAX;
-    while turns > 0 {
+    let mut read = 0;
+    let mut put = 0;
+    let mut last = Heard::Nothing;
+    while read < u64::MAX {
         let got = libc::read(from, block);
-        let n = io::count(got, block);
-        if n == 0 {
-            end(desk, absolute, suppressed, hold, out);
-            return;
+        last = hear(got, block);
+        let Heard::Bytes(n) = last else {
+            return close(desk, absolute, suppressed, hold, out, last, read, put);
+        };
+        let pumped = pump(desk, absolute, suppressed, hold, &block[..n], out, put);
+        desk = pumped.desk;
+        put = pumped.put;
+        read = more(read, n);
+        if !pumped.fine {
+            return Served {
+                ending: Ending::Unwritten,
+                last,
+                read,
+                put,
+            };
         }
-        desk = pump(desk, absolute, suppressed, hold, &block[..n], out);
         if desk_feed::has_ended(desk) {
-            return;
+            return Served {
+                ending: Ending::Done,
+                last,
+                read,
+                put,
+            };
         }
-        turns -= 1;
+    }
+    Served {
+        ending: Ending::Endless,
+        last,
+        read,
+        put,
     }
 }
 
 // With the two rooms made anew.
 fn open_desk(
     from: i32,
-    absolute: &mut [u64],
-    suppressed: &mut [u64],
-    hold: &mut [u8],
+    absolute: &mut [u64; ROOM],
+    suppressed: &mut [u64; ROOM],
+    hold: &mut [u8; HOLD],
     block: &mut [u8],
-    out: &mut [u8],
-) {
+    out: &mut [u8; BLOCK],
+) -> Served
+    ensures { λ r. ⌜ Serves 65536 (whole fresh (empty 8 128) (empty 8 128) (now (hold .entry))) r
+        (now (absolute .exit)) (now (suppressed .exit)) (now (hold .exit)) ⌝ }
+{
     desk_feed::make_rooms(absolute, suppressed);
-    serve(from, absolute, suppressed, hold, block, out);
+    serve(from, absolute, suppressed, hold, block, out)
 }
 
-// The desk from a descriptor to standard output. `hold` keeps a line that a block cuts; it is longer than any line that is not bad.
+// Says what failed.
+fn report(ending: Ending) {
+    match ending {
+        Ending::Done => {}
+        Ending::Unread => {
+            os::fail(b"desk: cannot read");
+        }
+        Ending::Unwritten => {
+            os::fail(b"desk: cannot write");
+        }
+        Ending::Endless => {
+            io::write_all(STDERR_FILENO, b"desk: cannot read: too much input\n");
+        }
+    }
+}
+
+// The desk from a descriptor to standard output. What fails is said on standard error, and ends the run.
 pub fn run(from: i32) {
-    let mut absolute = [0u64; 3179];
-    let mut suppressed = [0u64; 3179];
-    let mut hold = [0u8; 200];
-    let mut block = [0u8; 65536];
-    let mut out = [0u8; 65536];
-    open_desk(
+    let mut absolute = [0u64; ROOM];
+    let mut suppressed = [0u64; ROOM];
+    let mut hold = [0u8; HOLD];
+    let mut block = [0u8; BLOCK];
+    let mut out = [0u8; BLOCK];
+    let served = open_desk(
         from,
         &mut absolute,
         &mut suppressed,
@@ -95,4 +286,6 @@ pub fn run(from: i32) {
         &mut block,
         &mut out,
     );
+    let ending = served.ending;
+    report(ending);
 }

@@ -1,5 +1,6 @@
--- No more was put than there is room.
+-- No more was put than there is room, and all of it goes out.
 -- Assumes nothing.
+use native.Mathlib.Omega.{arith}
 use Rattle.desk_feed.specs.Laws.{put-inside}
 use borrow.Author.Needs.{needs}
 use Rattle.desk_run.proofs.end.Statement.{statement}
@@ -21,7 +22,9 @@ same-length-3 : tie.Need-same-length-3
 same-length-3 c = search needs
 
 returns : tie.Need-returns
-returns c = search needs
+returns c =
+    let f = c .before .before .before .before .before .before .before .before .finish .ensures in
+    record { absolute = f .absolute; suppressed = f .suppressed; counted = omega (arith, c .write-put .ensures, f .put .past) }
 
 pub end-spec : {M : Type 1} → statement M
 end-spec =
