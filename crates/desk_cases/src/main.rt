@@ -38,4 +38,14 @@ fn main() {
     run(b"lesson-1");
     run(b"lesson-2");
     run(b"lesson-3");
+    run(b"lesson-3-hundred");
+    run(b"lesson-1-question-1");
+    run(b"lesson-1-question-2");
+    run(b"lesson-1-question-3");
+    run(b"lesson-2-question-1");
+    run(b"lesson-2-question-2");
+    run(b"lesson-2-question-3");
+    run(b"lesson-3-question-1");
+    run(b"lesson-3-question-2");
+    run(b"lesson-3-question-3");
 }
