@@ -27,7 +27,24 @@ use Rattle.desk_run.specs.declared.Heard.{Heard}
 use Rattle.desk_run.specs.declared.Heard.the-variants.{Failed, Nothing, Bytes}
 use Rattle.desk_run.specs.declared.Ending.{Ending}
 use Rattle.desk_run.specs.declared.Ending.the-variants.{Done, Unread, Unwritten, Endless}
-use Rattle.desk_run.specs.Run.{capped, most, heardIn, heardOf, isFailed, isBytes, isNothing, Reached, Pumping, Leaves, Closes, Closing, Standing, Ran, EndsAs, Serves}
+use Rattle.desk_run.specs.Run.{
+  capped,
+  most,
+  heardIn,
+  heardOf,
+  isFailed,
+  isBytes,
+  isNothing,
+  Reached,
+  Pumping,
+  Leaves,
+  Closes,
+  Closing,
+  Standing,
+  Ran,
+  EndsAs,
+  Serves,
+}
 
 -- ---- bytes after bytes
 

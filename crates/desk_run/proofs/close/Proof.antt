@@ -59,7 +59,9 @@ same-length-6 c = search needs
 
 returns-3 : tie.Need-returns-3
 returns-3 c =
-    record { answer = refl; counted = refl; ends = (not-failed (c .before .before .before .before .before .before .before .before .before .before .before .before .before .before .before .before .before .args .last) (c .before .before .before .before .before .before .before .before .before .before .before .before .match .keys2), c .before .before .before .before .before .before .before .before .end .ensures) }
+    let e = c .before .before .before .before .before .before .before .before in
+    let m = e .before .before .before .before in
+    record { answer = refl; counted = refl; ends = (not-failed (m .before .before .before .before .before .args .last) (m .match .keys2), e .end .ensures) }
 
 pub close-spec : {M : Type 1} → statement M
 close-spec =

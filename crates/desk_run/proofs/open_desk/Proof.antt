@@ -20,7 +20,8 @@ returns c =
     let m = c .before .before .before .before .before .before .before .before .make-rooms in
     let v = c .before .before .serve in
     serves-new 65536 (a .absolute .now) (a .suppressed .now) (m .result) (m .last .0) (m .last .1 .0) (a .hold .now) (v .result) (v .last .1 .0)
-    (v .last .1 .1 .0) (v .last .1 .1 .1 .0) (c .before .before .before .before .before .before .before .before .before .before .make-rooms-arg .given .0 .1) (c .before .before .before .before .before .before .before .before .before .make-rooms-arg2 .given .0 .1) (m .ensures) (v .ensures)
+    (v .last .1 .1 .0) (v .last .1 .1 .1 .0) (c .before .before .before .before .before .before .before .before .before .before .make-rooms-arg .given .0
+    .1) (c .before .before .before .before .before .before .before .before .before .make-rooms-arg2 .given .0 .1) (m .ensures) (v .ensures)
 
 pub open-desk-spec : {M : Type 1} → statement M
 open-desk-spec = tie.close (tie.spec make-rooms-requires serve-requires same-length returns)

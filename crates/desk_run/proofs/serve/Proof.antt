@@ -54,18 +54,22 @@ close-requires : tie.Need-close-requires Inv-loop μ-loop
 close-requires c κs = search needs
 
 same-length : tie.Need-same-length Inv-loop μ-loop
-same-length c = c .before .before .before .before .before .before .before .before .before .before .before .read .kept .1 .0 ∙ c .before .before .before .before .before .before .before .before .before .before .before .before .before .before .loop .inv .0
+same-length c = c .before .before .before .before .before .before .before .before .before .before .before .read .kept .1 .0 ∙ c .before .before .before
+    .before .before .before .before .before .before .before .before .before .before .before .loop .inv .0
 
 returns : tie.Need-returns Inv-loop μ-loop
 returns c =
     let k = c .before .before .before .before .before .before .before .before .before .before .before .before .before .before .loop in
-    ends-closed _ _ _ (k .inv .1) _ _ _ _ _ _ _ _ _ _ (search needs) (k .inv .2) (not-bytes (c .before .before .before .before .before .before .before .hear .result) (c .before .before .before .before .before .before .match .keys2)) (c .close .ensures)
+    ends-closed _ _ _ (k .inv .1) _ _ _ _ _ _ _ _ _ _ (search needs) (k .inv .2) (not-bytes (c .before .before .before .before .before .before .before
+    .hear .result) (c .before .before .before .before .before .before .match .keys2)) (c .close .ensures)
 
 slice-reshare-prefix-pump : tie.Need-slice-reshare-prefix-pump Inv-loop μ-loop
-slice-reshare-prefix-pump c = bytes-inside _ _ _ (sym (c .before .before .before .before .last .given .1) ∙ c .before .before .before .before .before .before .hear .ensures) .1
+slice-reshare-prefix-pump c = bytes-inside _ _ _ (sym (c .before .before .before .before .last .given .1) ∙ c .before .before .before .before .before
+    .before .hear .ensures) .1
 
 slice-aggregate-pump : tie.Need-slice-aggregate-pump Inv-loop μ-loop
-slice-aggregate-pump c = sym (length-take-le _ _ (bytes-inside _ _ _ (sym (c .before .before .before .before .before .last .given .1) ∙ c .before .before .before .before .before .before .before .hear .ensures) .1))
+slice-aggregate-pump c = sym (length-take-le _ _ (bytes-inside _ _ _ (sym (c .before .before .before .before .before .last .given .1) ∙ c .before .before
+    .before .before .before .before .before .hear .ensures) .1))
 
 pump-requires : tie.Need-pump-requires Inv-loop μ-loop
 pump-requires c κs = search needs
@@ -74,7 +78,9 @@ more-requires : tie.Need-more-requires Inv-loop μ-loop
 more-requires c κs = search needs
 
 same-length-2 : tie.Need-same-length-2 Inv-loop μ-loop
-same-length-2 c = c .before .before .before .before .before .before .before .before .before .before .before .before .before .before .before .before .before .read .kept .1 .0 ∙ c .before .before .before .before .before .before .before .before .before .before .before .before .before .before .before .before .before .before .before .before .loop .inv .0
+same-length-2 c = c .before .before .before .before .before .before .before .before .before .before .before .before .before .before .before .before .before
+    .read .kept .1 .0 ∙ c .before .before .before .before .before .before .before .before .before .before .before .before .before .before .before .before
+    .before .before .before .before .loop .inv .0
 
 returns-2 : tie.Need-returns-2 Inv-loop μ-loop
 returns-2 c = search needs
@@ -83,28 +89,47 @@ has-ended-requires : tie.Need-has-ended-requires Inv-loop μ-loop
 has-ended-requires c κs = search needs
 
 same-length-3 : tie.Need-same-length-3 Inv-loop μ-loop
-same-length-3 c = c .before .before .before .before .before .before .before .before .before .before .before .before .before .before .before .before .before .before .before .read .kept .1 .0 ∙ c .before .before .before .before .before .before .before .before .before .before .before .before .before .before .before .before .before .before .before .before .before .before .loop .inv .0
+same-length-3 c = c .before .before .before .before .before .before .before .before .before .before .before .before .before .before .before .before .before
+    .before .before .read .kept .1 .0 ∙ c .before .before .before .before .before .before .before .before .before .before .before .before .before .before
+    .before .before .before .before .before .before .before .before .loop .inv .0
 
 returns-3 : tie.Need-returns-3 Inv-loop μ-loop
 returns-3 c =
-    let k = c .before .before .before .before .before .before .before .before .before .before .before .before .before .before .before .before .before .before .before .before .before .before .loop in
-    let i = bytes-inside _ _ _ (sym (c .before .before .before .before .before .before .before .before .before .before .before .before .before .last .given .1) ∙ c .before .before .before .before .before .before .before .before .before .before .before .before .before .before .before .hear .ensures) in
-    let s = stands-next _ _ (k .inv .1) _ _ _ _ _ _ _ _ _ (k .inv .2) (c .before .before .before .before .before .before .pump .ensures) (not-false _ (c .before .before .if1 .left))
+    let k = c .before .before .before .before .before .before .before .before .before .before .before .before .before .before .before .before .before
+    .before .before .before .before .before .loop in
+    let i = bytes-inside _ _ _ (sym (c .before .before .before .before .before .before .before .before .before .before .before .before .before .last .given
+    .1) ∙ c .before .before .before .before .before .before .before .before .before .before .before .before .before .before .before .hear .ensures) in
+    let s = stands-next _ _ (k .inv .1) _ _ _ _ _ _ _ _ _ (k .inv .2) (c .before .before .before .before .before .before .pump .ensures) (not-false _ (c
+    .before .before .if1 .left))
     (sym (length-take-le _ _ (i .1))) (c .before .before .before .before .more .ensures) in
     ends-ended _ _ _ _ _ _ _ _ s (sym (c .before .has-ended .ensures) ∙ c .if2 .taken)
 
 loop-less : tie.Need-loop-less Inv-loop μ-loop
 loop-less c =
-    let i = bytes-inside _ _ _ (sym (c .before .before .before .before .before .before .before .before .before .before .before .before .before .last .given .1) ∙ c .before .before .before .before .before .before .before .before .before .before .before .before .before .before .before .hear .ensures) in
-    omega (arith, i .0, c .before .before .before .before .more .ensures, c .before .before .before .before .before .before .before .before .before .before .before .before .before .before .before .before .before .before .before .before .before .loop-test .taken)
+    let i = bytes-inside _ _ _ (sym (c .before .before .before .before .before .before .before .before .before .before .before .before .before .last .given
+    .1) ∙ c .before .before .before .before .before .before .before .before .before .before .before .before .before .before .before .hear .ensures) in
+    omega (
+      arith,
+      i .0,
+      c .before .before .before .before .more .ensures,
+      c .before .before .before .before .before .before .before .before .before .before
+          .before .before .before .before .before .before .before .before .before .before .before .loop-test .taken,
+    )
 
 loop-again : tie.Need-loop-again Inv-loop μ-loop
 loop-again c =
-    let k = c .before .before .before .before .before .before .before .before .before .before .before .before .before .before .before .before .before .before .before .before .before .before .loop in
-    let i = bytes-inside _ _ _ (sym (c .before .before .before .before .before .before .before .before .before .before .before .before .before .last .given .1) ∙ c .before .before .before .before .before .before .before .before .before .before .before .before .before .before .before .hear .ensures) in
-    let s = stands-next _ _ (k .inv .1) _ _ _ _ _ _ _ _ _ (k .inv .2) (c .before .before .before .before .before .before .pump .ensures) (not-false _ (c .before .before .if1 .left))
-    (sym (length-take-le _ _ (i .1))) (c .before .before .before .before .more .ensures) in
-    (c .before .before .before .before .before .before .before .before .before .before .before .before .before .before .before .before .before .before .before .read .kept .1 .0 ∙ k .inv .0, _, s)
+    let k = c .before .before .before .before .before .before .before .before .before .before .before .before .before .before .before .before .before
+    .before .before .before .before .before .loop in
+    let i = bytes-inside _ _ _ (sym (c .before .before .before .before .before .before .before .before .before .before .before .before .before .last .given
+    .1) ∙ c .before .before .before .before .before .before .before .before .before .before .before .before .before .before .before .hear .ensures) in
+    let s = stands-next _ _ (k .inv .1) _ _ _ _ _ _ _ _ _ (k .inv .2) (c .before .before .before .before .before .before .pump .ensures) (not-false _ (c
+    .before .before .if1 .left))
+    (sym (length-take-le _ _ (i .1))) (c .before .before .before .before .more .ensures) in (
+      c .before .before .before .before .before .before .before .before .before .before .before .before .before .before .before .before .before .before
+          .before .read .kept .1 .0 ∙ k .inv .0,
+      _,
+      s,
+    )
 
 same-length-4 : tie.Need-same-length-4 Inv-loop μ-loop
 same-length-4 c = c .before .loop .inv .0
