@@ -1,9 +1,10 @@
 -- Document 01's number and values for each case of each answer that is an enum, the units' constructors' too, as a row of five numbers: the refusal's number
 -- or 0, which case it is (0 for a refusal), and up to three values.
 -- A refusal "gives its number with zeros elsewhere". A double stands in a row by its bits, yes by 1. Assumes nothing.
-use mathlib.Core.Bool.{Bool, true, false, cond}
+use mathlib.Core.Bool.{Bool, cond}
 use mathlib.Core.List.{List, [], _∷_}
 use Prim.Native.Nat.{ℕ}
+use lib.ListN.{getD}
 use lib.Ieee.{Float, binary64, toBits}
 use Rattle.answers.specs.declared.RateLimitDecision.{RateLimitDecision}
 use Rattle.answers.specs.declared.RateLimitDecision.the-variants as decision
@@ -23,6 +24,8 @@ use Rattle.answers.specs.declared.DoneAnswer.{DoneAnswer}
 use Rattle.answers.specs.declared.DoneAnswer.the-variants as done
 use Rattle.answers.specs.declared.ReadOutAnswer.{ReadOutAnswer}
 use Rattle.answers.specs.declared.ReadOutAnswer.the-variants as readOut
+use Rattle.answers.specs.declared.ShotAnswer.{ShotAnswer}
+use Rattle.answers.specs.declared.ShotAnswer.the-variants as shot
 use Rattle.common.specs.declared.units.WindowSizeAnswer.{WindowSizeAnswer}
 use Rattle.common.specs.declared.units.WindowSizeAnswer.the-variants as windowSize
 use Rattle.common.specs.declared.units.BucketSizeAnswer.{BucketSizeAnswer}
@@ -37,6 +40,10 @@ row number case a b c = number ∷ case ∷ a ∷ b ∷ c ∷ []
 
 abbrev pub refusedRow : ℕ → List ℕ
 refusedRow n = row n 0 0 0 0
+
+-- an answer's number, of its row: 0 where it is no refusal
+abbrev pub numberOf : List ℕ → ℕ
+numberOf row = getD row 0 0
 
 abbrev pub said : Bool → ℕ
 said is = cond is 1 0
@@ -86,6 +93,12 @@ doneRow (done.Refused n) = refusedRow n
 unfoldable pub readOutRow : ReadOutAnswer → List ℕ
 readOutRow (readOut.Buckets n) = row 0 1 n 0 0
 readOutRow (readOut.Refused n) = refusedRow n
+
+-- a decision's own row, and one case more: held
+unfoldable pub shotRow : ShotAnswer → List ℕ
+shotRow shot.Held = row 0 4 0 0 0
+shotRow (shot.Decided d) = decisionRow d
+shotRow (shot.Refused n) = refusedRow n
 
 -- ---- the constructors of units: seconds, milliseconds twice, and a rate per second
 

@@ -102,3 +102,10 @@ pub enum ReadOutAnswer {
     Buckets(u64),
     Refused(u64),
 }
+
+// A shot by its number: the gateway has it already, or what the limiter decided.
+pub enum ShotAnswer {
+    Held,
+    Decided(RateLimitDecision),
+    Refused(u64),
+}

@@ -1,9 +1,10 @@
 -- Refusals: a list of numbers with their conditions, of which a call gives the first that holds.
 -- Assumes nothing.
-use mathlib.Core.Path.{_≡_, refl}
+use mathlib.Core.Path.{_≡_, refl, sym, _∙_}
 use mathlib.Core.Bool.{Bool, true, false, cond}
 use mathlib.Core.List.{List, [], _∷_, _++_}
 use Prim.Native.Nat.{ℕ, _<_}
+use native.Mathlib.Decide.{ℕ-discrete}
 use native.Mathlib.Omega.{arith}
 
 -- the first number whose condition holds, or 0
@@ -41,6 +42,14 @@ first-none (x ∷ xs) ys p h = go (x .1) (first-none xs ys (p .1)) h
     go : (b : Bool) → (first xs ≡ 0 → first (xs ++ ys) ≡ first ys) → cond b (x .0) (first xs) ≡ 0 → cond b (x .0) (first (xs ++ ys)) ≡ first ys
     go true f g = absurd (omega (arith, p .0, g))
     go false f g = f g
+
+-- where there is none in both, there is none in either
+pub first-both : (xs ys : List (ℕ × Bool)) → Positive xs → first (xs ++ ys) ≡ 0 → (first xs ≡ 0) × (first ys ≡ 0)
+first-both xs ys p e = go (ℕ-discrete (first xs) 0)
+  where
+    go : Dec (first xs ≡ 0) → (first xs ≡ 0) × (first ys ≡ 0)
+    go (yes z) = (z, sym (first-none xs ys p z) ∙ e)
+    go (no n) = absurd (n (sym (first-found xs ys n) ∙ e))
 
 -- 0 is given exactly where no condition holds
 pub all-false : (xs : List (ℕ × Bool)) → Positive xs → first xs ≡ 0 → AllFalse xs

@@ -4,7 +4,7 @@
 use mathlib.Core.Path.{_≡_, refl, sym, ap, _∙_}
 use mathlib.Core.Bool.{Bool, true, false, cond}
 use Prim.Native.Nat.{ℕ, _≤_}
-use Rattle.answers.specs.Rows.{decisionRow}
+use Rattle.answers.specs.Rows.{decisionRow, numberOf}
 use Rattle.common_laws.specs.LimitLaws.{soft-le-hard}
 use Rattle.common.specs.Limits.{cutWord, softWord}
 use Rattle.common.specs.Ranges.{factorOk}
@@ -16,13 +16,12 @@ use Rattle.rules.specs.Held.{Held}
 use Rattle.rules.specs.Both.{liveOf}
 use Rattle.rules.specs.Suppressed.{admits, asked, forecast, reachOf, outcome}
 use Rattle.rules.specs.Laws.{reach-admits, reach-soft, declined-all}
-use Rattle.steps.specs.Lowest.{numberOf}
 use Rattle.demand3.specs.History.{admitsCount}
 
 -- ---- the rows of the decisions
 
 -- a row says whether the decision admits
-admits-is : (d : RateLimitDecision) → admitsCount d ≡ admits d
+pub admits-is : (d : RateLimitDecision) → admitsCount d ≡ admits d
 unfolding decisionRow
 admits-is Allowed = refl
 admits-is (Rejected window wait left) = refl

@@ -7,7 +7,7 @@ use mathlib.Core.Logic.{_≢_}
 use Prim.Native.Nat.{ℕ, _+_, _-_, _≤_}
 use native.Mathlib.Omega.{arith}
 use lib.ListN.{drop}
-use Rattle.answers.specs.Rows.{decisionRow}
+use Rattle.answers.specs.Rows.{decisionRow, numberOf}
 use Rattle.common.specs.Limits.{cutWord, softWord}
 use Rattle.common.specs.Refusals.{first}
 use Rattle.settings.specs.Settings.{windowIn, bucketIn, factorIn}
@@ -54,7 +54,6 @@ use Rattle.admissions.specs.Log.{Entry, noted, aged}
 use Rattle.places.specs.Placed.{Own, own-either}
 use Rattle.steps.specs.Each.{draws-does}
 use Rattle.steps.specs.Moves.{moves-placed}
-use Rattle.steps.specs.Lowest.{numberOf}
 use Rattle.demand3.specs.History.{IsKey, admitsCount}
 use Rattle.demand3.specs.Decided.{admits-refused, number-refused, declines, admits-hard, allows-soft}
 use Rattle.demand3.specs.Kept.{GoodAt, Kept}

@@ -1,5 +1,5 @@
--- What a call is to answer and to leave, for every input: the lowest refusal whose condition holds, with every word as it came in; or else its answer and
--- its words.
+-- What a call is to answer and to leave, for every input: the first refusal of its list whose condition holds, with every word as it came in; or else its
+-- answer and its words.
 -- Assumes nothing.
 use mathlib.Core.Path.{_≡_, refl, sym, subst, _∙_}
 use mathlib.Core.Bool.{Bool, true, false, cond}

@@ -17,11 +17,14 @@ use Rattle.room.specs.Room.{Room, Made, Starts}
 use Rattle.rules.specs.declared.RoomKind.{RoomKind}
 use Rattle.judge.specs.Verdict.{Verdict, verdict, Told}
 use Rattle.provider.specs.Provider as Provider
+use Rattle.table.specs.Table.{TableMade}
+use Rattle.gateway.specs.Gateway as Gateway
 use Rattle.readout.specs.ReadOut as ReadOut
 use Rattle.rows.specs.Plain.{Given}
 use Rattle.abi.specs.Faces.{Face, Faced}
-use Rattle.desk_step.specs.Desk.{Step, Answered}
+use Rattle.desk_lines.specs.Step.{Step, Answered}
 use Rattle.desk_feed.specs.declared.Progress.{Progress}
+use Rattle.desk_turn.specs.declared.Program.{Program}
 use Rattle.desk_turn.specs.declared.Turn.{Turn}
 use Rattle.desk_feed.specs.Feed.{Whole, whole, feed}
 use Rattle.desk_turn.specs.Lines.{Effect}
@@ -73,17 +76,22 @@ pub record Determined : Type 1 where
       Once {R = ReadOut.Filled} (λ x. ReadOut.Shown (ReadOut.readOut kind s w key row) (x .answer) (x .row))
   -- making a room: yes or no, and the words
   pub make : (slots ring : ℕ) (w : List ℕ) → Once {R = Bool × List ℕ} (λ x. Made slots ring w (x .0) (x .1))
+  -- a gateway's shot: table and room; its new season; making a table
+  pub shot : (s : Settings) (w r : List ℕ) (t : ℕ) (key : List ℕ) (number : ℕ) (rate : RateLimit) (draw : ℕ) →
+      Once {R = Gateway.Verdict} (λ x. Gateway.Told (Gateway.shot s w r t key number rate draw) (x .answer) (x .table) (x .room))
+  pub new-season : (w : List ℕ) → TellsOne (Gateway.newSeason w)
+  pub make-table : (w : List ℕ) → Once {R = Bool × List ℕ} (λ x. TableMade w (x .0) (x .1))
   -- the faces for C and Rust: the number, the answer row and the words of the room, or of both; and a row that is handed over
   pub faces : {W : Type 0} (f : Face W) → Once {R = ℕ × Face W} (λ x. Faced f (x .0) (x .1 .row) (x .1 .words))
   pub give : (row : List ℕ) → Once {R = ℕ × List ℕ} (λ x. Given row (x .0) (x .1))
-  -- the bytes of `desk`: both rooms made; a block taken, of which as much goes in as there is room to print for; the last line; each with what is printed
-  -- and kept
-  pub desk-rooms : (a b : List ℕ) → Once {R = Bool × List ℕ × List ℕ} (λ x. BothMade a b (x .0) (x .1) (x .2))
+  -- the bytes of `desk` and of `shots`: both memories made; a block taken, of which as much goes in as there is room to print for; the last line; each
+  -- with what is printed and kept
+  pub desk-memories : (g : Program) (a b : List ℕ) → Once {R = Bool × List ℕ × List ℕ} (λ x. BothMade g a b (x .0) (x .1) (x .2))
   pub desk-feed : (w : Whole) (block out : List ℕ) → Once {R = Progress × List ℕ × List ℕ × List ℕ × List ℕ}
       (λ x. Feeding w block out (x .0) (x .1) (x .2) (x .3) (x .4))
   pub desk-finish : (v : Effect) (out : List ℕ) (at : ℕ) → Once {R = Turn × List ℕ × List ℕ × List ℕ} (λ x. Took v out at (x .0) (x .1) (x .2) (x .3))
-  -- a line of `desk`: the line to print, and both rooms
-  pub step : (v : Step) → Once {R = Step} (λ x. Answered v (x .answer) (x .absolute) (x .suppressed))
+  -- a line of `desk` or of `shots`: the line to print, and both memories
+  pub step : (v : Step) → Once {R = Step} (λ x. Answered v (x .answer) (x .first) (x .second))
   -- printing an answer: how long, and the bytes
   pub print : (line : AnswerLine) (out : List ℕ) → Once {R = ℕ × List ℕ} (λ x. Printed line out (x .1) (x .0))
   -- whether words are a room's, and a body a ring's; where a body starts
@@ -105,7 +113,7 @@ feeding-one w block out x y p q =
     let prints : List ℕ → ℕ = λ (b : List ℕ). 0 + length b in
     let next : x .0 .put ≡ y .0 .put = p .put .past ∙ ap (λ (n : ℕ). prints (feed w (take n block) .prints)) t ∙ sym (q .put .past) in
     let bytes : x .4 ≡ y .4 = p .put .is ∙ ap (λ (n : ℕ). pasted out 0 (feed w (take n block) .prints)) t ∙ sym (q .put .is) in
-    λ i. (record { desk = after i .desk; taken = t i; put = next i }, after i .absolute, after i .suppressed, after i .hold, bytes i)
+    λ i. (record { desk = after i .desk; taken = t i; put = next i }, after i .first, after i .second, after i .hold, bytes i)
 
 pub determined : Determined
 determined = record {
@@ -117,20 +125,27 @@ determined = record {
   };
   read-out = λ kind s w key row x y p q i. record { answer = (p .answer ∙ sym (q .answer)) i; row = (p .row ∙ sym (q .row)) i };
   make = λ slots ring w x y p q i. ((p .answer ∙ sym (q .answer)) i, (p .words ∙ sym (q .words)) i);
+  shot = λ s w r t key number rate draw x y p q i. record {
+    answer = (p .answer ∙ sym (q .answer)) i;
+    table = (p .table ∙ sym (q .table)) i;
+    room = (p .room ∙ sym (q .room)) i;
+  };
+  new-season = λ w. told-one (Gateway.newSeason w);
+  make-table = λ w x y p q i. ((p .answer ∙ sym (q .answer)) i, (p .words ∙ sym (q .words)) i);
   faces = λ f x y p q i. ((p .number ∙ sym (q .number)) i, record { row = (p .answer ∙ sym (q .answer)) i; words = (p .left ∙ sym (q .left)) i });
   give = λ row x y p q i. ((p .number ∙ sym (q .number)) i, (p .answer ∙ sym (q .answer)) i);
-  desk-rooms = λ a b x y p q i. ((p .answer ∙ sym (q .answer)) i, (p .absolute ∙ sym (q .absolute)) i, (p .suppressed ∙ sym (q .suppressed)) i);
+  desk-memories = λ g a b x y p q i. ((p .answer ∙ sym (q .answer)) i, (p .first ∙ sym (q .first)) i, (p .second ∙ sym (q .second)) i);
   desk-feed = feeding-one;
   desk-finish = λ v out at x y p q i. (
     record { phase = (p .phase ∙ sym (q .phase)) i; next = (p .put .past ∙ sym (q .put .past)) i },
-    (p .absolute ∙ sym (q .absolute)) i,
-    (p .suppressed ∙ sym (q .suppressed)) i,
+    (p .first ∙ sym (q .first)) i,
+    (p .second ∙ sym (q .second)) i,
     (p .put .is ∙ sym (q .put .is)) i,
   );
   step = λ v x y p q i. record {
     answer = (p .answer ∙ sym (q .answer)) i;
-    absolute = (p .absolute ∙ sym (q .absolute)) i;
-    suppressed = (p .suppressed ∙ sym (q .suppressed)) i;
+    first = (p .first ∙ sym (q .first)) i;
+    second = (p .second ∙ sym (q .second)) i;
   };
   print = λ line out x y p q i. ((p .long ∙ sym (q .long)) i, (p .bytes ∙ sym (q .bytes)) i);
   sized = λ w. decides-one (Room w);

@@ -1,4 +1,5 @@
 pub mod Units
+pub mod Shots
 pub mod Refusals
 pub mod Determined
 pub mod Answers

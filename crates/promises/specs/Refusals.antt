@@ -1,5 +1,5 @@
--- Demand 1: every call answers every input; what it turns away it turns away by document 01's table, with the lowest number whose condition holds,
--- exactly then, and leaves every word as it was. That there is an answer for every input is what each function's own proof says: none of these functions
+-- Demand 1: every call answers every input; what it turns away it turns away by its table, with the first number in the order of judging whose condition
+-- holds, exactly then, and leaves every word as it was. That there is an answer for every input is what each function's own proof says: none of these functions
 -- has a `requires`, and each is proved to end without fault and with the verdict below. Here the verdicts are held against the table.
 -- Assumes nothing.
 use mathlib.Core.Path.{_≡_, refl}
@@ -30,10 +30,11 @@ use Rattle.inputs.specs.declared.Mode.the-variants as chosen
 use Rattle.unnamed_set.specs.Unnamed as Unnamed
 use Rattle.unnamed_set.specs.Unnamed.{unnamed}
 use Rattle.abi.specs.Faces.{shownSet}
-use Rattle.steps.specs.Lowest.{TurnedBy, turned-by}
+use Rattle.steps.specs.Order.{TurnedBy, turned-by}
 use Rattle.steps.specs.Ops as Ops
 use Rattle.steps.specs.Ops.{Op, after, answerRow}
 use Rattle.steps.specs.Table.{tableOf, sets, cleansBoth, turned, both-turned}
+use Rattle.promises.specs.Shots.{TurnsShots, turns-shots}
 use Rattle.promises.specs.Units.{Makes, makes}
 
 -- ---- the read-out's table: the calls' stand with the steps (`tableOf`)
@@ -69,6 +70,8 @@ pub record Demand1 : Type 0 where
   pub set-shown : (kind : RoomKind) (s : Settings) (w : List ℕ) (t : ℕ) (key : List ℕ) (rate : RateLimit) (comparison : Comparison) (count : ℕ) (mode : Mode) →
       TurnedBy (setsShown kind s w t key rate comparison count mode) (shownSet kind s w t key rate comparison count mode .row) w
       (shownSet kind s w t key rate comparison count mode .words)
+  -- a gateway's shots, and its new season
+  pub gateway : TurnsShots
 
 pub reads-number : (kind : RoomKind) (s : Settings) (w key : List ℕ) → Finding.refusal kind s w key ≡ first (reads kind s w key)
 unfolding Finding.refusal
@@ -84,7 +87,7 @@ read-turned kind s w key cells =
     (λ z. rw (e, eq-eqb (first (reads kind s w key)) 0 z))
     (λ z. rw (e, ne-eqb (first (reads kind s w key)) 0 z))
 
--- a number is always given, and 14 where none is lower
+-- a number is always given, and 14 where none is met before it
 unnamed-turned : (kind : RoomKind) (s : Settings) (w : List ℕ) (t : ℕ) (key : List ℕ) (rate : RateLimit) (count : ℕ) →
     TurnedBy (unnamed kind s w t key rate count) (refusedRow (Unnamed.refusal kind s w t key rate count)) w w
 unfolding Unnamed.refusal faults misfits
@@ -99,4 +102,4 @@ set-turned kind s w t key rate (compared.Named c) count chosen.Unnamed = unnamed
 set-turned kind s w t key rate compared.Unnamed count m = unnamed-turned kind s w t key rate count
 
 pub demand1 : Demand1
-demand1 = record { calls = turned; provider-cleanup = both-turned; read-out = read-turned; units = makes; set-shown = set-turned }
+demand1 = record { calls = turned; provider-cleanup = both-turned; read-out = read-turned; units = makes; set-shown = set-turned; gateway = turns-shots }

@@ -10,7 +10,7 @@ use Prim.Native.Nat.{ℕ, zero, suc, _<_}
 use native.Mathlib.Decide.{ℕ-discrete}
 use native.Mathlib.Omega.{arith}
 use Rattle.base.specs.Decides.{true-and}
-use Rattle.answers.specs.Rows.{doneRow, readOutRow}
+use Rattle.answers.specs.Rows.{doneRow, readOutRow, numberOf}
 use Rattle.settings.specs.Settings.{faults}
 use Rattle.settings.specs.declared.Settings.{Settings}
 use Rattle.ring.specs.declared.Bucket.{Bucket}
@@ -30,7 +30,7 @@ use Rattle.readout.specs.ReadOut as ReadOut
 use Rattle.places.specs.SoundRoom.{SoundRoom, five-unmet}
 use Rattle.steps.specs.Each.{step}
 use Rattle.steps.specs.History.{empty-sane, history}
-use Rattle.steps.specs.Lowest.{met, numberOf, not-given}
+use Rattle.steps.specs.Order.{met, not-given}
 use Rattle.steps.specs.Ops as Ops
 use Rattle.steps.specs.Ops.{Op, Call, Keyed, AllKeyed, after, answerNumber, words}
 use Rattle.steps.specs.Sound.{step-sound}

@@ -42,7 +42,7 @@ pub fn sized(w: &[u64]) -> bool
 }
 
 // Sets every word to 0.
-fn zero(w: &mut [u64])
+pub fn zero(w: &mut [u64])
     ensures { λ _. ⌜ now (w .exit) ≡ replicate (length (now (w .entry))) 0 ⌝ }
 {
     let mut i = 0;
@@ -75,7 +75,8 @@ pub fn start(w: &[u64], s: usize) -> usize
     layout::HEADER + layout::ENTRY * slots + s * (layout::FIXED + layout::CELL * r)
 }
 
-fn key_at(w: &[u64], s: usize) -> Key
+// The key in entry `s`.
+pub fn key_at(w: &[u64], s: usize) -> Key
     requires { ⌜ Directory (now w) × (s < slotsOf (now w)) ⌝ }
     ensures { λ x. ⌜ x ≡ keyAt (now (w .entry)) s ⌝ }
 {

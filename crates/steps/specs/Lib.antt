@@ -8,6 +8,6 @@ pub mod Leaves
 pub mod Sound
 pub mod History
 pub mod Keys
-pub mod Lowest
+pub mod Order
 pub mod Runs
 pub mod Table

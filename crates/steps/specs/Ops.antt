@@ -3,8 +3,7 @@
 -- Assumes nothing.
 use mathlib.Core.List.{List, [], _∷_}
 use Prim.Native.Nat.{ℕ}
-use lib.ListN.{getD}
-use Rattle.answers.specs.Rows.{decisionRow, totalRow, snapshotRow, factorRow, oldRateRow, deleteRow, setRow, doneRow}
+use Rattle.answers.specs.Rows.{decisionRow, totalRow, snapshotRow, factorRow, oldRateRow, deleteRow, setRow, doneRow, numberOf}
 use Rattle.answers.specs.declared.DeleteAnswer.{DeleteAnswer}
 use Rattle.answers.specs.declared.DoneAnswer.{DoneAnswer}
 use Rattle.answers.specs.declared.FactorAnswer.{FactorAnswer}
@@ -106,7 +105,7 @@ abbrev pub answerRow : (kind : RoomKind) → Settings → List ℕ → ℕ → O
 answerRow kind s w t op = rowOf op (verdictOf kind s w t op .answer)
 
 abbrev pub answerNumber : (kind : RoomKind) → Settings → List ℕ → ℕ → Op kind → ℕ
-answerNumber kind s w t op = getD (answerRow kind s w t op) 0 0
+answerNumber kind s w t op = numberOf (answerRow kind s w t op)
 
 -- ---- a key that may enter the room is one of bytes, of any number
 

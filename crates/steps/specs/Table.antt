@@ -1,5 +1,5 @@
--- Every call's table of refusals, and that it answers by it (demand 1), said once for all calls (`turned`): a number that is given is the lowest whose
--- condition holds, exactly then, and the words are then as they were.
+-- Every call's table of refusals, and that it answers by it (demand 1), said once for all calls (`turned`): a number that is given is the first, in the
+-- order of judging, whose condition holds, exactly then, and the words are then as they were.
 -- Assumes nothing.
 use mathlib.Core.Path.{_≡_, refl, ap}
 use mathlib.Core.Bool.{Bool, true, false, cond}
@@ -8,7 +8,7 @@ use mathlib.Core.Logic.{_≢_}
 use Prim.Native.Nat.{ℕ}
 use native.Mathlib.Omega.{arith}
 use borrow.Author.Tests.{eq-eqb, ne-eqb}
-use Rattle.answers.specs.Rows.{decisionRow, totalRow, snapshotRow, factorRow, oldRateRow, deleteRow, setRow, doneRow}
+use Rattle.answers.specs.Rows.{decisionRow, totalRow, snapshotRow, factorRow, oldRateRow, deleteRow, setRow, doneRow, numberOf}
 use Rattle.common.specs.Refusals.{first}
 use Rattle.common.specs.Limits.{cutWord, softWord}
 use Rattle.settings.specs.Settings.{factorIn, faults}
@@ -50,7 +50,7 @@ use Rattle.rules.specs.declared.Reach.{Reach}
 use Rattle.rules.specs.declared.Reach.the-variants.{Hard, Soft, Over, Between}
 use Rattle.provider.specs.Provider as Provider
 use Rattle.provider.specs.Laws.{eitherMisfits, both-by-table}
-use Rattle.steps.specs.Lowest.{met, TurnedBy, Rises, numberOf, turned-by, judge-turned, not-given}
+use Rattle.steps.specs.Order.{met, TurnedBy, InOrder, turned-by, judge-turned, not-given}
 use Rattle.steps.specs.Ops as Ops
 use Rattle.steps.specs.Ops.{Op, cleanedBoth, after, answerRow, answerNumber}
 
@@ -151,10 +151,10 @@ both-turned s a b t stale =
 
 -- ---- the proof
 
--- the numbers of a table rise
-pub rises : (s : Settings) (w : List ℕ) (t : ℕ) (key : List ℕ) (rate : RateLimit) (count draw : ℕ) → Rises 0 (suppressedInc s w t key rate count draw)
+-- the numbers of a table stand in the order of judging
+pub in-order : (s : Settings) (w : List ℕ) (t : ℕ) (key : List ℕ) (rate : RateLimit) (count draw : ℕ) → InOrder 0 (suppressedInc s w t key rate count draw)
 unfolding faults misfits
-rises s w t key rate count draw = omega arith
+in-order s w t key rate count draw = omega arith
 
 -- ---- every call
 
@@ -197,7 +197,7 @@ turned k s w t (Ops.isAllowed key) =
     (decided-0 s t (heldIn w key))
 turned k s w t (Ops.get key) = judge-turned totalRow total.Refused (plain kind.Absolute s w t key) _ w _ refl (λ n. refl) (omega arith) refl
 turned k s w t (Ops.draws key rate count draw) =
-    judge-turned decisionRow decision.Refused (suppressedInc s w t key rate count draw) _ w _ refl (λ n. refl) (rises s w t key rate count draw)
+    judge-turned decisionRow decision.Refused (suppressedInc s w t key rate count draw) _ w _ refl (λ n. refl) (in-order s w t key rate count draw)
     (outcome-0 s t (suppressed.limitFor s rate (heldIn w key)) count draw (heldIn w key))
 turned k s w t (Ops.snapshot key) = judge-turned snapshotRow snapshot.Refused (suppressedGet s w t key) _ w _ refl (λ n. refl) (omega arith) refl
 turned k s w t (Ops.getFactor key) = judge-turned factorRow factor.Refused (suppressedFactor s w t key) _ w _ refl (λ n. refl) (omega arith) refl

@@ -7,7 +7,7 @@ use Prim.Native.Nat.{ℕ, _+_, _≤_}
 use native.Mathlib.Decide.{decLe}
 use native.Mathlib.Omega.{arith}
 use lib.ListN.{getD, drop}
-use Rattle.answers.specs.Rows.{decisionRow}
+use Rattle.answers.specs.Rows.{decisionRow, numberOf}
 use Rattle.common.specs.Ranges.{one}
 use Rattle.settings.specs.Settings.{windowIn}
 use Rattle.answers.specs.declared.RateLimitDecision.{RateLimitDecision}
@@ -19,7 +19,6 @@ use Rattle.rules.specs.declared.RoomKind.the-variants.{Suppressed}
 use Rattle.judge.specs.Verdict.{Verdict}
 use Rattle.suppressed_verdicts.specs.Calls as Own
 use Rattle.admissions.specs.Log.{Entry, noted, pick, pick-all, inSpan, aged}
-use Rattle.steps.specs.Lowest.{numberOf}
 use Rattle.steps.specs.Ops as Ops
 use Rattle.steps.specs.Ops.{Call, draws, words, rows}
 use Rattle.demand3.specs.History.{rowAdmits, admitsCount, sameBytes, logged, admitted, IsKey, AllLeaveAlone}

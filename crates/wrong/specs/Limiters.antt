@@ -3,14 +3,13 @@
 -- definitions decide (`Boundary.antt` of the promises). The limiters' own increments keep all of it.
 -- Assumes nothing.
 use mathlib.Core.Path.{_≡_, sym, ap, subst, _∙_}
-use mathlib.Core.Bool.{Bool, false}
+use mathlib.Core.Bool.{false}
 use mathlib.Core.List.{List, []}
 use mathlib.Core.Logic.{_≢_}
 use Prim.Native.Nat.{ℕ, zero, suc}
-use native.Mathlib.Decide.{ℕ-discrete}
 use native.Mathlib.Omega.{arith}
 use lib.ListN.{length, getD}
-use Rattle.answers.specs.Rows.{decisionRow}
+use Rattle.answers.specs.Rows.{decisionRow, numberOf}
 use Rattle.common.specs.Ranges.{one}
 use Rattle.common.specs.Refusals.{first}
 use Rattle.settings.specs.Settings.{defaults, withWindow, faults}
@@ -30,9 +29,9 @@ use Rattle.judge.specs.Verdict.{Verdict, verdict}
 use Rattle.frame.specs.Keys.{Bytes}
 use Rattle.finding.specs.Finding.{bucketsOf}
 use Rattle.leaves.specs.Calls.{Stands}
-use Rattle.steps.specs.Lowest.{TurnedBy, Rises, numberOf, lowest-first, first-lowest}
+use Rattle.steps.specs.Order.{TurnedBy, InOrder, taken, not-refused}
 use Rattle.steps.specs.Ops.{inc, draws}
-use Rattle.steps.specs.Table.{rises}
+use Rattle.steps.specs.Table.{in-order}
 use Rattle.promises.specs.Refusals.{demand1}
 use Rattle.promises.specs.Rules.{Inc, incOf, incTable, IncRule, IncByRules, demand2}
 use Rattle.promises.specs.Cases.{perSecond, key, room, settingsFor, askAt, incAt, most, full, single, inSlot}
@@ -102,27 +101,11 @@ module _ (kind : RoomKind) (f : Inc) where
 
 -- ---- at one input
 
--- a table that turns away, and one that does not
-module _ {B : Type 0} (table : List (ℕ × Bool)) (a : Rises 0 table) (row : List ℕ) (before after : B) (t : TurnedBy table row before after) where
-  pub taken : numberOf row ≡ 0 → first table ≡ 0
-  taken z = go (ℕ-discrete (first table) 0)
-    where
-      go : Dec (first table ≡ 0) → first table ≡ 0
-      go (yes e) = e
-      go (no n) = sym (ap numberOf (t .given (first table) (first-lowest table a n))) ∙ z
-
-  pub not-refused : first table ≡ 0 → numberOf row ≡ 0
-  not-refused e = go (ℕ-discrete (numberOf row) 0)
-    where
-      go : Dec (numberOf row ≡ 0) → numberOf row ≡ 0
-      go (yes z) = z
-      go (no n) = sym (lowest-first table (numberOf row) a (t .only n)) ∙ e
-
-table-rises : (kind : RoomKind) (s : Settings) (w : List ℕ) (t : ℕ) (k : List ℕ) (rate : RateLimit) (count draw : ℕ) →
-    Rises 0 (incTable kind s w t k rate count draw)
+table-in-order : (kind : RoomKind) (s : Settings) (w : List ℕ) (t : ℕ) (k : List ℕ) (rate : RateLimit) (count draw : ℕ) →
+    InOrder 0 (incTable kind s w t k rate count draw)
 unfolding faults misfits
-table-rises Absolute s w t k rate count draw = omega arith
-table-rises Suppressed s w t k rate count draw = rises s w t k rate count draw
+table-in-order Absolute s w t k rate count draw = omega arith
+table-in-order Suppressed s w t k rate count draw = in-order s w t k rate count draw
 
 pub key-bytes : Bytes key
 key-bytes zero = omega arith
@@ -137,7 +120,7 @@ passes : (kind : RoomKind) (w : List ℕ) (t count : ℕ) → numberOf (decision
     first (incTable kind (settingsFor kind) w t key (perSecond one) count 0) ≡ 0
 passes kind w t count z =
     let s = settingsFor kind in
-    taken (incTable kind s w t key (perSecond one) count 0) (table-rises kind s w t key (perSecond one) count 0) _ _ _
+    taken (incTable kind s w t key (perSecond one) count 0) (table-in-order kind s w t key (perSecond one) count 0) _ _ _
     (own-table kind s w t key (perSecond one) count 0) z
 
 ruled : (kind : RoomKind) (f : Inc) → IncByRules kind f → (w : List ℕ) (t count : ℕ) → numberOf (decisionRow (incAt kind w t count .answer)) ≡ 0 →
@@ -178,7 +161,7 @@ module _ (kind : RoomKind) (f : Inc) where
   refusing-breaks-the-table h p =
       let s = settingsFor kind in
       h s room 0 key (perSecond one) (most kind) 0
-      (not-refused (incTable kind s room 0 key (perSecond one) (most kind) 0) (table-rises kind s room 0 key (perSecond one) (most kind) 0) _ _ _
+      (not-refused (incTable kind s room 0 key (perSecond one) (most kind) 0) (table-in-order kind s room 0 key (perSecond one) (most kind) 0) _ _ _
       (p s room 0 key (perSecond one) (most kind) 0)
       (passes kind room 0 (most kind) (allowed-0 _ (filling kind .fills))))
 
@@ -189,7 +172,7 @@ module _ (kind : RoomKind) (f : Inc) where
   pub allowing-breaks-the-table : Always (λ d. d ≡ Allowed) f → ByTable kind f → ⊥
   allowing-breaks-the-table h p =
       let s = withWindow defaults (record { 0 = 0 }) in
-      let z = taken (incTable kind s room 0 key (perSecond one) 1 0) (table-rises kind s room 0 key (perSecond one) 1 0) _ _ _
+      let z = taken (incTable kind s room 0 key (perSecond one) 1 0) (table-in-order kind s room 0 key (perSecond one) 1 0) _ _ _
       (p s room 0 key (perSecond one) 1 0) (allowed-0 _ (h s room 0 key (perSecond one) 1 0)) in
       omega (arith, z, filling kind .faulty)
 

@@ -21,7 +21,8 @@ use Rattle.promises.specs.Refusals.{demand1}
 use Rattle.promises.specs.Rules.{TotalByRules, SnapshotByRules, demand2}
 use Rattle.promises.specs.Cases.{hardBy, key, aget, ten, sget, twenty}
 use Rattle.promises.specs.Boundary.{boundary, further}
-use Rattle.wrong.specs.Limiters.{taken, key-bytes}
+use Rattle.steps.specs.Order.{taken}
+use Rattle.wrong.specs.Limiters.{key-bytes}
 
 -- ---- given: the total is the third number of a row
 

@@ -1,0 +1,3 @@
+pub mod Gateway
+pub mod Steps
+pub mod Laws
