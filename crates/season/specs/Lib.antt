@@ -1,0 +1,11 @@
+pub mod Log
+pub mod Table
+pub mod Season
+pub mod Judging
+pub mod Own
+pub mod Exact
+pub mod Gateways
+pub mod Histories
+pub mod Wrong
+pub mod Sharp
+pub mod Runs

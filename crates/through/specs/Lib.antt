@@ -1,0 +1,3 @@
+pub mod Shot
+pub mod Events
+pub mod Through
