@@ -3,7 +3,8 @@
  *
  * The absolute limiter lets a key through while its total in the window is below its limit, and says how long to wait
  * when it is not. The suppressed limiter lets a growing share of calls go between a soft and a hard limit, by a random
- * draw that you hand in.
+ * draw that you hand in. A gateway in front of a suppressed limiter knows a controller's shot by its number, so that a
+ * shot that is sent again because its answer was lost is not admitted twice.
  *
  * Every call ends with its answer or with one of the numbered refusals, on any arguments and any words in the lent
  * memory; a refused call changes nothing but the answer row. There is no allocation, no lock, no clock, no global
@@ -29,11 +30,29 @@
  *
  * You own all memory. Nothing is kept after a call returns: no pointer that you pass is remembered.
  *
- * Threads: calls on different rooms may run at the same time. On one room, one call at a time; put a lock of your own
- * around it if threads share a room. frostaxle_provider_cleanup uses both of its rooms.
+ * Threads: calls on different rooms may run at the same time. On one room or table, one call at a time; put a lock of
+ * your own around it if threads share one. frostaxle_provider_cleanup uses both of its rooms, frostaxle_gateway_shot
+ * its table and its room.
  *
- * Pointers: none may be NULL, also where its length is 0. Rooms and rows are aligned as uint64_t. The room (or the two
- * rooms), the key and the answer row of one call must not overlap.
+ * Pointers: none may be NULL, also where its length is 0. Rooms, tables and rows are aligned as uint64_t. The room (or
+ * the two rooms, or table and room), the key and the answer row of one call must not overlap.
+ *
+ *
+ * THE GATEWAY'S TABLE
+ *
+ * A table is an array of FROSTAXLE_TABLE_WORDS uint64_t that holds the last admitted shot number of up to 64
+ * controllers. frostaxle_gateway_make_table() makes an empty one, which is 387 zeros. No table is a room. It may be
+ * copied and stored as a room may, and damage is found by the call that meets it (refusal 5).
+ *
+ * Only frostaxle_gateway_shot() writes numbers into it, and only frostaxle_gateway_new_season() takes them out: no
+ * other call is handed a table, so no cleanup, clear, delete or set touches what is held. Keep it where it outlasts the
+ * program: of a controller whose number is forgotten, a shot may be admitted a second time.
+ *
+ * A controller numbers its shots from 1 upwards. One that hears nothing sends the same shot again under the same
+ * number: if it was admitted, it is HELD, and the survey has the point once. HELD changes nothing, and is told by
+ * number, controller and table alone: settings, room, reading, rate and draw are not looked at. A shot that is turned
+ * away (SUPPRESSED with row[3] 0, or a refusal) is not remembered: it may be sent again under its number, until a later
+ * one of its controller is admitted.
  *
  *
  * ARGUMENTS, in the order that every call has them
@@ -42,9 +61,12 @@
  *   bucket    milliseconds, 1 to 4294967296              counts this close to the newest bucket's start join it
  *   cache     milliseconds, 1 to 4294967296              how long a suppressed key's factor is used again
  *   factor    finite, at least 1                         hard limit = factor * soft limit (suppressed limiter)
+ *   table, table_len                                     a gateway's table, and 387
  *   room, room_len                                       the lent words and how many they are
  *   reading   milliseconds, any start you like           your clock; in one room it may stand still but not go back
  *   key, key_len                                         0 to 32 bytes of any value
+ *   controller, controller_len                           the same: the key whose shots are numbered
+ *   number    1 to 2^32 - 1                              which shot of its controller it is
  *   rate      per second, finite, at least 2^-900        limit = rate * window (times factor, suppressed)
  *   count     how much is counted, or the new total of a set
  *   draw      0 to 2^53 - 1, evenly drawn                randomness of one suppressed increment
@@ -64,7 +86,7 @@
  *
  * Every call returns row[0]. row is written whole by every call.
  *
- *   row[0]    0, or the number of the refusal; then row[1] to row[4] are 0 and the room is as it was
+ *   row[0]    0, or the number of the refusal; then row[1] to row[4] are 0, and room and table are as they were
  *   row[1]    which case of the answer, from 1 (FROSTAXLE_ALLOWED, ...)
  *   row[2..4] the case's values; those that it does not have are 0
  *
@@ -81,6 +103,10 @@
  *                            2 UNKNOWN key     -                   -                   -
  *   set_if, set_if_preserve  1 VALUE           1 matched, 0 not    total before        total after
  *   clear, cleanup           1 DONE            -                   -                   -
+ *   gateway_shot             1 ALLOWED         -                   -                   -
+ *                            3 SUPPRESSED      factor, bits        1 admitted, 0 not   -
+ *                            4 HELD            -                   -                   -
+ *   gateway_new_season       1 DONE            -                   -                   -
  *   bucket                   1 VALUE           count               declined of it      its start, ms
  *                            2 UNKNOWN place   -                   -                   -
  *
@@ -99,14 +125,14 @@
 extern "C" {
 #endif
 
-/* Refusals. The lowest number whose condition holds is given. */
+/* Refusals. The lowest number whose condition holds is given; for a shot 19, 20 and 21 go before 1, 2, .. 13. */
 enum {
     FROSTAXLE_OK = 0,
     FROSTAXLE_BAD_WINDOW = 1,        /* window out of its range */
     FROSTAXLE_BAD_BUCKET = 2,        /* bucket out of its range */
     FROSTAXLE_BAD_CACHE = 3,         /* cache period out of its range */
     FROSTAXLE_BAD_FACTOR = 4,        /* factor not finite, or below 1 */
-    FROSTAXLE_BAD_ROOM = 5,          /* the room's lengths are wrong, or the slot addressed is unsound */
+    FROSTAXLE_BAD_ROOM = 5,          /* the lengths of room or table are wrong, or what is addressed in it is unsound */
     FROSTAXLE_CLOCK_WENT_BACK = 6,   /* reading below that of an earlier call that was not refused */
     FROSTAXLE_LONG_KEY = 7,          /* key over 32 bytes */
     FROSTAXLE_BAD_RATE = 8,          /* rate not finite, or below 2^-900, also for a known key */
@@ -115,7 +141,10 @@ enum {
     FROSTAXLE_NO_FREE_SLOT = 11,     /* a slot is needed and none is free: clean up, or make a larger room */
     FROSTAXLE_RING_FULL = 12,        /* a bucket must be added to a full ring: take longer rings, or longer buckets */
     FROSTAXLE_NO_PERCEIVED_RATE = 13, /* a factor would be worked out at perceived rate zero */
-    FROSTAXLE_NO_CALL = 14           /* comparator or preservation is none of the numbers below, and 1 to 8 and 10 are not met */
+    FROSTAXLE_NO_CALL = 14,          /* comparator or preservation is none of the numbers below, and 1 to 8 and 10 are not met */
+    FROSTAXLE_BAD_NUMBER = 19,       /* a shot's number is 0 or over 2^32 - 1 */
+    FROSTAXLE_OLD_NUMBER = 20,       /* a shot's number is below the last admitted of its controller */
+    FROSTAXLE_TABLE_FULL = 21        /* the controller is not in the table, which has 64 */
 };
 
 /* row[1] */
@@ -123,6 +152,7 @@ enum {
     FROSTAXLE_ALLOWED = 1,
     FROSTAXLE_REJECTED = 2,
     FROSTAXLE_SUPPRESSED = 3,
+    FROSTAXLE_HELD = 4, /* admitted before */
     FROSTAXLE_VALUE = 1,
     FROSTAXLE_UNKNOWN = 2,
     FROSTAXLE_DONE = 1
@@ -149,6 +179,9 @@ enum {
 #define FROSTAXLE_DEFAULT_FACTOR 1.0
 
 #define FROSTAXLE_ROW_WORDS 5
+
+/* The length of a gateway's table. */
+#define FROSTAXLE_TABLE_WORDS 387
 
 /* The length of a room, for an array's size. slots and ring in range are yours to see to; frostaxle_make() judges them. */
 #define FROSTAXLE_ROOM_WORDS(slots, ring) (3 + (slots) * (6 + 7 + 3 * (ring)))
@@ -279,6 +312,29 @@ uint64_t frostaxle_suppressed_bucket(uint64_t window, uint64_t bucket, uint64_t 
 uint64_t frostaxle_provider_cleanup(uint64_t window, uint64_t bucket, uint64_t cache, double factor,
                                     uint64_t *absolute, size_t absolute_len, uint64_t *suppressed,
                                     size_t suppressed_len, uint64_t reading, uint64_t stale, uint64_t row[5]);
+
+/* ---- the gateway: shots by their number, in front of a suppressed limiter */
+
+/* Makes an empty table, whatever the words held. 0; or 5 if the length is not 387, and the words stay. */
+uint64_t frostaxle_gateway_make_table(uint64_t *table, size_t table_len);
+
+/*
+ * A controller's shot. HELD if its number is the last admitted one. A higher one is counted in the room, as
+ * frostaxle_suppressed_inc() counts 1: ALLOWED or SUPPRESSED; the table gets its number only if that is a yes. Refused
+ * with the first of these that holds:
+ *   19  the number is 0 or over 2^32 - 1
+ *   20  it is below the last admitted: that one was later, and whether this one was admitted is not kept
+ *   21  the controller is not in the table, which has 64
+ *   1 to 13, unless it is HELD, as for the increment; 5 for the table, too
+ * A table that is unsound for its controller has no last number: with it a shot is neither HELD nor 20 nor 21.
+ */
+uint64_t frostaxle_gateway_shot(uint64_t window, uint64_t bucket, uint64_t cache, double factor, uint64_t *table,
+                                size_t table_len, uint64_t *room, size_t room_len, uint64_t reading,
+                                const uint8_t *controller, size_t controller_len, uint64_t number, double rate,
+                                uint64_t draw, uint64_t row[5]);
+
+/* Empties the table: every controller may begin at 1 again. DONE; or 5 if it is no table, and the words stay. */
+uint64_t frostaxle_gateway_new_season(uint64_t *table, size_t table_len, uint64_t row[5]);
 
 #ifdef __cplusplus
 }

@@ -1,5 +1,6 @@
 /*
- * A gateway that admits survey shots by both limiters, with readings made up so that the run is the same each time.
+ * A gateway that admits survey shots by both limiters, and by their numbers, with readings made up so that the run is
+ * the same each time.
  *
  *     rt staticlib abi
  *     cc -std=c11 -Wall -Wextra -Iinclude examples/c/gateway.c target/staticlib/libabi.a -o target/gateway
@@ -12,9 +13,10 @@
 
 enum { SLOTS = 8, RING = 128, WORDS = FROSTAXLE_ROOM_WORDS(SLOTS, RING) };
 
-/* The rooms are ours: two plain arrays. */
+/* The rooms and the gateway's table are ours: three plain arrays. */
 static uint64_t absolute[WORDS];
 static uint64_t suppressed[WORDS];
+static uint64_t table[FROSTAXLE_TABLE_WORDS];
 
 static const uint64_t window = FROSTAXLE_DEFAULT_WINDOW; /* 10 s */
 static const uint64_t bucket = FROSTAXLE_DEFAULT_BUCKET; /* 100 ms */
@@ -22,6 +24,7 @@ static const uint64_t cache = FROSTAXLE_DEFAULT_CACHE;   /* 100 ms */
 static const double factor = 2.0;                        /* the hard limit is twice the soft one */
 
 static const uint8_t controller[] = {'c', 't', 'l', '7'};
+static const uint8_t numbering[] = {'c', 't', 'l', '8'}; /* a controller that numbers its shots */
 
 /* One shot at the absolute limiter, 1 a second. Gives how long to wait, 0 if it was admitted. */
 static uint64_t shot(uint64_t reading, uint64_t count) {
@@ -83,18 +86,56 @@ static void suppressed_limiter(void) {
                frostaxle_double(row[4]));
 }
 
+/* A shot by its number, one in 10 s soft and two hard. `heard` is 0 where the answer is lost on its way back. */
+static void numbered_shot(uint64_t reading, uint64_t number, int heard) {
+    uint64_t row[FROSTAXLE_ROW_WORDS];
+    uint64_t refusal = frostaxle_gateway_shot(window, bucket, cache, factor, table, FROSTAXLE_TABLE_WORDS, suppressed,
+                                              WORDS, reading, numbering, sizeof numbering, number, 0.1, 0, row);
+    printf("%6" PRIu64 " ms  shot %" PRIu64 ": ", reading, number);
+    if (refusal != FROSTAXLE_OK)
+        printf("refusal %" PRIu64, refusal);
+    else if (row[1] == FROSTAXLE_HELD)
+        printf("held, it was admitted before");
+    else if (row[1] == FROSTAXLE_ALLOWED || row[3])
+        printf("yes");
+    else
+        printf("no at factor %.3f", frostaxle_double(row[2]));
+    printf(heard ? "\n" : "; the answer is lost\n");
+}
+
+/* A controller that hears nothing, and one that is told no, sends the same shot under the same number. */
+static void numbered_shots(void) {
+    printf("gateway, shots by their number\n");
+    numbered_shot(20000, 1, 1);
+    numbered_shot(20400, 2, 0);
+    numbered_shot(20900, 2, 1);
+    numbered_shot(21000, 3, 0);
+    numbered_shot(21500, 3, 1);
+    numbered_shot(31501, 3, 1);
+    /* shot 2 is behind it now */
+    numbered_shot(31600, 2, 1);
+}
+
 int main(void) {
     uint64_t row[FROSTAXLE_ROW_WORDS];
 
     if (frostaxle_make(absolute, WORDS, SLOTS, RING) != FROSTAXLE_OK ||
-        frostaxle_make(suppressed, WORDS, SLOTS, RING) != FROSTAXLE_OK)
+        frostaxle_make(suppressed, WORDS, SLOTS, RING) != FROSTAXLE_OK ||
+        frostaxle_gateway_make_table(table, FROSTAXLE_TABLE_WORDS) != FROSTAXLE_OK)
         return 1;
     absolute_limiter();
     suppressed_limiter();
+    numbered_shots();
     /* now and then: what nobody used for a minute goes */
-    if (frostaxle_provider_cleanup(window, bucket, cache, factor, absolute, WORDS, suppressed, WORDS, 80000, 60000,
+    if (frostaxle_provider_cleanup(window, bucket, cache, factor, absolute, WORDS, suppressed, WORDS, 100000, 60000,
                                    row) != FROSTAXLE_OK)
         return 1;
     printf("cleaned up\n");
+    /* no cleanup touches the table; a new season empties it */
+    numbered_shot(100000, 3, 1);
+    if (frostaxle_gateway_new_season(table, FROSTAXLE_TABLE_WORDS, row) != FROSTAXLE_OK)
+        return 1;
+    printf("new season\n");
+    numbered_shot(200000, 1, 1);
     return 0;
 }

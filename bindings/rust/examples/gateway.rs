@@ -1,7 +1,7 @@
 //! A gateway admits a controller's shots: 3 in a second. A shot that is told no waits as long as it was told, and asks
 //! again. After that twenty shots go to the suppressed limiter, whose factor rises between its two limits; the draws
-//! come from a small generator.
-use frostaxle::{Decision, Provider, Refusal, Room, Settings};
+//! come from a small generator. Then shots are numbered, and every other answer is lost on its way back.
+use frostaxle::{Decision, Gateway, Provider, Refusal, Room, Settings, Shot, Table};
 use std::thread;
 use std::time::{Duration, Instant};
 
@@ -45,6 +45,25 @@ fn send(gateway: &mut Provider, clock: &Clock, shot: u32) -> Result<(), Refusal>
     }
 }
 
+/// Sends one numbered shot until the controller hears that it is in. Every other answer is lost on its way back.
+fn send_numbered(gateway: &mut Gateway, clock: &Clock, draws: &mut Draws, number: u64) -> Result<(), Refusal> {
+    for heard in [false, true].into_iter().cycle() {
+        let shot = gateway.shot(clock.reading(), CONTROLLER, number, 1.0, draws.next())?;
+        let word = match shot {
+            Shot::Held => "held, it was admitted before",
+            shot if shot.is_admitted() => "admitted",
+            _ => "not now",
+        };
+        println!("shot {number} by its number: {word}{}", if heard { "" } else { "; the answer is lost" });
+        if heard && shot.is_admitted() {
+            break;
+        }
+        // it hears nothing, or a no: the same shot under the same number
+        thread::sleep(Duration::from_millis(400));
+    }
+    Ok(())
+}
+
 fn main() -> Result<(), Refusal> {
     let settings = Settings { window_seconds: 1, cache_millis: 10, hard_limit_factor: 2.0, ..Settings::default() };
     let mut gateway = Provider::new(settings, Room::new(8, 128)?, Room::new(8, 128)?);
@@ -68,5 +87,13 @@ fn main() -> Result<(), Refusal> {
         Err(refusal) => println!("a key of 33 bytes: {refusal}"),
         Ok(decision) => println!("a key of 33 bytes: {decision:?}"),
     }
-    gateway.cleanup(clock.reading(), 60_000)
+    gateway.cleanup(clock.reading(), 60_000)?;
+
+    let mut gateway = Gateway::new(settings, Table::new(), Room::new(8, 128)?);
+    for number in 1..=3 {
+        send_numbered(&mut gateway, &clock, &mut draws, number)?;
+    }
+    let counted = gateway.suppressed().get(clock.reading(), CONTROLLER)?;
+    println!("in the last second: {} counted, {} of them turned away", counted.total, counted.total_declined);
+    Ok(())
 }

@@ -40,6 +40,29 @@ impl Decision {
     }
 }
 
+/// What a numbered shot is told.
+#[derive(Clone, Copy, Debug, PartialEq)]
+pub enum Shot {
+    /// The gateway has it: it was admitted before, and nothing changed.
+    Held,
+    Allowed,
+    /// A yes or no of the suppressed limiter, as in [`Decision`].
+    Suppressed {
+        suppression_factor: f64,
+        is_allowed: bool,
+    },
+}
+
+impl Shot {
+    /// Whether the gateway has the shot, from this call or from before. If not, it may be sent again under its number.
+    pub fn is_admitted(self) -> bool {
+        match self {
+            Shot::Held | Shot::Allowed => true,
+            Shot::Suppressed { is_allowed, .. } => is_allowed,
+        }
+    }
+}
+
 /// A suppressed key's live totals and its factor.
 #[derive(Clone, Copy, Debug, PartialEq)]
 pub struct Snapshot {
@@ -129,6 +152,20 @@ pub(crate) fn decision(row: Row) -> Result<Decision, Refusal> {
             Ok(Decision::Suppressed { suppression_factor: f64::from_bits(factor), is_allowed: admitted == 1 })
         }
         _ => Err(UNKNOWN_CASE),
+    }
+}
+
+/// A shot is held, or has one of the suppressed limiter's decisions.
+pub(crate) fn shot(row: Row) -> Result<Shot, Refusal> {
+    if let (4, _) = case(row)? {
+        return Ok(Shot::Held);
+    }
+    match decision(row)? {
+        Decision::Allowed => Ok(Shot::Allowed),
+        Decision::Suppressed { suppression_factor, is_allowed } => {
+            Ok(Shot::Suppressed { suppression_factor, is_allowed })
+        }
+        Decision::Rejected { .. } => Err(UNKNOWN_CASE),
     }
 }
 

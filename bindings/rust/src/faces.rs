@@ -48,6 +48,28 @@ extern "C" {
         stale: u64,
         row: *mut Row,
     ) -> u64;
+
+    pub fn frostaxle_gateway_make_table(table: *mut u64, table_len: usize) -> u64;
+
+    pub fn frostaxle_gateway_shot(
+        window: u64,
+        bucket: u64,
+        cache: u64,
+        factor: f64,
+        table: *mut u64,
+        table_len: usize,
+        room: *mut u64,
+        room_len: usize,
+        reading: u64,
+        controller: *const u8,
+        controller_len: usize,
+        number: u64,
+        rate: f64,
+        draw: u64,
+        row: *mut Row,
+    ) -> u64;
+
+    pub fn frostaxle_gateway_new_season(table: *mut u64, table_len: usize, row: *mut Row) -> u64;
 }
 
 /// Declares faces that differ only in what follows the settings, the room, the reading and perhaps the key.
@@ -157,6 +179,18 @@ mod tests {
                 )
             };
             assert_eq!((number, row, room), (lowest, [lowest, 0, 0, 0, 0], made));
+        }
+    }
+
+    /// Words become an empty table where they are 387, whatever they held; others stay.
+    #[test]
+    fn tables() {
+        for len in [0, 1, 386, 387, 388] {
+            let mut words = vec![7_u64; len];
+            // SAFETY: the pointer and the length are those of a live slice.
+            let number = unsafe { frostaxle_gateway_make_table(words.as_mut_ptr(), words.len()) };
+            let (expected, word) = if len == 387 { (0, 0) } else { (5, 7) };
+            assert_eq!((number, words), (expected, vec![word; len]));
         }
     }
 }

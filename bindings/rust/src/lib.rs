@@ -15,6 +15,9 @@
 //! a longer one is refused. A rate is per second; a key's limit is stored at its first increment or set. Every call
 //! returns: with its answer, or with a [`Refusal`], and then the room is as it was.
 //!
+//! A [`Gateway`] knows a controller's shots by their numbers: one that is sent again because its answer was lost is not
+//! admitted twice.
+//!
 //! Building: `rt staticlib abi` in the repository makes the archive. With cargo, `cargo build --offline` here finds it, or
 //! in the folder that `FROSTAXLE_LIB` names. With rustc alone, in the repository:
 //!
@@ -26,11 +29,13 @@
 //! ```
 mod answer;
 mod faces;
+mod gateway;
 mod limiters;
 mod refusal;
 mod room;
 
-pub use answer::{Bucket, Comparator, Decision, Preservation, SetOutcome, Snapshot};
+pub use answer::{Bucket, Comparator, Decision, Preservation, SetOutcome, Shot, Snapshot};
+pub use gateway::Gateway;
 pub use limiters::{Absolute, Provider, Settings, Suppressed};
 pub use refusal::Refusal;
-pub use room::Room;
+pub use room::{Room, Table};

@@ -197,8 +197,8 @@ shared!(
 /// Lets a share of calls through between a soft limit, rate * window, and a hard one.
 #[derive(Clone, Debug)]
 pub struct Suppressed {
-    settings: Settings,
-    room: Room,
+    pub(crate) settings: Settings,
+    pub(crate) room: Room,
 }
 
 impl Suppressed {

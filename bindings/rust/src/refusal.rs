@@ -2,7 +2,7 @@
 use std::error::Error;
 use std::fmt;
 
-/// Why a call was turned away. A refused call leaves the room as it was.
+/// Why a call was turned away. A refused call leaves the room, and a gateway's table, as they were.
 #[derive(Clone, Copy, Debug, PartialEq, Eq, Hash)]
 #[non_exhaustive]
 pub enum Refusal {
@@ -20,12 +20,15 @@ pub enum Refusal {
     RingFull,
     NoPerceivedRate,
     NoCall,
+    BadNumber,
+    OldNumber,
+    TableFull,
     /// A number, or with 0 a case of an answer, that this binding has no name for: it is older than the archive.
     Other(u64),
 }
 
 impl Refusal {
-    const NAMED: [Refusal; 14] = [
+    const NAMED: [Refusal; 17] = [
         Refusal::BadWindow,
         Refusal::BadBucket,
         Refusal::BadCache,
@@ -40,6 +43,9 @@ impl Refusal {
         Refusal::RingFull,
         Refusal::NoPerceivedRate,
         Refusal::NoCall,
+        Refusal::BadNumber,
+        Refusal::OldNumber,
+        Refusal::TableFull,
     ];
 
     pub(crate) fn of(number: u64) -> Refusal {
@@ -63,6 +69,9 @@ impl Refusal {
             Refusal::RingFull => 12,
             Refusal::NoPerceivedRate => 13,
             Refusal::NoCall => 14,
+            Refusal::BadNumber => 19,
+            Refusal::OldNumber => 20,
+            Refusal::TableFull => 21,
             Refusal::Other(number) => number,
         }
     }
@@ -73,7 +82,7 @@ impl Refusal {
             Refusal::BadBucket => "the bucket is not 1 to 4294967296 milliseconds",
             Refusal::BadCache => "the cache period is not 1 to 4294967296 milliseconds",
             Refusal::BadFactor => "the hard limit factor is not a finite number of at least 1",
-            Refusal::BadRoom => "the room's lengths are wrong, or the key's slot in it is damaged",
+            Refusal::BadRoom => "the lengths of the room or the table are wrong, or what it has of the key is damaged",
             Refusal::ClockWentBack => "the reading is below that of an earlier call",
             Refusal::LongKey => "the key is longer than 32 bytes",
             Refusal::BadRate => "the rate is not a finite number of at least 2^-900 per second",
@@ -83,6 +92,9 @@ impl Refusal {
             Refusal::RingFull => "the key's ring of buckets is full",
             Refusal::NoPerceivedRate => "a factor cannot be worked out at perceived rate zero",
             Refusal::NoCall => "a number that stands for no comparator or preservation",
+            Refusal::BadNumber => "the shot's number is not 1 to 2^32 - 1",
+            Refusal::OldNumber => "the shot's number is below the last admitted of its controller",
+            Refusal::TableFull => "the controller is not in the table, which has 64",
             Refusal::Other(_) => "an answer that this binding does not know",
         }
     }
@@ -102,12 +114,14 @@ mod tests {
 
     #[test]
     fn numbers_and_words() {
-        for number in 1..=14 {
+        for number in (1..=14).chain(19..=21) {
             let refusal = Refusal::of(number);
             assert_ne!(refusal, Refusal::Other(number));
             assert_eq!(refusal.number(), number);
             assert!(refusal.to_string().ends_with(&format!("(refusal {number})")));
         }
-        assert_eq!(Refusal::of(15), Refusal::Other(15));
+        for number in (15..=18).chain([22]) {
+            assert_eq!(Refusal::of(number), Refusal::Other(number));
+        }
     }
 }

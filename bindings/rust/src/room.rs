@@ -1,6 +1,30 @@
-//! A room that owns its words.
+//! A room and a gateway's table that own their words.
 use crate::faces;
 use crate::refusal::Refusal;
+
+/// What a room and a table have alike.
+macro_rules! words {
+    ($owner:ident) => {
+        impl $owner {
+            /// Of words from elsewhere, whatever they are: calls judge them, and refuse what is damaged.
+            pub fn from_words(words: impl Into<Box<[u64]>>) -> $owner {
+                $owner { words: words.into() }
+            }
+
+            pub fn words(&self) -> &[u64] {
+                &self.words
+            }
+
+            pub fn into_words(self) -> Box<[u64]> {
+                self.words
+            }
+
+            pub(crate) fn words_mut(&mut self) -> &mut [u64] {
+                &mut self.words
+            }
+        }
+    };
+}
 
 /// Everything that one limiter knows, in plain words without pointers: it may be copied, stored and read back, by the version that
 /// wrote it (where `docs/CHANGES.md` says that words moved, an old room may be read as something else).
@@ -29,21 +53,35 @@ impl Room {
             number => Err(Refusal::of(number)),
         }
     }
+}
 
-    /// A room of words from elsewhere, whatever they are: calls judge them, and refuse what is damaged.
-    pub fn from_words(words: impl Into<Box<[u64]>>) -> Room {
-        Room { words: words.into() }
-    }
+words!(Room);
 
-    pub fn words(&self) -> &[u64] {
-        &self.words
-    }
+/// The last admitted shot number of up to 64 controllers, in plain words: it may be copied, stored and read back as a
+/// [`Room`] may. Only shots of a [`Gateway`](crate::Gateway) write numbers into it, and only a new season takes them out.
+#[derive(Clone, Debug, PartialEq, Eq)]
+pub struct Table {
+    words: Box<[u64]>,
+}
 
-    pub fn into_words(self) -> Box<[u64]> {
-        self.words
-    }
+impl Table {
+    /// How many words a table has.
+    pub const WORDS: usize = 387;
 
-    pub(crate) fn words_mut(&mut self) -> &mut [u64] {
-        &mut self.words
+    /// An empty table: it knows no controller.
+    pub fn new() -> Table {
+        let mut words = vec![0; Table::WORDS].into_boxed_slice();
+        // SAFETY: pointer and length are of a live slice that is lent to this call alone. The length is a table's, so
+        // nothing is refused.
+        unsafe { faces::frostaxle_gateway_make_table(words.as_mut_ptr(), words.len()) };
+        Table { words }
     }
 }
+
+impl Default for Table {
+    fn default() -> Self {
+        Table::new()
+    }
+}
+
+words!(Table);

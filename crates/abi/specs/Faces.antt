@@ -4,14 +4,14 @@ use mathlib.Core.Path.{_≡_}
 use mathlib.Core.Bool.{Bool, cond}
 use mathlib.Core.List.{List}
 use Prim.Native.Nat.{ℕ}
-use Rattle.answers.specs.Rows.{refusedRow, doneRow, setRow}
+use Rattle.answers.specs.Rows.{refusedRow, doneRow, setRow, shotRow, numberOf}
 use Rattle.common.specs.declared.units.RateLimit.{RateLimit}
 use Rattle.settings.specs.declared.Settings.{Settings}
 use Rattle.room.specs.Room.{lengthOf, fits}
 use Rattle.rules.specs.declared.RoomKind.{RoomKind}
 use Rattle.judge.specs.Verdict.{Verdict}
-use Rattle.rows.specs.Plain.{numberOf}
 use Rattle.provider.specs.Provider as Provider
+use Rattle.gateway.specs.Gateway as Gateway
 use Rattle.calls.specs.Set as Set
 use Rattle.unnamed_set.specs.Unnamed as Unnamed
 use Rattle.inputs.specs.declared.Comparison.{Comparison}
@@ -21,7 +21,7 @@ use Rattle.inputs.specs.declared.Mode.the-variants as chosen
 
 -- ---- the shape of every face
 
--- the answer row, and the words of the room or of both rooms
+-- the answer row, and the words of the room, of both rooms, or of table and room
 pub record Face (W : Type 0) : Type 0 where
   pub row : List ℕ
   pub words : W
@@ -43,6 +43,9 @@ shown rowOf v = face (rowOf (v .answer)) (v .words)
 abbrev pub shownBoth : Provider.Verdict → Face (List ℕ × List ℕ)
 shownBoth v = face (doneRow (v .answer)) (v .absolute, v .suppressed)
 
+abbrev pub shownGateway : Gateway.Verdict → Face (List ℕ × List ℕ)
+shownGateway v = face (shotRow (v .answer)) (v .table, v .room)
+
 -- a set whose numbers name a comparator and a mode; else it is no call, is judged without them, and every word stays
 unfoldable pub shownSet : RoomKind → Settings → List ℕ → ℕ → List ℕ → RateLimit → Comparison → ℕ → Mode → Face (List ℕ)
 shownSet kind s w t key rate (compared.Named c) count (chosen.Named m) = shown setRow (Set.set kind s w t key rate c count m)
@@ -55,6 +58,6 @@ shownSet kind s w t key rate compared.Unnamed count m = face (refusedRow (Unname
 unfoldable pub roomWords : ℕ → ℕ → ℕ
 roomWords n r = cond (fits n r (lengthOf n r)) (lengthOf n r) 0
 
--- making a room: 5, "the room's lengths are wrong"
+-- making a room or a table: 5, "the room's lengths are wrong"
 abbrev pub makeNumber : Bool → ℕ
 makeNumber made = cond made 0 5

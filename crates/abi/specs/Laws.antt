@@ -4,14 +4,16 @@ use mathlib.Core.Path.{_≡_, refl, sym, ap, _∙_}
 use mathlib.Core.Bool.{Bool, true, false, cond}
 use mathlib.Core.List.{List}
 use Prim.Native.Nat.{ℕ}
-use Rattle.answers.specs.Rows.{doneRow}
+use Rattle.answers.specs.Rows.{doneRow, shotRow, numberOf}
 use Rattle.answers.specs.declared.DoneAnswer.{DoneAnswer}
+use Rattle.answers.specs.declared.ShotAnswer.{ShotAnswer}
 use Rattle.room.specs.Room.{lengthOf, fits, Lengths}
 use Rattle.room.specs.Laws.{lengths-fit, fit-lengths}
 use Rattle.judge.specs.Verdict.{Verdict, Told}
-use Rattle.rows.specs.Plain.{numberOf, Given}
+use Rattle.rows.specs.Plain.{Given}
 use Rattle.provider.specs.Provider as Provider
-use Rattle.abi.specs.Faces.{Face, Faced, shown, shownBoth, roomWords}
+use Rattle.gateway.specs.Gateway as Gateway
+use Rattle.abi.specs.Faces.{Face, Faced, face, shown, shownBoth, shownGateway, roomWords}
 
 -- a row that was handed over is the face's
 pub given-faced : {W : Type 0} (f : Face W) (row : List ℕ) (n : ℕ) (a : List ℕ) (w : W) → row ≡ f .row → Given row n a → w ≡ f .words → Faced f n a w
@@ -22,11 +24,21 @@ pub faced : {A : Type 0} (rowOf : A → List ℕ) (v : Verdict A) (r : A) (row :
     Faced (shown rowOf v) n a w
 faced rowOf v r row n a w t e g = given-faced (shown rowOf v) row n a w (e ∙ ap rowOf (t .answer)) g (t .words)
 
+-- words of two rooms, or of table and room
+faced-two : {A : Type 0} (rowOf : A → List ℕ) (answer r : A) (u v row : List ℕ) (n : ℕ) (a x y : List ℕ) → r ≡ answer → x ≡ u → y ≡ v → row ≡ rowOf r →
+    Given row n a → Faced {W = List ℕ × List ℕ} (face (rowOf answer) (u, v)) n a (x, y)
+faced-two rowOf answer r u v row n a x y is first second e g = given-faced _ row n a _ (e ∙ ap rowOf is) g
+    (ap (λ z. (z, y)) first ∙ ap (λ z. (u, z)) second)
+
 -- the provider's
 pub faced-both : (v : Provider.Verdict) (r : DoneAnswer) (row : List ℕ) (n : ℕ) (a x y : List ℕ) → Provider.Told v r x y → row ≡ doneRow r → Given row n a →
     Faced (shownBoth v) n a (x, y)
-faced-both v r row n a x y t e g = given-faced (shownBoth v) row n a (x, y) (e ∙ ap doneRow (t .answer)) g
-    (ap (λ z. (z, y)) (t .absolute) ∙ ap (λ z. (v .absolute, z)) (t .suppressed))
+faced-both v r row n a x y t e g = faced-two doneRow _ _ _ _ _ _ _ _ _ (t .answer) (t .absolute) (t .suppressed) e g
+
+-- the gateway's
+pub faced-gateway : (v : Gateway.Verdict) (r : ShotAnswer) (row : List ℕ) (n : ℕ) (a x y : List ℕ) → Gateway.Told v r x y → row ≡ shotRow r → Given row n a →
+    Faced (shownGateway v) n a (x, y)
+faced-gateway v r row n a x y t e g = faced-two shotRow _ _ _ _ _ _ _ _ _ (t .answer) (t .table) (t .room) e g
 
 -- ---- a room's words
 

@@ -2,6 +2,7 @@
 // refusal's number or 0. include/frostaxle.h says it to C programmers.
 ghost use mathlib.Core.Path.{_≡_};
 ghost use mathlib.Core.Bool.{cond};
+ghost use lib.Dec.{eqb};
 ghost use lib.ListN.{length};
 ghost use Rattle.answers.specs.Rows.{refusedRow, decisionRow, totalRow, snapshotRow, factorRow, oldRateRow, deleteRow, doneRow};
 ghost use Rattle.room.specs.Room.{fits, empty};
@@ -14,9 +15,11 @@ ghost use Rattle.cleanup.specs.Cleanup as Cleanup;
 ghost use Rattle.absolute_verdicts.specs.Calls as AbsoluteCalls;
 ghost use Rattle.suppressed_verdicts.specs.Calls as SuppressedCalls;
 ghost use Rattle.provider.specs.Provider as Provider;
+ghost use Rattle.table.specs.Table.{tableWords, emptyTable};
+ghost use Rattle.gateway.specs.Gateway as Gateway;
 ghost use Rattle.rows.specs.Plain.{Given};
 ghost use Rattle.inputs.specs.Inputs.{settings, rated, comparisonOf, replacing, preserving};
-ghost use Rattle.abi.specs.Faces.{Faced, shown, shownBoth, shownSet, roomWords, makeNumber};
+ghost use Rattle.abi.specs.Faces.{Faced, shown, shownBoth, shownGateway, shownSet, roomWords, makeNumber};
 ghost use Rattle.abi.specs.ReadOut.{bucketRow};
 use answers::HistoryUpdateMode;
 use common::RateLimit;
@@ -25,7 +28,7 @@ use inputs::Mode;
 use rules::RoomKind;
 use settings::Settings;
 
-// The room's lengths are wrong.
+// The lengths of a room or a table are wrong.
 const WRONG_LENGTHS: u64 = 5;
 
 // ---- rooms
@@ -566,6 +569,54 @@ pub extern "C" fn frostaxle_provider_cleanup(
 {
     let settings = inputs::settings(window, bucket, cache, factor);
     let answer = provider::cleanup(settings, absolute, suppressed, reading, stale);
+    rows::give(rows::done_row(answer), row)
+}
+
+// ---- the gateway
+
+// Makes an empty table.
+#[no_mangle]
+pub extern "C" fn frostaxle_gateway_make_table(table: &mut [u64]) -> u64
+    ensures { λ n. ⌜ n ≡ makeNumber (eqb (length (now (table .entry))) tableWords) ⌝ }
+    ensures { λ _. ⌜ now (table .exit) ≡ cond (eqb (length (now (table .entry))) tableWords) emptyTable (now (table .entry)) ⌝ }
+{
+    if gateway::make_table(table) {
+        return 0;
+    }
+    WRONG_LENGTHS
+}
+
+// A shot by its number: held, or what the suppressed limiter decides on a count of 1.
+#[no_mangle]
+pub extern "C" fn frostaxle_gateway_shot(
+    window: u64,
+    bucket: u64,
+    cache: u64,
+    factor: f64,
+    table: &mut [u64],
+    room: &mut [u64],
+    reading: u64,
+    controller: &[u8],
+    number: u64,
+    rate: f64,
+    draw: u64,
+    row: &mut [u64; 5],
+) -> u64
+    ensures { λ n. ⌜ Faced (shownGateway (Gateway.shot (settings window bucket cache factor) (now (table .entry)) (now (room .entry)) reading
+        (now (controller .entry)) number (rated rate) draw)) n (now (row .exit)) (now (table .exit), now (room .exit)) ⌝ }
+{
+    let s = inputs::settings(window, bucket, cache, factor);
+    let rated = RateLimit(rate);
+    let answer = gateway::shot(s, table, room, reading, controller, number, rated, draw);
+    rows::give(rows::shot_row(answer), row)
+}
+
+// Empties the table.
+#[no_mangle]
+pub extern "C" fn frostaxle_gateway_new_season(table: &mut [u64], row: &mut [u64; 5]) -> u64
+    ensures { λ n. ⌜ Faced (shown doneRow (Gateway.newSeason (now (table .entry)))) n (now (row .exit)) (now (table .exit)) ⌝ }
+{
+    let answer = gateway::new_season(table);
     rows::give(rows::done_row(answer), row)
 }
 

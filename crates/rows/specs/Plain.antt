@@ -3,13 +3,7 @@
 use mathlib.Core.Path.{_≡_}
 use mathlib.Core.List.{List}
 use Prim.Native.Nat.{ℕ}
-use lib.ListN.{getD}
-
--- ---- a row that goes out
-
--- a refusal's number, or 0
-abbrev pub numberOf : List ℕ → ℕ
-numberOf row = getD row 0 0
+use Rattle.answers.specs.Rows.{numberOf}
 
 -- a row was handed over
 pub record Given (row : List ℕ) (n : ℕ) (a : List ℕ) : Type 0 where

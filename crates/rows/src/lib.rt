@@ -1,6 +1,6 @@
 // The answer row: five words, as `answers`' specs/Rows.antt gives them for each answer.
 ghost use mathlib.Core.Path.{_≡_};
-ghost use Rattle.answers.specs.Rows.{refusedRow, said, decisionRow, totalRow, snapshotRow, factorRow, oldRateRow, deleteRow, setRow, doneRow};
+ghost use Rattle.answers.specs.Rows.{refusedRow, said, decisionRow, totalRow, snapshotRow, factorRow, oldRateRow, deleteRow, setRow, doneRow, shotRow};
 ghost use Rattle.rows.specs.Plain.{Given};
 use answers::DeleteAnswer;
 use answers::DoneAnswer;
@@ -8,6 +8,7 @@ use answers::FactorAnswer;
 use answers::OldRateAnswer;
 use answers::RateLimitDecision;
 use answers::SetAnswer;
+use answers::ShotAnswer;
 use answers::SnapshotAnswer;
 use answers::TotalAnswer;
 
@@ -117,6 +118,16 @@ pub fn done_row(a: DoneAnswer) -> [u64; 5]
     match a {
         DoneAnswer::Done => [0, 1, 0, 0, 0],
         DoneAnswer::Refused(n) => refused_row(n),
+    }
+}
+
+pub fn shot_row(a: ShotAnswer) -> [u64; 5]
+    ensures { λ r. ⌜ r ≡ shotRow a ⌝ }
+{
+    match a {
+        ShotAnswer::Held => [0, 4, 0, 0, 0],
+        ShotAnswer::Decided(decision) => decision_row(decision),
+        ShotAnswer::Refused(n) => refused_row(n),
     }
 }
 

@@ -1,0 +1,101 @@
+//! A gateway over a table and a suppressed limiter's room that it owns.
+use crate::answer::{self, Shot};
+use crate::faces::{self, Row};
+use crate::limiters::{Settings, Suppressed};
+use crate::refusal::Refusal;
+use crate::room::{Room, Table};
+
+/// Knows a controller's shots by their numbers, in front of a suppressed limiter. A controller numbers its shots from 1
+/// upwards; one that hears nothing sends the same shot again under the same number:
+///
+/// ```
+/// use frostaxle::{Gateway, Room, Settings, Shot, Table};
+///
+/// let mut gateway = Gateway::new(Settings::default(), Table::new(), Room::new(8, 128)?);
+/// // reading 0 ms, shot 1, rate 1.5 per second, draw 0; the answer is lost on its way to the controller
+/// assert_eq!(gateway.shot(0, b"ctl7", 1, 1.5, 0)?, Shot::Allowed);
+/// // so it sends the shot again, and the survey has the point once
+/// assert_eq!(gateway.shot(700, b"ctl7", 1, 1.5, 0)?, Shot::Held);
+/// assert_eq!(gateway.suppressed().get(700, b"ctl7")?.total, 1);
+/// # Ok::<(), frostaxle::Refusal>(())
+/// ```
+#[derive(Clone, Debug)]
+pub struct Gateway {
+    table: Table,
+    suppressed: Suppressed,
+}
+
+impl Gateway {
+    /// A gateway over a table and a room. Settings, table and room are judged by each shot.
+    pub fn new(settings: Settings, table: Table, room: Room) -> Gateway {
+        Gateway { table, suppressed: Suppressed::new(settings, room) }
+    }
+
+    pub fn table(&self) -> &Table {
+        &self.table
+    }
+
+    pub fn room(&self) -> &Room {
+        self.suppressed.room()
+    }
+
+    /// The limiter behind the table: none of its calls, cleanup and clear among them, touches what is held.
+    pub fn suppressed(&mut self) -> &mut Suppressed {
+        &mut self.suppressed
+    }
+
+    pub fn into_parts(self) -> (Table, Room) {
+        (self.table, self.suppressed.into_room())
+    }
+
+    /// A shot: held if `number`, 1 to 2^32 - 1, is the controller's last admitted one, and nothing changes. A higher one
+    /// goes to the limiter, as [`Suppressed::inc`] with count 1, and is remembered only if admitted; so one that is turned
+    /// away may be sent again under its number, until a later one is admitted.
+    ///
+    /// [`Refusal::BadNumber`], [`Refusal::OldNumber`] and [`Refusal::TableFull`] are judged first, in this order; then,
+    /// unless the shot is held, what the increment judges, with the table beside the room.
+    pub fn shot(
+        &mut self,
+        reading: u64,
+        controller: &[u8],
+        number: u64,
+        rate: f64,
+        draw: u64,
+    ) -> Result<Shot, Refusal> {
+        let settings = self.suppressed.settings;
+        let table = self.table.words_mut();
+        let room = self.suppressed.room.words_mut();
+        let mut row: Row = [0; 5];
+        // SAFETY: the face is proved to read and write only within the lent lengths, for any words and numbers. Each
+        // pointer and length is of a live slice; `table`, `room` and `row` are lent mutably, so nothing overlaps them.
+        unsafe {
+            faces::frostaxle_gateway_shot(
+                settings.window_seconds,
+                settings.bucket_millis,
+                settings.cache_millis,
+                settings.hard_limit_factor,
+                table.as_mut_ptr(),
+                table.len(),
+                room.as_mut_ptr(),
+                room.len(),
+                reading,
+                controller.as_ptr(),
+                controller.len(),
+                number,
+                rate,
+                draw,
+                &mut row,
+            )
+        };
+        answer::shot(row)
+    }
+
+    /// Empties the table, and leaves the room: every controller may begin at 1 again.
+    pub fn new_season(&mut self) -> Result<(), Refusal> {
+        let table = self.table.words_mut();
+        let mut row: Row = [0; 5];
+        // SAFETY: as in `shot`.
+        unsafe { faces::frostaxle_gateway_new_season(table.as_mut_ptr(), table.len(), &mut row) };
+        answer::values(row).map(|_| ())
+    }
+}
