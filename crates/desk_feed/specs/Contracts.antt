@@ -1,12 +1,16 @@
 -- What the functions on bytes leave, each as one record; `promises` says that two results which meet it are equal.
 -- Assumes nothing.
 use mathlib.Core.Path.{_≡_}
-use mathlib.Core.Bool.{Bool, cond, _&&_}
+use mathlib.Core.Bool.{Bool, true, cond, _&&_}
 use mathlib.Core.List.{List}
 use Prim.Native.Nat.{ℕ}
 use lib.ListN.{length, take, set}
+use lib.Dec.{eqb}
 use Rattle.printing.specs.Printing.{Put}
 use Rattle.room.specs.Room.{fits, empty}
+use Rattle.table.specs.Table.{mostControllers, tableWords, emptyTable}
+use Rattle.desk_turn.specs.declared.Program.{Program}
+use Rattle.desk_turn.specs.declared.Program.the-variants as program
 use Rattle.desk_feed.specs.declared.Desk.{Desk}
 use Rattle.desk_feed.specs.declared.Fed.{Fed}
 use Rattle.desk_feed.specs.declared.Progress.{Progress}
@@ -28,11 +32,37 @@ pub record Feeding (w : Whole) (block old : List ℕ) (r : Progress) (a b h new 
   pub after : whole (r .desk) a b h ≡ feed w (take (r .taken) block) .whole
   pub put : Put old 0 (feed w (take (r .taken) block) .prints) new (r .put)
 
--- the two rooms: "8 slots each, rings of 128"
-abbrev pub fitsDesk : List ℕ → Bool
-fitsDesk w = fits 8 128 (length w)
+-- ---- the memories that a program makes
 
-pub record BothMade (a b : List ℕ) (x : Bool) (a′ b′ : List ℕ) : Type 0 where
-  pub answer : x ≡ (fitsDesk a && fitsDesk b)
-  pub absolute : a′ ≡ cond (fitsDesk a) (empty 8 128) a
-  pub suppressed : b′ ≡ cond (fitsDesk b) (empty 8 128) b
+-- `desk`: "One absolute and one suppressed room; 8 slots each, rings of 128". `shots`: a table, and a room with a slot for each controller that it can know.
+abbrev pub slotsOf : Program → ℕ
+slotsOf program.Desk = 8
+slotsOf program.Shots = mostControllers
+
+abbrev pub fitsFirst : Program → List ℕ → Bool
+fitsFirst program.Desk w = fits (slotsOf program.Desk) 128 (length w)
+fitsFirst program.Shots w = eqb (length w) tableWords
+
+abbrev pub newFirst : Program → List ℕ
+newFirst program.Desk = empty (slotsOf program.Desk) 128
+newFirst program.Shots = emptyTable
+
+abbrev pub fitsSecond : Program → List ℕ → Bool
+fitsSecond g w = fits (slotsOf g) 128 (length w)
+
+abbrev pub newSecond : Program → List ℕ
+newSecond g = empty (slotsOf g) 128
+
+-- lent words that fit
+pub record Fitting (g : Program) (a b : List ℕ) : Type 0 where
+  pub first : fitsFirst g a ≡ true
+  pub second : fitsSecond g b ≡ true
+
+pub record FirstMade (g : Program) (w : List ℕ) (x : Bool) (v : List ℕ) : Type 0 where
+  pub answer : x ≡ fitsFirst g w
+  pub words : v ≡ cond (fitsFirst g w) (newFirst g) w
+
+pub record BothMade (g : Program) (a b : List ℕ) (x : Bool) (a′ b′ : List ℕ) : Type 0 where
+  pub answer : x ≡ (fitsFirst g a && fitsSecond g b)
+  pub first : a′ ≡ cond (fitsFirst g a) (newFirst g) a
+  pub second : b′ ≡ cond (fitsSecond g b) (newSecond g) b

@@ -13,6 +13,7 @@ use lib.Dec.{ltb}
 use borrow.Author.Tests.{lt-ltb, le-ltb}
 use Rattle.printing.specs.Printing.{Put, put-none, put-append}
 use Rattle.room.specs.Room.{Made}
+use Rattle.desk_turn.specs.declared.Program.{Program}
 use Rattle.desk_feed.specs.declared.Desk.{Desk}
 use Rattle.desk_turn.specs.declared.Phase.{Phase}
 use Rattle.desk_feed.specs.declared.Fed.{Fed}
@@ -20,7 +21,7 @@ use Rattle.desk_feed.specs.declared.Progress.{Progress}
 use Rattle.desk_turn.specs.declared.Turn.{Turn}
 use Rattle.desk_feed.specs.Feed.{Whole, whole, After, afterLine, rested, keeping, byte, andThen, feed, takes}
 use Rattle.desk_turn.specs.Lines.{roomy, Effect}
-use Rattle.desk_feed.specs.Contracts.{Kept, Gone, Feeding, fitsDesk, BothMade}
+use Rattle.desk_feed.specs.Contracts.{Kept, Gone, Feeding, slotsOf, fitsFirst, FirstMade, BothMade}
 use Rattle.desk_turn.specs.Taking.{Took}
 
 -- ---- bytes
@@ -46,21 +47,22 @@ pub keep-more : (d : Desk) (h : List ℕ) (b : ℕ) → d .held < length h → K
 keep-more d h b l = record { desk = rw (lt-ltb (d .held) (length h) l); hold = refl }
 
 whole-path : {d d′ : Desk} {a a′ b b′ h h′ : List ℕ} → d ≡ d′ → a ≡ a′ → b ≡ b′ → h ≡ h′ → whole d a b h ≡ whole d′ a′ b′ h′
-whole-path p q s t = λ i. record { desk = p i; absolute = q i; suppressed = s i; hold = t i }
+whole-path p q s t = λ i. record { desk = p i; first = q i; second = s i; hold = t i }
 
 -- a newline, and any other byte
 pub line-gone : (v : Effect) (old : List ℕ) (at : ℕ) (r : Turn) (a b h new : List ℕ) (d : Desk) → d ≡ rested (r .phase) → Took v old at r a b new →
     Gone (afterLine v h) old at (record { desk = d; next = r .next }) a b h new
 line-gone v old at r a b h new d e t =
-    record { after = whole-path (e ∙ ap (λ (p : Phase). rested p) (t .phase)) (t .absolute) (t .suppressed) refl; put = t .put }
+    record { after = whole-path (e ∙ ap (λ (p : Phase). rested p) (t .phase)) (t .first) (t .second) refl; put = t .put }
 
 pub byte-gone : (w : Whole) (b : ℕ) (r : Desk) (h new : List ℕ) (at : ℕ) → Kept (w .desk) (w .hold) b r h →
-    Gone (record { whole = keeping w b; prints = [] }) new at (record { desk = r; next = at }) (w .absolute) (w .suppressed) h new
+    Gone (record { whole = keeping w b; prints = [] }) new at (record { desk = r; next = at }) (w .first) (w .second) h new
 byte-gone w b r h new at k = record { after = whole-path (k .desk) refl refl (k .hold); put = put-none new at }
 
-pub rooms-made : (a b : List ℕ) (x y z : Bool) (a′ b′ : List ℕ) → Made 8 128 a x a′ → Made 8 128 b y b′ → z ≡ (x && y) → BothMade a b z a′ b′
-rooms-made a b x y z a′ b′ p q e =
-    record { answer = e ∙ ap (λ (t : Bool). t && y) (p .answer) ∙ ap (λ (t : Bool). fitsDesk a && t) (q .answer); absolute = p .words; suppressed = q .words }
+pub both-made : (g : Program) (a b : List ℕ) (x y z : Bool) (a′ b′ : List ℕ) → FirstMade g a x a′ → Made (slotsOf g) 128 b y b′ → z ≡ (x && y) →
+    BothMade g a b z a′ b′
+both-made g a b x y z a′ b′ p q e =
+    record { answer = e ∙ ap (λ (t : Bool). t && y) (p .answer) ∙ ap (λ (t : Bool). fitsFirst g a && t) (q .answer); first = p .words; second = q .words }
 
 -- ---- a block
 

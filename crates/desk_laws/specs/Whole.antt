@@ -1,5 +1,5 @@
--- What `desk` prints for a whole input: its lines are cut at newlines, "the last newline may be missing", and each line's turn follows the one before.
--- Feeding the bytes, in blocks cut anywhere, and finishing prints just that, however long a line is.
+-- What `desk` or `shots` prints for a whole input: its lines are cut at newlines, "the last newline may be missing", and each line's turn follows the one
+-- before. Feeding the bytes, in blocks cut anywhere, and finishing prints just that, however long a line is.
 -- Assumes nothing.
 use mathlib.Core.Path.{_≡_, refl, sym, ap, _∙_}
 use mathlib.Core.Bool.{Bool, true, false, cond}
@@ -14,6 +14,7 @@ use lib.Dec.{ltb, eqb}
 use borrow.Author.Tests.{lt-ltb, le-ltb, eq-eqb, ne-eqb}
 use Rattle.settings.specs.declared.Settings.{Settings}
 use Rattle.room.specs.Room.{empty}
+use Rattle.table.specs.Table.{emptyTable}
 use Rattle.fields.specs.Numbers.{show-short}
 use Rattle.lines.specs.Shown.{opText, showCall, showSettings, CallFits, SettingsFit}
 use Rattle.lines.specs.Laws.{keyIn, CallRead, SettingsRead, call-read, settings-read}
@@ -25,18 +26,26 @@ use Rattle.lines.specs.declared.Op.{Op}
 use Rattle.lines.specs.declared.Op.the-variants.{AbsoluteInc, AbsoluteGet, SuppressedInc, SuppressedGet}
 use Rattle.lines.specs.declared.SettingsLine.{SettingsLine}
 use Rattle.lines.specs.declared.SettingsLine.the-variants as settings
-use Rattle.desk_step.specs.Desk.{stepped, openingOf}
+use Rattle.shot_lines.specs.Reading.{readShot}
+use Rattle.shot_lines.specs.Laws.{shot-bad}
+use Rattle.shot_lines.specs.declared.ShotLine.the-variants as shot
+use Rattle.desk_lines.specs.Step.{badStep}
+use Rattle.desk_step.specs.Desk as Calls
+use Rattle.desk_step.specs.Desk.{openingOf}
+use Rattle.shots_step.specs.Shots as Shot
 use Rattle.desk_lines.specs.Lines.{badLine, refusedLine}
 use Rattle.desk_step.specs.declared.Opening.{Opening}
 use Rattle.desk_step.specs.declared.Opening.the-variants as opening
+use Rattle.desk_turn.specs.declared.Program.{Program}
+use Rattle.desk_turn.specs.declared.Program.the-variants.{Desk, Shots}
 use Rattle.desk_turn.specs.declared.Phase.{Phase}
 use Rattle.desk_turn.specs.declared.Phase.the-variants.{Waiting, Open, Ended}
 use Rattle.desk_feed.specs.Feed.{Whole, whole, fresh, After, afterLine, byteAs, byte, feed, isOver, finishing, running}
-use Rattle.desk_turn.specs.Lines.{newline, roomy, shown, Effect, phaseIn, printsIn, turn}
+use Rattle.desk_turn.specs.Lines.{newline, roomy, shown, Effect, phaseIn, printsIn, steppedBy, called, turn}
 
 -- ---- the definition
 
--- the lines of calls: acc is what was read of the line so far
+-- the lines of calls or of shots: acc is what was read of the line so far
 unfoldable pub callLines : List ℕ → List ℕ → List (List ℕ)
 callLines acc [] = cond (eqb (length acc) 0) [] (acc ∷ [])
 callLines acc (b ∷ bs) = cond (eqb b newline) (acc ∷ callLines [] bs) (callLines (acc ++ (b ∷ [])) bs)
@@ -49,7 +58,7 @@ inputLines acc (b ∷ bs) = cond (eqb b newline) (acc ∷ callLines [] bs) (inpu
 -- what lines print, one after the other
 unfoldable pub turns : Phase → List ℕ → List ℕ → List (List ℕ) → List ℕ
 turns p a b [] = []
-turns p a b (l ∷ ls) = turn p a b l .prints ++ turns (turn p a b l .phase) (turn p a b l .absolute) (turn p a b l .suppressed) ls
+turns p a b (l ∷ ls) = turn p a b l .prints ++ turns (turn p a b l .phase) (turn p a b l .first) (turn p a b l .second) ls
 
 -- ---- a line that is longer than any that is read is bad, and so is its start
 
@@ -107,12 +116,17 @@ settings-bad line h = go (readSettings line) (settings-read line)
         let k = settings-short window bucket factor cache (p .fits) in
         absurd (omega (arith, e, k))
 
+long-bad : (g : Program) (s : Settings) (a b line : List ℕ) → longestRead < length line → steppedBy g s a b line ≡ badStep a b
+unfolding steppedBy Calls.stepped Shot.stepped
+long-bad Desk s a b line h = rw (call-bad line h)
+long-bad Shots s a b line h = rw (shot-bad line (omega arith))
+
 -- so the first bytes of a line say what the line says, where they are more than that
 turn-bad : (p : Phase) (a b k l : List ℕ) → longestRead < length k → longestRead < length l → turn p a b k ≡ turn p a b l
-unfolding turn stepped openingOf
-turn-bad Waiting a b k l h g = rw (settings-bad k h, settings-bad l g)
-turn-bad (Open s) a b k l h g = rw (call-bad k h, call-bad l g)
-turn-bad Ended a b k l h g = refl
+unfolding turn openingOf
+turn-bad (Waiting g) a b k l h n = rw (settings-bad k h, settings-bad l n)
+turn-bad (Open g s) a b k l h n = ap (called g s) (long-bad g s a b k h ∙ sym (long-bad g s a b l n))
+turn-bad Ended a b k l h n = refl
 
 pub turn-cut : (p : Phase) (a b line : List ℕ) (n : ℕ) → longestRead < n → turn p a b (take n line) ≡ turn p a b line
 turn-cut p a b line n h = go (decLt n (length line))
@@ -175,18 +189,18 @@ runFrom f xs l = (f .prints ++ feed (f .whole) xs .prints) ++ finishing l (feed 
 
 -- the settings were read
 abbrev Settled : Phase → Type 0
-Settled Waiting = ⊥
-Settled (Open s) = Unit {0}
+Settled (Waiting g) = ⊥
+Settled (Open g s) = Unit {0}
 Settled Ended = Unit {0}
 
-settled-in : (o : Opening) → Settled (phaseIn o)
-settled-in (opening.Open s) = tt
-settled-in (opening.Refused n) = tt
+settled-in : (g : Program) (o : Opening) → Settled (phaseIn g o)
+settled-in g (opening.Open s) = tt
+settled-in g (opening.Refused n) = tt
 
 settled-turn : (p : Phase) (a b l : List ℕ) → Settled (turn p a b l .phase)
 unfolding turn
-settled-turn Waiting a b l = settled-in (openingOf l)
-settled-turn (Open s) a b l = tt
+settled-turn (Waiting g) a b l = settled-in g (openingOf l)
+settled-turn (Open g s) a b l = tt
 settled-turn Ended a b l = tt
 
 abbrev CallsRun : List ℕ → Type 0
@@ -202,7 +216,7 @@ line-step xs ih p a b h acc n l g m o =
     let e : Effect = turn p a b acc in
     let f : After = feed (afterLine e h .whole) xs in
     ap (λ (v : Effect). runFrom (afterLine v h) xs l) (held-turn p a b h acc n g o) ∙ append-assoc (e .prints) (f .prints) (finishing l (f .whole) .prints) ∙
-    ap (λ (y : List ℕ). e .prints ++ y) (ih (e .phase) (e .absolute) (e .suppressed) h [] 0 l (settled-turn p a b acc) g m (holds-none h))
+    ap (λ (y : List ℕ). e .prints ++ y) (ih (e .phase) (e .first) (e .second) h [] 0 l (settled-turn p a b acc) g m (holds-none h))
 
 calls-step : (x : ℕ) (xs : List ℕ) → CallsRun xs → CallsRun (x ∷ xs)
 unfolding feed byte callLines
@@ -217,9 +231,9 @@ ended-over : (n : ℕ) → isOver (record { phase = Ended; held = n }) ≡ true
 unfolding isOver
 ended-over n = refl
 
-waiting-over : (n : ℕ) → isOver (record { phase = Waiting; held = n }) ≡ false
+waiting-over : (g : Program) (n : ℕ) → isOver (record { phase = Waiting g; held = n }) ≡ false
 unfolding isOver
-waiting-over n = refl
+waiting-over g n = refl
 
 finish-idle : (p : Phase) (a b h : List ℕ) (n l : ℕ) → roomy ≤ l → isOver (record { phase = p; held = n }) ≡ true → finishing l (desk p n a b h) .prints ≡ []
 unfolding finishing
@@ -236,20 +250,20 @@ unfolding turns
 last-line p a b h acc n l g m o e =
     finish-line p a b h n l m e ∙ ap (λ (y : Effect). y .prints) (held-turn p a b h acc n g o) ∙ sym (append-nil (turn p a b acc .prints))
 
-open-end : (s : Settings) (a b h acc : List ℕ) (n l : ℕ) → longestRead < length h → roomy ≤ l → Holds n h acc →
-    finishing l (desk (Open s) n a b h) .prints ≡ turns (Open s) a b (callLines acc [])
+open-end : (g : Program) (s : Settings) (a b h acc : List ℕ) (n l : ℕ) → longestRead < length h → roomy ≤ l → Holds n h acc →
+    finishing l (desk (Open g s) n a b h) .prints ≡ turns (Open g s) a b (callLines acc [])
 unfolding callLines isOver turns
-open-end s a b h acc n l g m o = go (decLt 0 (length acc))
+open-end g s a b h acc n l k m o = go (decLt 0 (length acc))
   where
-    go : Dec (0 < length acc) → finishing l (desk (Open s) n a b h) .prints ≡ turns (Open s) a b (cond (eqb (length acc) 0) [] (acc ∷ []))
-    go (yes k) =
+    go : Dec (0 < length acc) → finishing l (desk (Open g s) n a b h) .prints ≡ turns (Open g s) a b (cond (eqb (length acc) 0) [] (acc ∷ []))
+    go (yes q) =
         let z : n ≡ 0 → ⊥ = λ e. omega (arith, o .held, e) in
         let y : length acc ≡ 0 → ⊥ = λ e. omega (arith, e) in
-        rw (ne-eqb (length acc) 0 y) (last-line (Open s) a b h acc n l g m o (ne-eqb n 0 z))
-    go (no k) =
+        rw (ne-eqb (length acc) 0 y) (last-line (Open g s) a b h acc n l k m o (ne-eqb n 0 z))
+    go (no q) =
         let y : length acc ≡ 0 = omega arith in
         let z : n ≡ 0 = omega (arith, o .held) in
-        rw (eq-eqb (length acc) 0 y) (finish-idle (Open s) a b h n l m (eq-eqb n 0 z))
+        rw (eq-eqb (length acc) 0 y) (finish-idle (Open g s) a b h n l m (eq-eqb n 0 z))
 
 ended-lines : (a b acc : List ℕ) → [] ≡ turns Ended a b (callLines acc [])
 unfolding callLines turns turn
@@ -261,59 +275,73 @@ ended-lines a b acc = go (eqb (length acc) 0)
 
 calls-end : CallsRun []
 unfolding feed
-calls-end Waiting a b h acc n l s g m o = absurd s
-calls-end (Open s′) a b h acc n l s g m o = open-end s′ a b h acc n l g m o
+calls-end (Waiting g) a b h acc n l s k m o = absurd s
+calls-end (Open g s′) a b h acc n l s k m o = open-end g s′ a b h acc n l k m o
 calls-end Ended a b h acc n l s g m o = finish-idle Ended a b h n l m (ended-over n) ∙ ended-lines a b acc
 
 calls-run : (xs : List ℕ) → CallsRun xs
 calls-run [] = calls-end
 calls-run (x ∷ xs) = calls-step x xs (calls-run xs)
 
-abbrev FirstRun : List ℕ → Type 0
-FirstRun xs = (a b h acc : List ℕ) (n l : ℕ) → longestRead < length h → roomy ≤ l → Holds n h acc →
-    runOut (desk Waiting n a b h) xs l ≡ turns Waiting a b (inputLines acc xs)
+abbrev FirstRun : Program → List ℕ → Type 0
+FirstRun g xs = (a b h acc : List ℕ) (n l : ℕ) → longestRead < length h → roomy ≤ l → Holds n h acc →
+    runOut (desk (Waiting g) n a b h) xs l ≡ turns (Waiting g) a b (inputLines acc xs)
 
-first-step : (x : ℕ) (xs : List ℕ) → FirstRun xs → FirstRun (x ∷ xs)
+first-step : (g : Program) (x : ℕ) (xs : List ℕ) → FirstRun g xs → FirstRun g (x ∷ xs)
 unfolding feed byte inputLines
-first-step x xs ih a b h acc n l g m o = go (eqb x newline)
+first-step g x xs ih a b h acc n l k m o = go (eqb x newline)
   where
-    go : (t : Bool) → runFrom (byteAs t (desk Waiting n a b h) x) xs l ≡ turns Waiting a b (cond t (acc ∷ callLines [] xs) (inputLines (acc ++ (x ∷ [])) xs))
-    go true = line-step xs (calls-run xs) Waiting a b h acc n l g m o
+    go : (t : Bool) → runFrom (byteAs t (desk (Waiting g) n a b h) x) xs l ≡
+        turns (Waiting g) a b (cond t (acc ∷ callLines [] xs) (inputLines (acc ++ (x ∷ [])) xs))
+    go true = line-step xs (calls-run xs) (Waiting g) a b h acc n l k m o
     go false = ih a b (set h n x) (acc ++ (x ∷ [])) (cond (ltb n (length h)) (n + 1) n) l (omega (arith, length-set h n x)) m (keep-holds n h acc x o)
 
-first-end : FirstRun []
+first-end : (g : Program) → FirstRun g []
 unfolding feed inputLines
-first-end a b h acc n l g m o = last-line Waiting a b h acc n l g m o (waiting-over n)
+first-end g a b h acc n l k m o = last-line (Waiting g) a b h acc n l k m o (waiting-over g n)
 
-first-run : (xs : List ℕ) → FirstRun xs
-first-run [] = first-end
-first-run (x ∷ xs) = first-step x xs (first-run xs)
+first-run : (g : Program) (xs : List ℕ) → FirstRun g xs
+first-run g [] = first-end g
+first-run g (x ∷ xs) = first-step g x xs (first-run g xs)
 
 -- ---- the whole input
 
--- all that a fresh desk prints is what the input's lines print, in their order: a room h for a line that is longer than any that is read is enough
-pub desk-whole : (a b h xs : List ℕ) (l : ℕ) → longestRead < length h → roomy ≤ l → runOut (whole fresh a b h) xs l ≡ turns Waiting a b (inputLines [] xs)
-desk-whole a b h xs l g m = first-run xs a b h [] 0 l g m (holds-none h)
+-- all that a fresh program prints is what the input's lines print, in their order: a room h for a line that is longer than any that is read is enough
+pub whole-input : (g : Program) (a b h xs : List ℕ) (l : ℕ) → longestRead < length h → roomy ≤ l →
+    runOut (whole (fresh g) a b h) xs l ≡ turns (Waiting g) a b (inputLines [] xs)
+whole-input g a b h xs l k m = first-run g xs a b h [] 0 l k m (holds-none h)
 
--- so at the rooms that the program makes, what its run prints is what the input's lines print, for every input: rooms of 8 slots with rings of 128, 200 bytes
--- to hold a line and 65,536 to put lines (`desk_run`'s contracts speak of this run)
-pub desk-prints : (h xs : List ℕ) → length h ≡ 200 → running 65536 (whole fresh (empty 8 128) (empty 8 128) h) xs .prints ≡
-    turns Waiting (empty 8 128) (empty 8 128) (inputLines [] xs)
-desk-prints h xs e = desk-whole (empty 8 128) (empty 8 128) h xs 65536 (omega arith) (omega arith)
+-- so at the memories that a program makes, what its run prints is what the input's lines print, for every input, with 200 bytes to hold a line and 65,536 to
+-- put lines (`desk_run`'s contracts speak of this run). `desk`: rooms of 8 slots with rings of 128
+pub desk-prints : (h xs : List ℕ) → length h ≡ 200 → running 65536 (whole (fresh Desk) (empty 8 128) (empty 8 128) h) xs .prints ≡
+    turns (Waiting Desk) (empty 8 128) (empty 8 128) (inputLines [] xs)
+desk-prints h xs e = whole-input Desk (empty 8 128) (empty 8 128) h xs 65536 (omega arith) (omega arith)
+
+-- `shots`: a table that knows nobody, and a room of 64 slots with rings of 128
+pub shots-prints : (h xs : List ℕ) → length h ≡ 200 → running 65536 (whole (fresh Shots) emptyTable (empty 64 128) h) xs .prints ≡
+    turns (Waiting Shots) emptyTable (empty 64 128) (inputLines [] xs)
+shots-prints h xs e = whole-input Shots emptyTable (empty 64 128) h xs 65536 (omega arith) (omega arith)
 
 -- ---- bad lines
 
--- a bad line gets its line with 14, and changes no room
-pub bad-line : (s : Settings) (a b line : List ℕ) → readCall line ≡ call.Bad →
-    turn (Open s) a b line ≡ record { phase = Open s; absolute = a; suppressed = b; prints = shown (refusedLine 0 badLine) }
-unfolding turn stepped
-bad-line s a b line e = rw e
+-- a line that the program cannot read
+abbrev pub Unread : Program → List ℕ → Type 0
+Unread Desk line = readCall line ≡ call.Bad
+Unread Shots line = readShot line ≡ shot.Bad
+
+-- it gets its line with 14, and changes nothing
+pub bad-line : (g : Program) (s : Settings) (a b line : List ℕ) → Unread g line →
+    turn (Open g s) a b line ≡ record { phase = Open g s; first = a; second = b; prints = shown (refusedLine 0 badLine) }
+unfolding turn steppedBy Calls.stepped Shot.stepped
+bad-line Desk s a b line e = rw e
+bad-line Shots s a b line e = rw e
 
 -- a missing settings line is a bad one: nothing read prints one line
 pub missing-settings : openingOf [] ≡ opening.Refused badLine
 unfolding openingOf readSettings fieldAt textAt begins
 missing-settings = refl
 
-pub nothing-read : (a b h : List ℕ) (l : ℕ) → longestRead < length h → roomy ≤ l → runOut (whole fresh a b h) [] l ≡ shown (refusedLine 0 badLine)
+pub nothing-read : (g : Program) (a b h : List ℕ) (l : ℕ) → longestRead < length h → roomy ≤ l →
+    runOut (whole (fresh g) a b h) [] l ≡ shown (refusedLine 0 badLine)
 unfolding inputLines turns turn
-nothing-read a b h l g m = desk-whole a b h [] l g m ∙ append-nil (printsIn (openingOf [])) ∙ ap printsIn missing-settings
+nothing-read g a b h l k m = whole-input g a b h [] l k m ∙ append-nil (printsIn (openingOf [])) ∙ ap printsIn missing-settings

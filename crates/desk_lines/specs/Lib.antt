@@ -1,2 +1,3 @@
 pub mod Lines
+pub mod Step
 pub mod Stored

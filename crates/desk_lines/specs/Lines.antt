@@ -1,4 +1,4 @@
--- What `desk` prints of an answer, in 01's words: these are the definitions to hold beside the page.
+-- What `desk` and `shots` print of an answer, in 01's words: these are the definitions to hold beside the page.
 -- t is the reading, x what is stored after the call.
 -- Assumes nothing.
 use mathlib.Core.Bool.{Bool, true, false, _&&_}
@@ -9,6 +9,8 @@ use lib.Ieee.{binary64, div, toBits}
 use Rattle.common.specs.Units.{minute, real}
 use Rattle.answers.specs.declared.RateLimitDecision.{RateLimitDecision}
 use Rattle.answers.specs.declared.RateLimitDecision.the-variants as decision
+use Rattle.answers.specs.declared.ShotAnswer.{ShotAnswer}
+use Rattle.answers.specs.declared.ShotAnswer.the-variants as shot
 use Rattle.answers.specs.declared.SnapshotAnswer.{SnapshotAnswer}
 use Rattle.answers.specs.declared.SnapshotAnswer.the-variants as snapshot
 use Rattle.answers.specs.declared.TotalAnswer.{TotalAnswer}
@@ -58,6 +60,12 @@ decisionLine t decision.Allowed x = said t answer.Allowed 0 0 0 x
 decisionLine t (decision.Rejected window wait left) x = said t answer.Rejected 0 wait left x
 decisionLine t (decision.Suppressed factor admitted) x = said t (yesOrNo admitted) (toBits binary64 factor) 0 0 x
 decisionLine t (decision.Refused n) x = refusedLine t n
+
+-- a shot: a decision's line, and one word more
+unfoldable pub shotLine : ℕ → ShotAnswer → Stored → AnswerLine
+shotLine t shot.Held x = said t answer.Held 0 0 0 x
+shotLine t (shot.Decided d) x = decisionLine t d x
+shotLine t (shot.Refused n) x = refusedLine t n
 
 -- "live for aget": the live total that it answers; an absolute room declines nothing
 unfoldable pub totalLine : ℕ → TotalAnswer → AnswerLine

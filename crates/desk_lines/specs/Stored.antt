@@ -1,6 +1,6 @@
 -- What the code that reads a key's totals knows at each return, joined to the definition.
 -- Assumes nothing.
-use mathlib.Core.Path.{_≡_, sym, _∙_}
+use mathlib.Core.Path.{_≡_, sym, ap, _∙_}
 use mathlib.Core.Bool.{true, false}
 use mathlib.Core.List.{List}
 use Prim.Native.Nat.{ℕ, _+_, _-_, _≤_, _<_}
@@ -13,6 +13,7 @@ use Rattle.room.specs.Room.{Room, sized, slotsOf, ringOf, useOf, find, startOf,
 use Rattle.keys.specs.Keys.{keyOf}
 use Rattle.room.specs.Laws.{room-sized}
 use Rattle.opened.specs.Sound.{hasSeries}
+use Rattle.printing.specs.declared.AnswerLine.{AnswerLine}
 use Rattle.desk_lines.specs.declared.Stored.{Stored}
 use Rattle.desk_lines.specs.Lines.{noStored, storedOf}
 
@@ -47,3 +48,10 @@ module _ (w key : List ℕ) where
   stored-is at start o e h f g =
       rw (room-sized w o, ← e, lt-ltb at (slotsOf w) h, f, g)
       (stored-path (sym (body-word w at 1 (omega arith))) (sym (body-word w at 2 (omega arith))))
+
+-- ---- a line with what is stored
+
+-- f makes the line of an answer and of what is stored: the line of the answer given and of the words left is that of the verdict's
+pub line-is : {A : Type 0} (f : A → Stored → AnswerLine) (key : List ℕ) (a d : A) (w x : List ℕ) (y : Stored) (l : AnswerLine) →
+    d ≡ a → x ≡ w → y ≡ storedOf x key → l ≡ f d y → l ≡ f a (storedOf w key)
+line-is f key a d w x y l p q r s = s ∙ ap (f d) r ∙ ap (λ e. f e (storedOf x key)) p ∙ ap (λ m. f a (storedOf m key)) q

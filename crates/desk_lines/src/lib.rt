@@ -1,7 +1,9 @@
-// What `desk` prints of an answer: the line's fields, with the key's totals as stored.
+// What `desk` and `shots` print of an answer: the line's fields, with the key's totals as stored.
 ghost use mathlib.Core.Path.{_≡_};
-ghost use Rattle.desk_lines.specs.Lines.{badLine, refusedLine, noStored, storedOf, said, yesOrNo, decisionLine, totalLine, snapshotLine, perMinute};
+ghost use Rattle.desk_lines.specs.Lines.{badLine, refusedLine, noStored, storedOf, said, yesOrNo, decisionLine, shotLine};
+ghost use Rattle.desk_lines.specs.Lines.{totalLine, snapshotLine, perMinute};
 use answers::RateLimitDecision;
+use answers::ShotAnswer;
 use answers::SnapshotAnswer;
 use answers::TotalAnswer;
 use common::RateLimit;
@@ -125,6 +127,17 @@ pub fn decision_line(t: u64, d: RateLimitDecision, x: Stored) -> AnswerLine
             x,
         ),
         RateLimitDecision::Refused(code) => refused(t, code),
+    }
+}
+
+// The line of a shot; `x` is what is stored after it.
+pub fn shot_line(t: u64, a: ShotAnswer, x: Stored) -> AnswerLine
+    ensures { λ r. ⌜ r ≡ shotLine t a x ⌝ }
+{
+    match a {
+        ShotAnswer::Held => said(t, Answer::Held, 0, 0, 0, x),
+        ShotAnswer::Decided(d) => decision_line(t, d, x),
+        ShotAnswer::Refused(code) => refused(t, code),
     }
 }
 

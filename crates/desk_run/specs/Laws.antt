@@ -12,14 +12,16 @@ use lib.Signed.{ltZ}
 use lib.Dec.{ltb, eqb}
 use borrow.Author.Tests.{ltb-true, eqb-false, eq-eqb, ne-eqb}
 use Rattle.io.specs.Counts.{clamped}
-use Rattle.room.specs.Room.{fits, empty}
+use Rattle.room.specs.Room.{fits}
+use Rattle.desk_turn.specs.declared.Program.{Program}
+use Rattle.desk_turn.specs.declared.Program.the-variants as program
 use Rattle.desk_turn.specs.declared.Phase.{Phase}
 use Rattle.desk_turn.specs.declared.Phase.the-variants.{Waiting, Open, Ended}
 use Rattle.desk_turn.specs.Lines.{Effect, idle, roomy}
 use Rattle.desk_feed.specs.declared.Desk.{Desk}
 use Rattle.desk_feed.specs.declared.Progress.{Progress}
 use Rattle.desk_feed.specs.Feed.{Whole, whole, fresh, After, andThen, feed, overIn, isOver, finishAs, finishing, finished, running, endedIn, hasEnded}
-use Rattle.desk_feed.specs.Contracts.{Feeding, fitsDesk, BothMade}
+use Rattle.desk_feed.specs.Contracts.{Feeding, newFirst, newSecond, Fitting, BothMade}
 use Rattle.desk_feed.specs.Laws.{feed-blocks, feeding-inside, progress}
 use Rattle.desk_run.specs.declared.Pumped.{Pumped}
 use Rattle.desk_run.specs.declared.Served.{Served}
@@ -129,8 +131,8 @@ bytes-inside (negsuc k) m n p = let x : _≡_ {A = ℕ} 0 1 = cc in absurd (omeg
 
 -- ---- the run
 
-pub stands-first : (d : Desk) (a b h : List ℕ) → d ≡ fresh → Standing (whole fresh a b h) [] (whole d a b h) 0 0
-stands-first d a b h e = record { heard = omega arith; reached = rw e (reached-none (whole fresh a b h) 0 (omega arith)) }
+pub stands-first : (w : Whole) → Standing w [] w 0 0
+stands-first w = record { heard = omega arith; reached = reached-none w 0 (omega arith) }
 
 -- a block more
 pub stands-next : (w v : Whole) (xs block : List ℕ) (read put n next : ℕ) (r : Pumped) (a b h : List ℕ) → Standing w xs v read put →
@@ -152,7 +154,7 @@ ran-here w xs d a b h r s =
     record {
       heard = s .heard;
       left =
-          record { absolute = ap (λ (x : Whole). x .absolute) e; suppressed = ap (λ (x : Whole). x .suppressed) e; counted = s .reached .counted };
+          record { first = ap (λ (x : Whole). x .first) e; second = ap (λ (x : Whole). x .second) e; counted = s .reached .counted };
       hold = ap (λ (x : Whole). x .hold) e;
     }
 
@@ -168,21 +170,21 @@ ran-end l w xs v read put a b r s e f =
       heard = e ∙ s .heard;
       left =
           record {
-            absolute = f .absolute ∙ ap (λ (x : Whole). finished l x .whole .absolute) g;
-            suppressed = f .suppressed ∙ ap (λ (x : Whole). finished l x .whole .suppressed) g;
+            first = f .first ∙ ap (λ (x : Whole). finished l x .whole .first) g;
+            second = f .second ∙ ap (λ (x : Whole). finished l x .whole .second) g;
             counted = c ∙ ap (λ (x : Whole). capped (0 + length (feed w xs .prints ++ finished l x .prints))) g;
           };
       hold = ap (λ (x : Whole). x .hold) g;
     }
 
 -- a desk that reads no more has nothing to end
-ended-idle : (l : ℕ) (w : Whole) → hasEnded (w .desk) ≡ true → finishing l w ≡ idle (w .desk .phase) (w .absolute) (w .suppressed)
+ended-idle : (l : ℕ) (w : Whole) → hasEnded (w .desk) ≡ true → finishing l w ≡ idle (w .desk .phase) (w .first) (w .second)
 unfolding hasEnded finishing isOver
 ended-idle l w e = go (w .desk .phase) (ltb l roomy) e
   where
-    go : (p : Phase) (t : Bool) → endedIn p ≡ true → finishAs (t || overIn p (w .desk .held)) w ≡ idle (w .desk .phase) (w .absolute) (w .suppressed)
-    go Waiting t h = absurd (false≢true h)
-    go (Open s) t h = absurd (false≢true h)
+    go : (p : Phase) (t : Bool) → endedIn p ≡ true → finishAs (t || overIn p (w .desk .held)) w ≡ idle (w .desk .phase) (w .first) (w .second)
+    go (Waiting g) t h = absurd (false≢true h)
+    go (Open g s) t h = absurd (false≢true h)
     go Ended true h = refl
     go Ended false h = refl
 
@@ -195,8 +197,8 @@ ends-ended l w xs d a b h r s e =
       xs,
       either (isNothing (r .last)) o,
       ran-end l w xs (whole d a b h) (r .read) (r .put) a b r s refl (record {
-        absolute = sym (ap (λ (x : Effect). x .absolute) f);
-        suppressed = sym (ap (λ (x : Effect). x .suppressed) f);
+        first = sym (ap (λ (x : Effect). x .first) f);
+        second = sym (ap (λ (x : Effect). x .second) f);
         counted = omega (arith, k, s .reached .counted);
       }),
     )
@@ -228,8 +230,8 @@ ends-closed l m w xs d a₀ b₀ h last read put r a b e s n c = go (r .ending) 
         heard = c .counted ∙ s .heard;
         left =
             record {
-              absolute = k .1 .absolute ∙ ap (λ (x : Whole). x .absolute) (s .reached .after);
-              suppressed = k .1 .suppressed ∙ ap (λ (x : Whole). x .suppressed) (s .reached .after);
+              first = k .1 .first ∙ ap (λ (x : Whole). x .first) (s .reached .after);
+              second = k .1 .second ∙ ap (λ (x : Whole). x .second) (s .reached .after);
               counted = omega (arith, k .1 .counted, s .reached .counted);
             };
         hold = ap (λ (x : Whole). x .hold) (s .reached .after);
@@ -238,20 +240,20 @@ ends-closed l m w xs d a₀ b₀ h last read put r a b e s n c = go (r .ending) 
     go Unwritten k = tt
     go Endless k = absurd k
 
--- ---- the rooms made anew
+-- ---- the memories made anew
 
--- the words that are lent for a room are as many as 8 slots with rings of 128 need
-pub desk-fits : fits 8 128 3179 ≡ true
+-- the words that are lent are as many as each program's memories need
+pub desk-fits : (a b : List ℕ) → length a ≡ 3179 → length b ≡ 3179 → Fitting program.Desk a b
 unfolding fits
-desk-fits = refl
+desk-fits a b e f = record { first = ap (fits 8 128) e; second = ap (fits 8 128) f }
 
-fitted : (a : List ℕ) → length a ≡ 3179 → cond (fitsDesk a) (empty 8 128) a ≡ empty 8 128
-fitted a e = ap (λ (n : ℕ). cond (fits 8 128 n) (empty 8 128) a) e ∙ ap (λ (t : Bool). cond t (empty 8 128) a) desk-fits
+pub shots-fit : (a b : List ℕ) → length a ≡ 387 → length b ≡ 25411 → Fitting program.Shots a b
+unfolding fits
+shots-fit a b e f = record { first = ap (λ (n : ℕ). eqb n 387) e; second = ap (fits 64 128) f }
 
-pub serves-new : (l : ℕ) (a b : List ℕ) (x : Bool) (a₁ b₁ h : List ℕ) (r : Served) (a₂ b₂ h₂ : List ℕ) → length a ≡ 3179 → length b ≡ 3179 →
-    BothMade a b x a₁ b₁ → Serves l (whole fresh a₁ b₁ h) r a₂ b₂ h₂ → Serves l (whole fresh (empty 8 128) (empty 8 128) h) r a₂ b₂ h₂
-serves-new l a b x a₁ b₁ h r a₂ b₂ h₂ e f m s =
-    let p : a₁ ≡ empty 8 128 = m .absolute ∙ fitted a e in
-    let q : b₁ ≡ empty 8 128 = m .suppressed ∙ fitted b f in
-    let t : Serves l (whole fresh (empty 8 128) b₁ h) r a₂ b₂ h₂ = subst (λ (y : List ℕ). Serves l (whole fresh y b₁ h) r a₂ b₂ h₂) p s in
-    subst (λ (y : List ℕ). Serves l (whole fresh (empty 8 128) y h) r a₂ b₂ h₂) q t
+pub serves-new : (l : ℕ) (g : Program) (a b : List ℕ) (x : Bool) (a₁ b₁ : List ℕ) (d : Desk) (h : List ℕ) (r : Served) (a₂ b₂ h₂ : List ℕ) → Fitting g a b →
+    BothMade g a b x a₁ b₁ → d ≡ fresh g → Serves l (whole d a₁ b₁ h) r a₂ b₂ h₂ → Serves l (whole (fresh g) (newFirst g) (newSecond g) h) r a₂ b₂ h₂
+serves-new l g a b x a₁ b₁ d h r a₂ b₂ h₂ f m e s =
+    let p : a₁ ≡ newFirst g = m .first ∙ ap (λ (t : Bool). cond t (newFirst g) a) (f .first) in
+    let q : b₁ ≡ newSecond g = m .second ∙ ap (λ (t : Bool). cond t (newSecond g) b) (f .second) in
+    subst (λ (w : Whole). Serves l w r a₂ b₂ h₂) (λ i. whole (e i) (p i) (q i) h) s

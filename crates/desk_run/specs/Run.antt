@@ -62,10 +62,10 @@ pub record Pumping (w : Whole) (block : List ℕ) (before : ℕ) (r : Pumped) (a
 
 -- ---- the end of the input
 
--- the rooms are f's, and what f prints is handed on once, after `before` bytes
+-- the memories are f's, and what f prints is handed on once, after `before` bytes
 pub record Leaves (f : After) (before put : ℕ) (a b : List ℕ) : Type 0 where
-  pub absolute : a ≡ f .whole .absolute
-  pub suppressed : b ≡ f .whole .suppressed
+  pub first : a ≡ f .whole .first
+  pub second : b ≡ f .whole .second
   pub counted : put ≡ capped (before + length (f .prints))
 
 -- nothing happens
@@ -91,7 +91,7 @@ pub record Standing (w : Whole) (xs : List ℕ) (v : Whole) (read put : ℕ) : T
   pub heard : read ≡ capped (length xs)
   pub reached : Reached w xs 0 v put
 
--- xs was read: rooms and hold are f's, and what f prints was handed on once
+-- xs was read: memories and hold are f's, and what f prints was handed on once
 pub record Ran (f : After) (xs : List ℕ) (r : Served) (a b h : List ℕ) : Type 0 where
   pub heard : r .read ≡ capped (length xs)
   pub left : Leaves f 0 (r .put) a b

@@ -1,18 +1,24 @@
-// Reads a desk's input and writes its answers, and says where either fails. What is printed is decided in `desk_feed`; here it goes in and out, all of it
-// once. How many bytes went each way is counted, since no contract can say which.
+// Reads the input of `desk` or `shots` and writes the answers, and says where either fails. What is printed is decided in `desk_feed`; here it goes in and
+// out, all of it once. How many bytes went each way is counted, since no contract can say which.
 ghost use mathlib.Core.Path.{_≡_};
 ghost use Prim.Native.Nat.{_+_, _≤_};
 ghost use lib.ListN.{length};
-ghost use Rattle.room.specs.Room.{empty};
 ghost use Rattle.desk_turn.specs.Lines.{roomy};
 ghost use Rattle.desk_feed.specs.Feed.{whole, fresh, finished};
+ghost use Rattle.desk_feed.specs.Contracts.{newFirst, newSecond, Fitting};
 ghost use Rattle.desk_run.specs.Run.{capped, heardOf, Pumping, Leaves, Closing, Serves};
 use desk_feed::Desk;
+use desk_turn::Program;
 use libc::STDERR_FILENO;
 use libc::STDOUT_FILENO;
 
 // The words of a room of 8 slots with rings of 128.
-const ROOM: usize = 3179;
+const DESK_ROOM: usize = 3179;
+
+// The words of a table, and of a room of 64 slots with rings of 128.
+const TABLE: usize = 387;
+
+const SHOTS_ROOM: usize = 25411;
 
 // The bytes that are held of a line that a block cuts: more than any line has that is not bad.
 const HOLD: usize = 200;
@@ -60,22 +66,22 @@ struct Pumped {
 // Takes a block whole, and writes what it prints as often as `out` is full; or stops at a write that fails.
 fn pump(
     desk: Desk,
-    absolute: &mut [u64],
-    suppressed: &mut [u64],
+    first: &mut [u64],
+    second: &mut [u64],
     hold: &mut [u8],
     block: &[u8],
     out: &mut [u8],
     put: u64,
 ) -> Pumped
     requires { ⌜ roomy ≤ length (now out) ⌝ }
-    ensures { λ r. ⌜ Pumping (whole desk (now (absolute .entry)) (now (suppressed .entry)) (now (hold .entry))) (now (block .entry)) put r
-        (now (absolute .exit)) (now (suppressed .exit)) (now (hold .exit)) ⌝ }
+    ensures { λ r. ⌜ Pumping (whole desk (now (first .entry)) (now (second .entry)) (now (hold .entry))) (now (block .entry)) put r
+        (now (first .exit)) (now (second .exit)) (now (hold .exit)) ⌝ }
 {
     let mut state = desk;
     let mut at = 0;
     let mut sent = Sent { fine: true, put };
     while at < block.len() {
-        let progress = desk_feed::feed(state, absolute, suppressed, hold, &block[at..], out);
+        let progress = desk_feed::feed(state, first, second, hold, &block[at..], out);
         state = progress.desk;
         at += progress.taken;
         sent = write_put(out, progress.put, sent.put);
@@ -99,16 +105,16 @@ fn pump(
 // The end of the input.
 fn end(
     desk: Desk,
-    absolute: &mut [u64],
-    suppressed: &mut [u64],
+    first: &mut [u64],
+    second: &mut [u64],
     hold: &[u8],
     out: &mut [u8],
     put: u64,
 ) -> Sent
-    ensures { λ r. ⌜ Leaves (finished (length (now (out .entry))) (whole desk (now (absolute .entry)) (now (suppressed .entry)) (now (hold .entry)))) put
-        (r .put) (now (absolute .exit)) (now (suppressed .exit)) ⌝ }
+    ensures { λ r. ⌜ Leaves (finished (length (now (out .entry))) (whole desk (now (first .entry)) (now (second .entry)) (now (hold .entry)))) put
+        (r .put) (now (first .exit)) (now (second .exit)) ⌝ }
 {
-    let turn = desk_feed::finish(desk, absolute, suppressed, hold, out);
+    let turn = desk_feed::finish(desk, first, second, hold, out);
     write_put(out, turn.next, put)
 }
 
@@ -152,16 +158,16 @@ struct Served {
 // After a read that gave no bytes: a read that failed is not the end of the input.
 fn close(
     desk: Desk,
-    absolute: &mut [u64],
-    suppressed: &mut [u64],
+    first: &mut [u64],
+    second: &mut [u64],
     hold: &[u8],
     out: &mut [u8],
     last: Heard,
     read: u64,
     put: u64,
 ) -> Served
-    ensures { λ r. ⌜ Closing (length (now (out .entry))) (whole desk (now (absolute .entry)) (now (suppressed .entry)) (now (hold .entry))) last read put r
-        (now (absolute .exit)) (now (suppressed .exit)) ⌝ }
+    ensures { λ r. ⌜ Closing (length (now (out .entry))) (whole desk (now (first .entry)) (now (second .entry)) (now (hold .entry))) last read put r
+        (now (first .exit)) (now (second .exit)) ⌝ }
 {
     if let Heard::Failed = last {
         return Served {
@@ -171,7 +177,7 @@ fn close(
             put,
         };
     }
-    let sent = end(desk, absolute, suppressed, hold, out, put);
+    let sent = end(desk, first, second, hold, out, put);
     if !sent.fine {
         return Served {
             ending: Ending::Unwritten,
@@ -190,17 +196,18 @@ fn close(
 
 // All answers to what was read are written before the next read.
 fn serve(
+    desk: Desk,
     from: i32,
-    absolute: &mut [u64; ROOM],
-    suppressed: &mut [u64; ROOM],
+    first: &mut [u64],
+    second: &mut [u64],
     hold: &mut [u8; HOLD],
     block: &mut [u8],
     out: &mut [u8; BLOCK],
 ) -> Served
-    ensures { λ r. ⌜ Serves 65536 (whole fresh (now (absolute .entry)) (now (suppressed .entry)) (now (hold .entry))) r
-        (now (absolute .exit)) (now (suppressed .exit)) (now (hold .exit)) ⌝ }
+    ensures { λ r. ⌜ Serves 65536 (whole desk (now (first .entry)) (now (second .entry)) (now (hold .entry))) r
+        (now (first .exit)) (now (second .exit)) (now (hold .exit)) ⌝ }
 {
-    let mut desk = desk_feed::start();
+    let mut state = desk;
     let mut read = 0;
     let mut put = 0;
     let mut last = Heard::Nothing;
@@ -208,10 +215,10 @@ fn serve(
         let got = libc::read(from, block);
         last = hear(got, block);
         let Heard::Bytes(n) = last else {
-            return close(desk, absolute, suppressed, hold, out, last, read, put);
+            return close(state, first, second, hold, out, last, read, put);
         };
-        let pumped = pump(desk, absolute, suppressed, hold, &block[..n], out, put);
-        desk = pumped.desk;
+        let pumped = pump(state, first, second, hold, &block[..n], out, put);
+        state = pumped.desk;
         put = pumped.put;
         read = more(read, n);
         if !pumped.fine {
@@ -222,7 +229,7 @@ fn serve(
                 put,
             };
         }
-        if desk_feed::has_ended(desk) {
+        if desk_feed::has_ended(state) {
             return Served {
                 ending: Ending::Done,
                 last,
@@ -239,53 +246,100 @@ fn serve(
     }
 }
 
-// With the two rooms made anew.
-fn open_desk(
+// With both memories made anew.
+fn serve_anew(
+    program: Program,
     from: i32,
-    absolute: &mut [u64; ROOM],
-    suppressed: &mut [u64; ROOM],
+    first: &mut [u64],
+    second: &mut [u64],
     hold: &mut [u8; HOLD],
     block: &mut [u8],
     out: &mut [u8; BLOCK],
 ) -> Served
-    ensures { λ r. ⌜ Serves 65536 (whole fresh (empty 8 128) (empty 8 128) (now (hold .entry))) r
-        (now (absolute .exit)) (now (suppressed .exit)) (now (hold .exit)) ⌝ }
+    requires { ⌜ Fitting program (now first) (now second) ⌝ }
+    ensures { λ r. ⌜ Serves 65536 (whole (fresh program) (newFirst program) (newSecond program) (now (hold .entry))) r
+        (now (first .exit)) (now (second .exit)) (now (hold .exit)) ⌝ }
 {
-    desk_feed::make_rooms(absolute, suppressed);
-    serve(from, absolute, suppressed, hold, block, out)
+    desk_feed::make_memories(program, first, second);
+    serve(
+        desk_feed::start(program),
+        from,
+        first,
+        second,
+        hold,
+        block,
+        out,
+    )
 }
 
-// Says what failed.
-fn report(ending: Ending) {
+// Says what failed, in the program's words.
+fn report(ending: Ending, unread: &[u8], unwritten: &[u8]) {
     match ending {
         Ending::Done => {}
         Ending::Unread => {
-            os::fail(b"desk: cannot read");
+            os::fail(unread);
         }
         Ending::Unwritten => {
-            os::fail(b"desk: cannot write");
+            os::fail(unwritten);
         }
         Ending::Endless => {
-            io::write_all(STDERR_FILENO, b"desk: cannot read: too much input\n");
+            io::write_all(STDERR_FILENO, unread);
+            io::write_all(STDERR_FILENO, b": too much input\n");
         }
     }
 }
 
-// The desk from a descriptor to standard output. What fails is said on standard error, and ends the run.
-pub fn run(from: i32) {
-    let mut absolute = [0u64; ROOM];
-    let mut suppressed = [0u64; ROOM];
+// A program from a descriptor to standard output. What fails is said on standard error, and ends the run.
+fn run_with(
+    program: Program,
+    from: i32,
+    first: &mut [u64],
+    second: &mut [u64],
+    unread: &[u8],
+    unwritten: &[u8],
+)
+    requires { ⌜ Fitting program (now first) (now second) ⌝ }
+{
     let mut hold = [0u8; HOLD];
     let mut block = [0u8; BLOCK];
     let mut out = [0u8; BLOCK];
-    let served = open_desk(
+    let served = serve_anew(
+        program,
         from,
-        &mut absolute,
-        &mut suppressed,
+        first,
+        second,
         &mut hold,
         &mut block,
         &mut out,
     );
     let ending = served.ending;
-    report(ending);
+    report(ending, unread, unwritten);
+}
+
+// `desk`, with its two rooms.
+pub fn run(from: i32) {
+    let mut absolute = [0u64; DESK_ROOM];
+    let mut suppressed = [0u64; DESK_ROOM];
+    run_with(
+        Program::Desk,
+        from,
+        &mut absolute,
+        &mut suppressed,
+        b"desk: cannot read",
+        b"desk: cannot write",
+    );
+}
+
+// `shots`, with its table and its room.
+pub fn run_shots(from: i32) {
+    let mut table = [0u64; TABLE];
+    let mut room = [0u64; SHOTS_ROOM];
+    run_with(
+        Program::Shots,
+        from,
+        &mut table,
+        &mut room,
+        b"shots: cannot read",
+        b"shots: cannot write",
+    );
 }

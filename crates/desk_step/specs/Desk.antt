@@ -1,7 +1,6 @@
 -- What `desk` prints for a line and what it leaves of its two rooms, in 01's words: these are the definitions to hold beside the page.
 -- s are the settings, a the absolute room's words, b the suppressed room's, t the reading.
 -- Assumes nothing.
-use mathlib.Core.Path.{_≡_}
 use mathlib.Core.Bool.{cond}
 use mathlib.Core.List.{List}
 use Prim.Native.Nat.{ℕ}
@@ -25,7 +24,8 @@ use Rattle.printing.specs.declared.AnswerLine.{AnswerLine}
 use Rattle.desk_lines.specs.declared.Stored.{Stored}
 use Rattle.desk_step.specs.declared.Opening.{Opening}
 use Rattle.desk_step.specs.declared.Opening.the-variants.{Open, Refused}
-use Rattle.desk_lines.specs.Lines.{storedOf, refusedLine, decisionLine, totalLine, snapshotLine, perMinute, badLine}
+use Rattle.desk_lines.specs.Lines.{storedOf, decisionLine, totalLine, snapshotLine, perMinute, badLine}
+use Rattle.desk_lines.specs.Step.{Step, badStep}
 
 -- ---- the calls
 
@@ -48,16 +48,11 @@ suppressedGet s b t key = lined (snapshotLine t) key (Suppressed.get s b t key)
 
 -- ---- a line: what is printed, and both rooms after it
 
-pub record Step : Type 0 where
-  pub answer : AnswerLine
-  pub absolute : List ℕ
-  pub suppressed : List ℕ
-
 abbrev pub inAbsolute : Verdict AnswerLine → List ℕ → Step
-inAbsolute v b = record { answer = v .answer; absolute = v .words; suppressed = b }
+inAbsolute v b = record { answer = v .answer; first = v .words; second = b }
 
 abbrev pub inSuppressed : Verdict AnswerLine → List ℕ → Step
-inSuppressed v a = record { answer = v .answer; absolute = a; suppressed = v .words }
+inSuppressed v a = record { answer = v .answer; first = a; second = v .words }
 
 unfoldable pub callOf : Settings → List ℕ → List ℕ → ℕ → Op → List ℕ → ℕ → ℕ → ℕ → Step
 callOf s a b t AbsoluteInc key rate n draw = inAbsolute (absoluteInc s a t key rate n) b
@@ -65,19 +60,12 @@ callOf s a b t AbsoluteGet key rate n draw = inAbsolute (absoluteGet s a t key) 
 callOf s a b t SuppressedInc key rate n draw = inSuppressed (suppressedInc s b t key rate n draw) a
 callOf s a b t SuppressedGet key rate n draw = inSuppressed (suppressedGet s b t key) a
 
--- "`t` (0 on a bad line)": a bad line changes no room
 abbrev pub stepOf : Settings → List ℕ → List ℕ → List ℕ → CallLine → Step
-stepOf s a b line call.Bad = record { answer = refusedLine 0 badLine; absolute = a; suppressed = b }
+stepOf s a b line call.Bad = badStep a b
 stepOf s a b line (call.Call t op start end rate n draw) = callOf s a b t op (keyIn line start end) rate n draw
 
 unfoldable pub stepped : Settings → List ℕ → List ℕ → List ℕ → Step
 stepped s a b line = stepOf s a b line (readCall line)
-
--- the line to print and the rooms left are these
-pub record Answered (v : Step) (r : AnswerLine) (a b : List ℕ) : Type 0 where
-  pub answer : r ≡ v .answer
-  pub absolute : a ≡ v .absolute
-  pub suppressed : b ≡ v .suppressed
 
 -- ---- the settings line: "A bad or missing settings line prints one line, with t 0 and code 14 or 1 to 4, and ends."
 

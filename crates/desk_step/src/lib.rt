@@ -2,7 +2,8 @@
 ghost use mathlib.Core.Path.{_≡_};
 ghost use Rattle.judge.specs.Verdict.{Told};
 ghost use Rattle.desk_lines.specs.Lines.{refusedLine};
-ghost use Rattle.desk_step.specs.Desk.{absoluteInc, absoluteGet, suppressedInc, suppressedGet, callOf, stepped, Answered};
+ghost use Rattle.desk_lines.specs.Step.{Answered};
+ghost use Rattle.desk_step.specs.Desk.{absoluteInc, absoluteGet, suppressedInc, suppressedGet, callOf, stepped};
 ghost use Rattle.desk_step.specs.Desk.{settingsOf, openWith, openingOf};
 use common::BucketSize;
 use common::SuppressionFactorCachePeriod;

@@ -2,25 +2,27 @@
 -- Assumes nothing.
 use mathlib.Core.Path.{_≡_, refl, sym, ap, subst, _∙_}
 use mathlib.Core.Bool.{Bool, true, false}
-use mathlib.Core.List.{List, [], _++_, append-nil}
+use mathlib.Core.List.{List, [], _∷_, _++_, append-nil}
 use Prim.Native.Nat.{ℕ, _+_, _-_, _≤_}
 use native.Mathlib.Omega.{arith}
-use lib.ListN.{length, take, drop, length-append, length-drop, drop-of-length-le}
-use lib.Dec.{leb, eqb}
+use lib.ListN.{length, take, drop, length-append, length-take, length-drop, drop-of-length-le}
+use lib.Dec.{eqb}
 use borrow.Author.Tests.{le-leb, leb-true, eq-eqb, eqb-true}
 use Rattle.fields.specs.Bytes.{counts, classOf}
-use Rattle.fields.specs.Numbers.{showNumber}
+use Rattle.fields.specs.Numbers.{showNumber, show-length}
 use Rattle.lines.specs.Shown.{windowText, bucketText, factorText, cacheText, tText, opText, keyText, rateText, nText, drawText}
-use Rattle.fields.specs.Ranges.{largest, exactLargest}
+use Rattle.fields.specs.Ranges.{largest, exactLargest, Key}
 use Rattle.lines.specs.Shown.{showSettings, SettingsFit, showCall, CallFits, keyStart}
-use Rattle.lines.specs.Reading.{opAt, closes, amountsAt, readSettings, readCall}
+use Rattle.lines.specs.Reading.{opAt, numbersAt, tailAt, isExact, readSettings, readCall}
 use Rattle.fields.specs.Parts.{fieldAt, textAt, keyAt}
-use Rattle.lines.specs.ReadLaws.{Stops, Field, KeyRead, each-number, each-place, each-name, each-amounts, each-test, both, past-part, past-field}
+use Rattle.lines.specs.ReadLaws.{Stops, Field, KeyRead, each-number, each-place, each-name, each-numbers, each-tail, each-test, past-part, past-field}
 use Rattle.lines.specs.ReadLaws.{text-shown, text-read, field-shown, field-read, key-shown, key-read, op-shown, op-read}
 use Rattle.lines.specs.declared.Op.{Op}
 use Rattle.lines.specs.declared.Op.the-variants.{AbsoluteInc, AbsoluteGet, SuppressedInc, SuppressedGet}
-use Rattle.lines.specs.declared.Amounts.{Amounts}
-use Rattle.lines.specs.declared.Amounts.the-variants.{Are, NoAmounts}
+use Rattle.lines.specs.declared.Numbers.{Numbers}
+use Rattle.lines.specs.declared.Numbers.the-variants.{Are, NoNumbers}
+use Rattle.lines.specs.declared.Tail.{Tail}
+use Rattle.lines.specs.declared.Tail.the-variants.{Keyed, NoTail}
 use Rattle.lines.specs.declared.CallLine.{CallLine}
 use Rattle.lines.specs.declared.CallLine.the-variants as call
 use Rattle.lines.specs.declared.SettingsLine.{SettingsLine}
@@ -28,21 +30,30 @@ use Rattle.lines.specs.declared.SettingsLine.the-variants as settings
 
 -- ---- where a number and a key end, and where a line does
 
+-- a text that starts with a space
+abbrev pub Spaced : List ℕ → Type 0
+Spaced [] = ⊥
+Spaced (b ∷ bs) = b ≡ 32
+
 space-stops : (l : Bool) → counts l 32 ≡ false
 unfolding classOf
 space-stops l = refl
 
-op-stops : (op : Op) (rest : List ℕ) → Stops (counts false) (opText op ++ rest)
-op-stops AbsoluteInc rest = space-stops false
-op-stops AbsoluteGet rest = space-stops false
-op-stops SuppressedInc rest = space-stops false
-op-stops SuppressedGet rest = space-stops false
+pub spaced-stops : (l : Bool) (text rest : List ℕ) → Spaced text → Stops (counts l) (text ++ rest)
+spaced-stops l [] rest e = absurd e
+spaced-stops l (b ∷ bs) rest e = ap (counts l) e ∙ space-stops l
+
+op-spaced : (op : Op) → Spaced (opText op)
+op-spaced AbsoluteInc = refl
+op-spaced AbsoluteGet = refl
+op-spaced SuppressedInc = refl
+op-spaced SuppressedGet = refl
 
 -- the last field ends with the line
-last-shown : (line text : List ℕ) (at n : ℕ) → 1 ≤ length text → drop at line ≡ text ++ showNumber n → at + length text + length (showNumber n) ≡ length line
-last-shown line text at n h e =
+last-shown : (line text : List ℕ) (at n : ℕ) → drop at line ≡ text ++ showNumber n → at + length text + length (showNumber n) ≡ length line
+last-shown line text at n e =
     let l : length line - at ≡ length text + length (showNumber n) = sym (length-drop at line) ∙ ap length e ∙ length-append text (showNumber n) in
-    omega arith
+    omega (arith, show-length n)
 
 last-read : (line text : List ℕ) (at n next : ℕ) → Field line at text n next → next ≡ length line → drop at line ≡ text ++ showNumber n
 last-read line text at n next f e =
@@ -50,24 +61,153 @@ last-read line text at n next f e =
     let d : drop next line ≡ [] = drop-of-length-le line h in
     f .shows ∙ rw (d, append-nil)
 
--- a line that ends after its last field, with a number at most 2^53
-pub record Closed (line : List ℕ) (at n : ℕ) : Type 0 where
-  pub exact : n ≤ exactLargest
-  pub ended : at ≡ length line
-
-closed-is : (line : List ℕ) (at n : ℕ) → closes line at n ≡ true → Closed line at n
-unfolding closes
-closed-is line at n e =
-    let u = both (leb n exactLargest) (eqb at (length line)) e in
-    record { exact = leb-true n exactLargest (u .0); ended = eqb-true at (length line) (u .1) }
-
-is-closed : (line : List ℕ) (at n : ℕ) → n ≤ exactLargest → at ≡ length line → closes line at n ≡ true
-unfolding closes
-is-closed line at n h e = rw (le-leb _ _ h, eq-eqb _ _ e)
-
 -- a number that ends the line, as a field with nothing past it
 nothing-past : (text : List ℕ) (n : ℕ) → text ++ showNumber n ≡ text ++ (showNumber n ++ [])
 nothing-past text n = rw append-nil
+
+-- a number at most 2^53
+pub exact-is : (n : ℕ) → isExact n ≡ true → n ≤ exactLargest
+unfolding isExact
+exact-is n e = leb-true n exactLargest e
+
+pub is-exact : (n : ℕ) → n ≤ exactLargest → isExact n ≡ true
+unfolding isExact
+is-exact n h = le-leb n exactLargest h
+
+-- ---- the three numbers that end a line
+
+abbrev pub showNumbers : List ℕ → ℕ → List ℕ → ℕ → List ℕ → ℕ → List ℕ
+showNumbers first x second y third z = first ++ (showNumber x ++ (second ++ (showNumber y ++ (third ++ showNumber z))))
+
+pub record NumbersFit (x y z : ℕ) : Type 0 where
+  pub firsts : x ≤ largest
+  pub seconds : y ≤ largest
+  pub thirds : z ≤ largest
+
+pub record ReadNumbers (line : List ℕ) (at : ℕ) (first second third : List ℕ) (x y z : ℕ) : Type 0 where
+  pub fits : NumbersFit x y z
+  pub shows : drop at line ≡ showNumbers first x second y third z
+
+module _ (line first second third : List ℕ) where
+  abbrev NumbersRead : ℕ → Numbers → Type 0
+  NumbersRead at (Are x y z) = ReadNumbers line at first second third x y z
+  NumbersRead at NoNumbers = Unit {0}
+
+  numbers-joined : (at x y z a b c : ℕ) → Field line at first x a → Field line a second y b → Field line b third z c → c ≡ length line →
+      ReadNumbers line at first second third x y z
+  numbers-joined at x y z a b c p q r e =
+      record {
+        fits = record { firsts = p .fits; seconds = q .fits; thirds = r .fits };
+        shows = p .shows ∙ ap (λ (m : List ℕ). first ++ (showNumber x ++ m))
+            (q .shows ∙ ap (λ (m : List ℕ). second ++ (showNumber y ++ m)) (last-read line third b z c r e));
+      }
+
+  numbers-found : (at : ℕ) → NumbersRead at (numbersAt line at first second third)
+  unfolding numbersAt
+  numbers-found at =
+      each-number (NumbersRead at) (fieldAt line at first) NoNumbers _ tt
+      (λ x a p.
+      each-number (NumbersRead at) (fieldAt line a second) NoNumbers _ tt
+      (λ y b q.
+      each-number (NumbersRead at) (fieldAt line b third) NoNumbers _ tt
+      (λ z c r.
+      each-test (NumbersRead at) (eqb c (length line)) (Are x y z) NoNumbers tt
+      (λ s. numbers-joined at x y z a b c (field-read line first at x a p) (field-read line second a y b q) (field-read line third b z c r)
+      (eqb-true c (length line) s)))))
+
+  -- what reads as numbers is these numbers shown
+  numbers-read : (at x y z : ℕ) → numbersAt line at first second third ≡ Are x y z → ReadNumbers line at first second third x y z
+  numbers-read at x y z e = subst (NumbersRead at) e (numbers-found at)
+
+  -- numbers that are shown read as these numbers
+  numbers-shown : (at x y z : ℕ) → Spaced second → Spaced third → NumbersFit x y z → drop at line ≡ showNumbers first x second y third z →
+      numbersAt line at first second third ≡ Are x y z
+  unfolding numbersAt
+  numbers-shown at x y z s₁ s₂ f e =
+      let r₂ : List ℕ = third ++ showNumber z in
+      let r₁ : List ℕ = second ++ (showNumber y ++ r₂) in
+      let a : ℕ = at + length first + length (showNumber x) in
+      let b : ℕ = a + length second + length (showNumber y) in
+      let p : drop a line ≡ r₁ = past-field line first r₁ at x e in
+      let q : drop b line ≡ r₂ = past-field line second r₂ a y p in
+      rw (
+        field-shown line first r₁ at x e (f .firsts) (spaced-stops false second (showNumber y ++ r₂) s₁),
+        field-shown line second r₂ a y p (f .seconds) (spaced-stops false third (showNumber z) s₂),
+        field-shown line third [] b z (q ∙ nothing-past third z) (f .thirds) tt,
+        eq-eqb _ _ (last-shown line third b z q),
+      )
+
+-- ---- a key, and then three numbers
+
+-- the part of a line that is its key
+abbrev pub keyIn : List ℕ → ℕ → ℕ → List ℕ
+keyIn line start end = take (end - start) (drop start line)
+
+pub record KeyInside (line : List ℕ) (start end : ℕ) : Type 0 where
+  pub starts : start ≤ end
+  pub ends : end ≤ length line
+
+pub key-inside : (line : List ℕ) (start end : ℕ) → Key (keyIn line start end) → end ≡ start + length (keyIn line start end) → KeyInside line start end
+key-inside line start end k e =
+    let l : length (keyIn line start end) ≤ length line - start = simp (length-take, length-drop) (omega arith) in
+    record { starts = omega (arith, e); ends = omega (arith, e, l, k .some) }
+
+pub record ReadTail (line : List ℕ) (at : ℕ) (text first second third : List ℕ) (start end x y z : ℕ) : Type 0 where
+  pub keys : Key (keyIn line start end)
+  pub fits : NumbersFit x y z
+  pub starts : start ≡ at + length text
+  pub ends : end ≡ start + length (keyIn line start end)
+  pub shows : drop at line ≡ text ++ (keyIn line start end ++ showNumbers first x second y third z)
+
+module _ (line text first second third : List ℕ) where
+  abbrev TailRead : ℕ → Tail → Type 0
+  TailRead at (Keyed start end x y z) = ReadTail line at text first second third start end x y z
+  TailRead at NoTail = Unit {0}
+
+  tail-joined : (at start end x y z : ℕ) → (start ≡ at + length text) × (drop at line ≡ text ++ drop start line) →
+      KeyRead line start end (keyIn line start end) → ReadNumbers line end first second third x y z →
+      ReadTail line at text first second third start end x y z
+  tail-joined at start end x y z p k n =
+      record {
+        keys = k .good;
+        fits = n .fits;
+        starts = p .0;
+        ends = k .past;
+        shows = p .1 ∙ ap (λ (m : List ℕ). text ++ m) (k .shows ∙ ap (λ (m : List ℕ). keyIn line start end ++ m) (n .shows));
+      }
+
+  tail-found : (at : ℕ) → TailRead at (tailAt line at text first second third)
+  unfolding tailAt
+  tail-found at =
+      each-place (TailRead at) (textAt line at text) NoTail _ tt
+      (λ start p.
+      each-place (TailRead at) (keyAt line start) NoTail _ tt
+      (λ end k.
+      each-numbers (TailRead at) (numbersAt line end first second third) NoTail (λ x y z. Keyed start end x y z) tt
+      (λ x y z n.
+      tail-joined at start end x y z (text-read line text at start p) (key-read line start end k) (numbers-read line first second third end x y z n))))
+
+  -- what reads as a key and numbers is these shown, and the key stands where it says
+  pub tail-read : (at start end x y z : ℕ) → tailAt line at text first second third ≡ Keyed start end x y z →
+      ReadTail line at text first second third start end x y z
+  tail-read at start end x y z e = subst (TailRead at) e (tail-found at)
+
+  -- a key and numbers that are shown read as these
+  pub tail-shown : (at : ℕ) (key : List ℕ) (x y z : ℕ) → Spaced first → Spaced second → Spaced third → Key key → NumbersFit x y z →
+      drop at line ≡ text ++ (key ++ showNumbers first x second y third z) →
+      tailAt line at text first second third ≡ Keyed (at + length text) (at + length text + length key) x y z
+  unfolding tailAt
+  tail-shown at key x y z s₁ s₂ s₃ k f e =
+      let r₂ : List ℕ = showNumbers first x second y third z in
+      let r₁ : List ℕ = key ++ r₂ in
+      let s : ℕ = at + length text in
+      let p : drop s line ≡ r₁ = past-part line text r₁ at e in
+      let q : drop (s + length key) line ≡ r₂ = past-part line key r₂ s p in
+      rw (
+        text-shown line text r₁ at e,
+        key-shown line key r₂ s p k (spaced-stops true first _ s₁),
+        numbers-shown line first second third (s + length key) x y z s₂ s₃ f q,
+      )
 
 -- ---- settings lines
 
@@ -80,16 +220,13 @@ abbrev pub SettingsRead : List ℕ → SettingsLine → Type 0
 SettingsRead line (settings.Settings window bucket factor cache) = ReadSettings line window bucket factor cache
 SettingsRead line settings.Bad = Unit {0}
 
-settings-joined : (line : List ℕ) (window bucket factor cache a b c d : ℕ) → Field line 0 windowText window a → Field line a bucketText bucket b →
-    Field line b factorText factor c →
-    Field line c cacheText cache d → factor ≤ exactLargest → d ≡ length line → ReadSettings line window bucket factor cache
+settings-joined : (line : List ℕ) (window bucket factor cache a : ℕ) → Field line 0 windowText window a →
+    ReadNumbers line a bucketText factorText cacheText bucket factor cache → factor ≤ exactLargest → ReadSettings line window bucket factor cache
 unfolding showSettings
-settings-joined line window bucket factor cache a b c d p q r s h e =
+settings-joined line window bucket factor cache a p n h =
     record {
-      fits = record { windows = p .fits; buckets = q .fits; factors = h; caches = s .fits };
-      shows = p .shows ∙ ap (λ (l : List ℕ). windowText ++ (showNumber window ++ l))
-          (q .shows ∙ ap (λ (l : List ℕ). bucketText ++ (showNumber bucket ++ l))
-          (r .shows ∙ ap (λ (l : List ℕ). factorText ++ (showNumber factor ++ l)) (last-read line cacheText c cache d s e)));
+      fits = record { windows = p .fits; buckets = n .fits .firsts; factors = h; caches = n .fits .thirds };
+      shows = p .shows ∙ ap (λ (l : List ℕ). windowText ++ (showNumber window ++ l)) (n .shows);
     }
 
 -- what reads as settings is these settings shown
@@ -98,39 +235,26 @@ unfolding readSettings
 settings-read line =
     each-number (SettingsRead line) (fieldAt line 0 windowText) settings.Bad _ tt
     (λ window a p.
-    each-number (SettingsRead line) (fieldAt line a bucketText) settings.Bad _ tt
-    (λ bucket b q.
-    each-number (SettingsRead line) (fieldAt line b factorText) settings.Bad _ tt
-    (λ factor c r.
-    each-number (SettingsRead line) (fieldAt line c cacheText) settings.Bad _ tt
-    (λ cache d s.
-    each-test (SettingsRead line) (closes line d factor) (settings.Settings window bucket factor cache) settings.Bad tt
+    each-numbers (SettingsRead line) (numbersAt line a bucketText factorText cacheText) settings.Bad _ tt
+    (λ bucket factor cache n.
+    each-test (SettingsRead line) (isExact factor) (settings.Settings window bucket factor cache) settings.Bad tt
     (λ t.
-    let u = closed-is line d factor t in
-    settings-joined line window bucket factor cache a b c d (field-read line windowText 0 window a p) (field-read line bucketText a bucket b q)
-    (field-read line factorText b factor c r)
-    (field-read line cacheText c cache d s) (u .exact) (u .ended))))))
+    settings-joined line window bucket factor cache a (field-read line windowText 0 window a p)
+    (numbers-read line bucketText factorText cacheText a bucket factor cache n) (exact-is factor t))))
 
 settings-line : (line : List ℕ) (window bucket factor cache : ℕ) → SettingsFit window bucket factor cache → line ≡ showSettings window bucket factor cache →
     readSettings line ≡ settings.Settings window bucket factor cache
 unfolding readSettings showSettings
 settings-line line window bucket factor cache f e =
-    let r₃ : List ℕ = cacheText ++ showNumber cache in
-    let r₂ : List ℕ = factorText ++ (showNumber factor ++ r₃) in
-    let r₁ : List ℕ = bucketText ++ (showNumber bucket ++ r₂) in
+    let r : List ℕ = showNumbers bucketText bucket factorText factor cacheText cache in
     let a : ℕ = 0 + length windowText + length (showNumber window) in
-    let b : ℕ = a + length bucketText + length (showNumber bucket) in
-    let c : ℕ = b + length factorText + length (showNumber factor) in
-    let p : drop a line ≡ r₁ = past-field line windowText r₁ 0 window e in
-    let q : drop b line ≡ r₂ = past-field line bucketText r₂ a bucket p in
-    let r : drop c line ≡ r₃ = past-field line factorText r₃ b factor q in
+    let p : drop a line ≡ r = past-field line windowText r 0 window e in
     let h : factor ≤ largest = omega (arith, f .factors) in
+    let n : NumbersFit bucket factor cache = record { firsts = f .buckets; seconds = h; thirds = f .caches } in
     rw (
-      field-shown line windowText r₁ 0 window e (f .windows) (space-stops false),
-      field-shown line bucketText r₂ a bucket p (f .buckets) (space-stops false),
-      field-shown line factorText r₃ b factor q h (space-stops false),
-      field-shown line cacheText [] c cache (r ∙ nothing-past cacheText cache) (f .caches) tt,
-      is-closed line _ factor (f .factors) (last-shown line cacheText c cache (omega arith) r),
+      field-shown line windowText r 0 window e (f .windows) (space-stops false),
+      numbers-shown line bucketText factorText cacheText a bucket factor cache refl refl n p,
+      is-exact factor (f .factors),
     )
 
 -- settings that are shown read as these settings
@@ -148,10 +272,6 @@ settings-whole line window bucket factor cache f e b =
 
 -- ---- call lines
 
--- the part of a line that is its key
-abbrev pub keyIn : List ℕ → ℕ → ℕ → List ℕ
-keyIn line start end = take (end - start) (drop start line)
-
 pub record ReadCall (line : List ℕ) (t : ℕ) (op : Op) (start end rate n draw : ℕ) : Type 0 where
   pub fits : CallFits t (keyIn line start end) rate n draw
   pub starts : start ≡ keyStart t op
@@ -163,71 +283,16 @@ abbrev pub CallRead : List ℕ → CallLine → Type 0
 CallRead line (call.Call t op start end rate n draw) = ReadCall line t op start end rate n draw
 CallRead line call.Bad = Unit {0}
 
--- what is found of the numbers at `at`
-pub record Amounted (line : List ℕ) (at rate n draw : ℕ) : Type 0 where
-  pub rate-fits : rate ≤ exactLargest
-  pub n-fits : n ≤ largest
-  pub draw-fits : draw ≤ largest
-  pub shows : drop at line ≡ rateText ++ (showNumber rate ++ (nText ++ (showNumber n ++ (drawText ++ showNumber draw))))
-
-abbrev AmountsRead : List ℕ → ℕ → Amounts → Type 0
-AmountsRead line at (Are rate n draw) = Amounted line at rate n draw
-AmountsRead line at NoAmounts = Unit {0}
-
-amounts-joined : (line : List ℕ) (at rate n draw c d e : ℕ) → Field line at rateText rate c → Field line c nText n d → Field line d drawText draw e →
-    Closed line e rate → Amounted line at rate n draw
-amounts-joined line at rate n draw c d e x y z l =
-    record {
-      rate-fits = l .exact;
-      n-fits = y .fits;
-      draw-fits = z .fits;
-      shows = x .shows ∙ ap (λ (m : List ℕ). rateText ++ (showNumber rate ++ m))
-          (y .shows ∙ ap (λ (m : List ℕ). nText ++ (showNumber n ++ m)) (last-read line drawText d draw e z (l .ended)));
-    }
-
-amounts-read : (line : List ℕ) (at : ℕ) → AmountsRead line at (amountsAt line at)
-unfolding amountsAt
-amounts-read line at =
-    each-number (AmountsRead line at) (fieldAt line at rateText) NoAmounts _ tt
-    (λ rate c x.
-    each-number (AmountsRead line at) (fieldAt line c nText) NoAmounts _ tt
-    (λ n d y.
-    each-number (AmountsRead line at) (fieldAt line d drawText) NoAmounts _ tt
-    (λ draw e z.
-    each-test (AmountsRead line at) (closes line e rate) (Are rate n draw) NoAmounts tt
-    (λ s. amounts-joined line at rate n draw c d e (field-read line rateText at rate c x) (field-read line nText c n d y)
-    (field-read line drawText d draw e z) (closed-is line e rate s)))))
-
-amounts-shown : (line : List ℕ) (at rate n draw : ℕ) → Amounted line at rate n draw → amountsAt line at ≡ Are rate n draw
-unfolding amountsAt
-amounts-shown line at rate n draw f =
-    let r₂ : List ℕ = drawText ++ showNumber draw in
-    let r₁ : List ℕ = nText ++ (showNumber n ++ r₂) in
-    let c : ℕ = at + length rateText + length (showNumber rate) in
-    let d : ℕ = c + length nText + length (showNumber n) in
-    let p : drop c line ≡ r₁ = past-field line rateText r₁ at rate (f .shows) in
-    let q : drop d line ≡ r₂ = past-field line nText r₂ c n p in
-    let h : rate ≤ largest = omega (arith, f .rate-fits) in
-    rw (
-      field-shown line rateText r₁ at rate (f .shows) h (space-stops false),
-      field-shown line nText r₂ c n p (f .n-fits) (space-stops false),
-      field-shown line drawText [] d draw (q ∙ nothing-past drawText draw) (f .draw-fits) tt,
-      is-closed line _ rate (f .rate-fits) (last-shown line drawText d draw (omega arith) q),
-    )
-
 call-joined : (line : List ℕ) (t : ℕ) (op : Op) (start end rate n draw a b : ℕ) → Field line 0 tText t a →
     (b ≡ a + length (opText op)) × (drop a line ≡ opText op ++ drop b line) →
-    (start ≡ b + length keyText) × (drop b line ≡ keyText ++ drop start line) → KeyRead line start end (keyIn line start end) →
-    Amounted line end rate n draw → ReadCall line t op start end rate n draw
+    ReadTail line b keyText rateText nText drawText start end rate n draw → rate ≤ exactLargest → ReadCall line t op start end rate n draw
 unfolding showCall
-call-joined line t op start end rate n draw a b p q r k x =
+call-joined line t op start end rate n draw a b p q x h =
     record {
-      fits = record { times = p .fits; keys = k .good; rates = x .rate-fits; counts = x .n-fits; draws = x .draw-fits };
-      starts = omega (arith, p .past, q .0, r .0);
-      ends = k .past;
-      shows = p .shows ∙ ap (λ (m : List ℕ). tText ++ (showNumber t ++ m))
-          (q .1 ∙ ap (λ (m : List ℕ). opText op ++ m)
-          (r .1 ∙ ap (λ (m : List ℕ). keyText ++ m) (k .shows ∙ ap (λ (m : List ℕ). keyIn line start end ++ m) (x .shows))));
+      fits = record { times = p .fits; keys = x .keys; rates = h; counts = x .fits .seconds; draws = x .fits .thirds };
+      starts = omega (arith, p .past, q .0, x .starts);
+      ends = x .ends;
+      shows = p .shows ∙ ap (λ (m : List ℕ). tText ++ (showNumber t ++ m)) (q .1 ∙ ap (λ (m : List ℕ). opText op ++ m) (x .shows));
     }
 
 -- what reads as a call is this call shown, and its key stands where it says
@@ -238,39 +303,31 @@ call-read line =
     (λ t a p.
     each-name (CallRead line) (opAt line a) call.Bad _ tt
     (λ op b q.
-    each-place (CallRead line) (textAt line b keyText) call.Bad _ tt
-    (λ start r.
-    each-place (CallRead line) (keyAt line start) call.Bad _ tt
-    (λ end k.
-    each-amounts (CallRead line) (amountsAt line end) call.Bad (λ rate n draw. call.Call t op start end rate n draw) tt
-    (λ rate n draw x.
-    call-joined line t op start end rate n draw a b (field-read line tText 0 t a p) (op-read line a op b q) (text-read line keyText b start r)
-    (key-read line start end k)
-    (subst (AmountsRead line end) x (amounts-read line end)))))))
+    each-tail (CallRead line) (tailAt line b keyText rateText nText drawText) call.Bad _ tt
+    (λ start end rate n draw x.
+    each-test (CallRead line) (isExact rate) (call.Call t op start end rate n draw) call.Bad tt
+    (λ h.
+    call-joined line t op start end rate n draw a b (field-read line tText 0 t a p) (op-read line a op b q)
+    (tail-read line keyText rateText nText drawText b start end rate n draw x) (exact-is rate h)))))
 
 call-line : (line : List ℕ) (t : ℕ) (op : Op) (key : List ℕ) (rate n draw : ℕ) → CallFits t key rate n draw → line ≡ showCall t op key rate n draw →
     readCall line ≡ call.Call t op (keyStart t op) (keyStart t op + length key) rate n draw
 unfolding readCall showCall
 call-line line t op key rate n draw f e =
-    let r₄ : List ℕ = rateText ++ (showNumber rate ++ (nText ++ (showNumber n ++ (drawText ++ showNumber draw)))) in
-    let r₃ : List ℕ = key ++ r₄ in
-    let r₂ : List ℕ = keyText ++ r₃ in
+    let r₂ : List ℕ = keyText ++ (key ++ showNumbers rateText rate nText n drawText draw) in
     let r₁ : List ℕ = opText op ++ r₂ in
     let a : ℕ = 0 + length tText + length (showNumber t) in
     let b : ℕ = a + length (opText op) in
-    let s : ℕ = b + length keyText in
-    let z : ℕ = s + length key in
-    let p₁ : drop a line ≡ r₁ = past-field line tText r₁ 0 t e in
-    let p₂ : drop b line ≡ r₂ = past-part line (opText op) r₂ a p₁ in
-    let p₃ : drop s line ≡ r₃ = past-part line keyText r₃ b p₂ in
-    let p₄ : drop z line ≡ r₄ = past-part line key r₄ s p₃ in
-    let k : s ≡ keyStart t op = omega arith in
+    let p : drop a line ≡ r₁ = past-field line tText r₁ 0 t e in
+    let q : drop b line ≡ r₂ = past-part line (opText op) r₂ a p in
+    let h : rate ≤ largest = omega (arith, f .rates) in
+    let m : NumbersFit rate n draw = record { firsts = h; seconds = f .counts; thirds = f .draws } in
+    let k : b + length keyText ≡ keyStart t op = omega arith in
     rw (
-      field-shown line tText r₁ 0 t e (f .times) (op-stops op r₂),
-      op-shown line r₂ a op p₁,
-      text-shown line keyText r₃ b p₂,
-      key-shown line key r₄ s p₃ (f .keys) (space-stops true),
-      amounts-shown line z rate n draw (record { rate-fits = f .rates; n-fits = f .counts; draw-fits = f .draws; shows = p₄ }),
+      field-shown line tText r₁ 0 t e (f .times) (spaced-stops false (opText op) r₂ (op-spaced op)),
+      op-shown line r₂ a op p,
+      tail-shown line keyText rateText nText drawText b key rate n draw refl refl refl (f .keys) m q,
+      is-exact rate (f .rates),
     )
     (ap (λ (i : ℕ). call.Call t op i (i + length key) rate n draw) k)
 

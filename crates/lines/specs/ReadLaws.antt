@@ -14,7 +14,7 @@ use Rattle.fields.specs.Bytes.{counts}
 use Rattle.fields.specs.Numbers.{showNumber, value, Each, show-digits, value-show, show-value, show-length, show-first, show-small}
 use Rattle.lines.specs.Shown.{opText}
 use Rattle.fields.specs.Ranges.{Key, largest}
-use Rattle.lines.specs.Reading.{opAt, onName, onAmounts}
+use Rattle.lines.specs.Reading.{opAt, onName, onNumbers, onTail}
 use Rattle.fields.specs.Parts.{run, begins, textAt, numberOf, numberAt, keyAt, fieldAt, onNumber, onPlace}
 use Rattle.fields.specs.Turns.{run-length}
 use Rattle.fields.specs.declared.Number.{Number}
@@ -23,8 +23,10 @@ use Rattle.fields.specs.declared.Place.{Place}
 use Rattle.fields.specs.declared.Place.the-variants.{At, Missing}
 use Rattle.lines.specs.declared.Op.{Op}
 use Rattle.lines.specs.declared.Op.the-variants.{AbsoluteInc, AbsoluteGet, SuppressedInc, SuppressedGet}
-use Rattle.lines.specs.declared.Amounts.{Amounts}
-use Rattle.lines.specs.declared.Amounts.the-variants.{Are, NoAmounts}
+use Rattle.lines.specs.declared.Numbers.{Numbers}
+use Rattle.lines.specs.declared.Numbers.the-variants.{Are, NoNumbers}
+use Rattle.lines.specs.declared.Tail.{Tail}
+use Rattle.lines.specs.declared.Tail.the-variants.{Keyed, NoTail}
 use Rattle.lines.specs.declared.Named.{Named}
 use Rattle.lines.specs.declared.Named.the-variants.{Is, NoName}
 
@@ -43,10 +45,15 @@ pub each-name : {A : Type 0} (P : A → Type 0) (m : Named) (bad : A) (k : Op �
 each-name P (Is op n) bad k b f = f op n refl
 each-name P NoName bad k b f = b
 
-pub each-amounts : {A : Type 0} (P : A → Type 0) (m : Amounts) (bad : A) (k : ℕ → ℕ → ℕ → A) → P bad →
-    ((rate n draw : ℕ) → m ≡ Are rate n draw → P (k rate n draw)) → P (onAmounts m bad k)
-each-amounts P (Are rate n draw) bad k b f = f rate n draw refl
-each-amounts P NoAmounts bad k b f = b
+pub each-numbers : {A : Type 0} (P : A → Type 0) (m : Numbers) (bad : A) (k : ℕ → ℕ → ℕ → A) → P bad →
+    ((x y z : ℕ) → m ≡ Are x y z → P (k x y z)) → P (onNumbers m bad k)
+each-numbers P (Are x y z) bad k b f = f x y z refl
+each-numbers P NoNumbers bad k b f = b
+
+pub each-tail : {A : Type 0} (P : A → Type 0) (m : Tail) (bad : A) (k : ℕ → ℕ → ℕ → ℕ → ℕ → A) → P bad →
+    ((start end x y z : ℕ) → m ≡ Keyed start end x y z → P (k start end x y z)) → P (onTail m bad k)
+each-tail P (Keyed start end x y z) bad k b f = f start end x y z refl
+each-tail P NoTail bad k b f = b
 
 pub each-test : {A : Type 0} (P : A → Type 0) (t : Bool) (good bad : A) → P bad → (t ≡ true → P good) → P (cond t good bad)
 each-test P true good bad b f = f refl

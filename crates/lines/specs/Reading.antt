@@ -1,6 +1,6 @@
 -- How a line is read, from left to right. Every definition computes; `ReadLaws` says that reading and showing undo each other.
 -- Assumes nothing.
-use mathlib.Core.Bool.{Bool, cond, _&&_}
+use mathlib.Core.Bool.{Bool, cond}
 use mathlib.Core.List.{List}
 use Prim.Native.Nat.{ℕ}
 use lib.ListN.{length}
@@ -11,8 +11,10 @@ use Rattle.lines.specs.declared.Op.{Op}
 use Rattle.lines.specs.declared.Op.the-variants.{AbsoluteInc, AbsoluteGet, SuppressedInc, SuppressedGet}
 use Rattle.lines.specs.declared.Named.{Named}
 use Rattle.lines.specs.declared.Named.the-variants.{Is, NoName}
-use Rattle.lines.specs.declared.Amounts.{Amounts}
-use Rattle.lines.specs.declared.Amounts.the-variants.{Are, NoAmounts}
+use Rattle.lines.specs.declared.Numbers.{Numbers}
+use Rattle.lines.specs.declared.Numbers.the-variants.{Are, NoNumbers}
+use Rattle.lines.specs.declared.Tail.{Tail}
+use Rattle.lines.specs.declared.Tail.the-variants.{Keyed, NoTail}
 use Rattle.lines.specs.declared.CallLine.{CallLine}
 use Rattle.lines.specs.declared.CallLine.the-variants as call
 use Rattle.lines.specs.declared.SettingsLine.{SettingsLine}
@@ -23,9 +25,13 @@ abbrev pub onName : {A : Type 0} → Named → A → (Op → ℕ → A) → A
 onName (Is op next) bad k = k op next
 onName NoName bad k = bad
 
-abbrev pub onAmounts : {A : Type 0} → Amounts → A → (ℕ → ℕ → ℕ → A) → A
-onAmounts (Are rate n draw) bad k = k rate n draw
-onAmounts NoAmounts bad k = bad
+abbrev pub onNumbers : {A : Type 0} → Numbers → A → (ℕ → ℕ → ℕ → A) → A
+onNumbers (Are x y z) bad k = k x y z
+onNumbers NoNumbers bad k = bad
+
+abbrev pub onTail : {A : Type 0} → Tail → A → (ℕ → ℕ → ℕ → ℕ → ℕ → A) → A
+onTail (Keyed start end x y z) bad k = k start end x y z
+onTail NoTail bad k = bad
 
 -- the operation at `at`
 abbrev pub opIf : List ℕ → ℕ → Op → Named → Named
@@ -36,30 +42,34 @@ opAt line at = opIf line at AbsoluteInc (opIf line at AbsoluteGet (opIf line at 
 
 -- ---- the lines
 
--- the line ends at `at`, and n is "at most 2^53"
-unfoldable pub closes : List ℕ → ℕ → ℕ → Bool
-closes line at n = leb n exactLargest && eqb at (length line)
+-- the three numbers at `at` that end a line, each after its text
+unfoldable pub numbersAt : List ℕ → ℕ → List ℕ → List ℕ → List ℕ → Numbers
+numbersAt line at first second third =
+    onNumber (fieldAt line at first) NoNumbers
+    (λ x a.
+    onNumber (fieldAt line a second) NoNumbers
+    (λ y b.
+    onNumber (fieldAt line b third) NoNumbers
+    (λ z c. cond (eqb c (length line)) (Are x y z) NoNumbers)))
+
+-- a key at `at`, after its text, and then such numbers
+unfoldable pub tailAt : List ℕ → ℕ → List ℕ → List ℕ → List ℕ → List ℕ → Tail
+tailAt line at key first second third =
+    onPlace (textAt line at key) NoTail
+    (λ start.
+    onPlace (keyAt line start) NoTail
+    (λ end. onNumbers (numbersAt line end first second third) NoTail (λ x y z. Keyed start end x y z)))
+
+-- "rate and factor at most 2^53"
+unfoldable pub isExact : ℕ → Bool
+isExact n = leb n exactLargest
 
 unfoldable pub readSettings : List ℕ → SettingsLine
 readSettings line =
     onNumber (fieldAt line 0 windowText) settings.Bad
     (λ window a.
-    onNumber (fieldAt line a bucketText) settings.Bad
-    (λ bucket b.
-    onNumber (fieldAt line b factorText) settings.Bad
-    (λ factor c.
-    onNumber (fieldAt line c cacheText) settings.Bad
-    (λ cache d. cond (closes line d factor) (settings.Settings window bucket factor cache) settings.Bad))))
-
--- the numbers at `at` that end a call line
-unfoldable pub amountsAt : List ℕ → ℕ → Amounts
-amountsAt line at =
-    onNumber (fieldAt line at rateText) NoAmounts
-    (λ rate c.
-    onNumber (fieldAt line c nText) NoAmounts
-    (λ n d.
-    onNumber (fieldAt line d drawText) NoAmounts
-    (λ draw e. cond (closes line e rate) (Are rate n draw) NoAmounts)))
+    onNumbers (numbersAt line a bucketText factorText cacheText) settings.Bad
+    (λ bucket factor cache. cond (isExact factor) (settings.Settings window bucket factor cache) settings.Bad))
 
 unfoldable pub readCall : List ℕ → CallLine
 readCall line =
@@ -67,7 +77,5 @@ readCall line =
     (λ t a.
     onName (opAt line a) call.Bad
     (λ op b.
-    onPlace (textAt line b keyText) call.Bad
-    (λ start.
-    onPlace (keyAt line start) call.Bad
-    (λ end. onAmounts (amountsAt line end) call.Bad (λ rate n draw. call.Call t op start end rate n draw)))))
+    onTail (tailAt line b keyText rateText nText drawText) call.Bad
+    (λ start end rate n draw. cond (isExact rate) (call.Call t op start end rate n draw) call.Bad)))

@@ -1,7 +1,7 @@
-// The lines of the program `desk`, as functions on bytes: reading a settings line and a call line.
+// The lines of the program `desk`, as functions on bytes: reading a settings line and a call line, by parts that serve the lines of `shots` too.
 // A line stands here without its newline.
 ghost use mathlib.Core.Path.{_≡_};
-ghost use Rattle.lines.specs.Reading.{opAt, closes, amountsAt, readSettings, readCall};
+ghost use Rattle.lines.specs.Reading.{opAt, numbersAt, tailAt, isExact, readSettings, readCall};
 use fields::Number;
 use fields::Place;
 use fields::field_at;
@@ -42,14 +42,86 @@ fn op_at(line: &[u8], at: usize) -> Named
     Named::NoName
 }
 
-// Whether a line ends at `at`, and n, its rate or factor, is at most 2^53.
-fn is_closed(line: &[u8], at: usize, n: u64) -> bool
-    ensures { λ r. ⌜ r ≡ closes (now (line .entry)) at n ⌝ }
+// The three numbers that end a line.
+pub enum Numbers {
+    Are { first: u64, second: u64, third: u64 },
+    NoNumbers,
+}
+
+// Those at `at`, each after its text, up to the line's end.
+fn numbers_at(line: &[u8], at: usize, first: &[u8], second: &[u8], third: &[u8]) -> Numbers
+    ensures { λ r. ⌜ r ≡ numbersAt (now (line .entry)) at (now (first .entry)) (now (second .entry)) (now (third .entry)) ⌝ }
 {
-    if 9007199254740992 < n {
-        return false;
+    let Number::Found { value: x, next: a } = field_at(line, at, first) else {
+        return Numbers::NoNumbers;
+    };
+    let Number::Found { value: y, next: b } = field_at(line, a, second) else {
+        return Numbers::NoNumbers;
+    };
+    let Number::Found { value: z, next: c } = field_at(line, b, third) else {
+        return Numbers::NoNumbers;
+    };
+    if c != line.len() {
+        return Numbers::NoNumbers;
     }
-    at == line.len()
+    Numbers::Are {
+        first: x,
+        second: y,
+        third: z,
+    }
+}
+
+// A key and the three numbers that end its line. The key is the part of the line from `start` up to `end`.
+pub enum Tail {
+    Keyed {
+        start: usize,
+        end: usize,
+        first: u64,
+        second: u64,
+        third: u64,
+    },
+    NoTail,
+}
+
+// Those at `at`, each after its text.
+pub fn tail_at(
+    line: &[u8],
+    at: usize,
+    key: &[u8],
+    first: &[u8],
+    second: &[u8],
+    third: &[u8],
+) -> Tail
+    ensures { λ r. ⌜ r ≡ tailAt (now (line .entry)) at (now (key .entry)) (now (first .entry)) (now (second .entry)) (now (third .entry)) ⌝ }
+{
+    let Place::At(start) = text_at(line, at, key) else {
+        return Tail::NoTail;
+    };
+    let Place::At(end) = key_at(line, start) else {
+        return Tail::NoTail;
+    };
+    let Numbers::Are {
+        first: x,
+        second: y,
+        third: z,
+    } = numbers_at(line, end, first, second, third)
+    else {
+        return Tail::NoTail;
+    };
+    Tail::Keyed {
+        start,
+        end,
+        first: x,
+        second: y,
+        third: z,
+    }
+}
+
+// Whether a rate or factor is at most 2^53.
+pub fn is_exact(n: u64) -> bool
+    ensures { λ r. ⌜ r ≡ isExact n ⌝ }
+{
+    n <= 9007199254740992
 }
 
 // A settings line: `window=10 bucket=100 factor=2 cache=100`.
@@ -73,28 +145,15 @@ pub fn read_settings(line: &[u8]) -> SettingsLine
     else {
         return SettingsLine::Bad;
     };
-    let Number::Found {
-        value: bucket,
-        next: b,
-    } = field_at(line, a, b" bucket=")
+    let Numbers::Are {
+        first: bucket,
+        second: factor,
+        third: cache,
+    } = numbers_at(line, a, b" bucket=", b" factor=", b" cache=")
     else {
         return SettingsLine::Bad;
     };
-    let Number::Found {
-        value: factor,
-        next: c,
-    } = field_at(line, b, b" factor=")
-    else {
-        return SettingsLine::Bad;
-    };
-    let Number::Found {
-        value: cache,
-        next: d,
-    } = field_at(line, c, b" cache=")
-    else {
-        return SettingsLine::Bad;
-    };
-    if !is_closed(line, d, factor) {
+    if !is_exact(factor) {
         return SettingsLine::Bad;
     }
     SettingsLine::Settings {
@@ -103,39 +162,6 @@ pub fn read_settings(line: &[u8]) -> SettingsLine
         factor,
         cache,
     }
-}
-
-// The numbers that end a call line.
-pub enum Amounts {
-    Are { rate: u64, n: u64, draw: u64 },
-    NoAmounts,
-}
-
-// Those at `at`, up to the line's end.
-fn amounts_at(line: &[u8], at: usize) -> Amounts
-    ensures { λ r. ⌜ r ≡ amountsAt (now (line .entry)) at ⌝ }
-{
-    let Number::Found {
-        value: rate,
-        next: c,
-    } = field_at(line, at, b" rate=")
-    else {
-        return Amounts::NoAmounts;
-    };
-    let Number::Found { value: n, next: d } = field_at(line, c, b" n=") else {
-        return Amounts::NoAmounts;
-    };
-    let Number::Found {
-        value: draw,
-        next: e,
-    } = field_at(line, d, b" draw=")
-    else {
-        return Amounts::NoAmounts;
-    };
-    if !is_closed(line, e, rate) {
-        return Amounts::NoAmounts;
-    }
-    Amounts::Are { rate, n, draw }
 }
 
 // A call line: `t=0 op=sinc key=a rate=60 n=8 draw=0`. The key is the part of the line from `start` up to `end`.
@@ -161,15 +187,19 @@ pub fn read_call(line: &[u8]) -> CallLine
     let Named::Is(op, b) = op_at(line, a) else {
         return CallLine::Bad;
     };
-    let Place::At(start) = text_at(line, b, b" key=") else {
+    let Tail::Keyed {
+        start,
+        end,
+        first: rate,
+        second: n,
+        third: draw,
+    } = tail_at(line, b, b" key=", b" rate=", b" n=", b" draw=")
+    else {
         return CallLine::Bad;
     };
-    let Place::At(end) = key_at(line, start) else {
+    if !is_exact(rate) {
         return CallLine::Bad;
-    };
-    let Amounts::Are { rate, n, draw } = amounts_at(line, end) else {
-        return CallLine::Bad;
-    };
+    }
     CallLine::Call {
         t,
         op,

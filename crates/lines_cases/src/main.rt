@@ -1,11 +1,13 @@
-// Reads settings lines and call lines, good and bad, and prints what was found; then prints answers.
+// Reads settings lines, call lines and shot lines, good and bad, and prints what was found; then prints answers.
 // A call that is read is told as an answer's line: t, the operation's number, the draw as 16 hex digits, the rate, n, and where its key lies.
+// So is a shot, with its own number in n's place.
 use libc::STDOUT_FILENO;
 use lines::CallLine;
 use lines::Op;
 use lines::SettingsLine;
 use printing::Answer;
 use printing::AnswerLine;
+use shot_lines::ShotLine;
 
 fn write(out: &[u8], n: usize) {
     if n <= out.len() {
@@ -52,6 +54,33 @@ fn call(line: &[u8]) {
             });
         }
         CallLine::Bad => {
+            io::write_all(STDOUT_FILENO, b"bad\n");
+        }
+    }
+}
+
+fn shot(line: &[u8]) {
+    match shot_lines::read_shot(line) {
+        ShotLine::Shot {
+            t,
+            start,
+            end,
+            number,
+            rate,
+            draw,
+        } => {
+            say(AnswerLine {
+                t,
+                code: 0,
+                answer: Answer::Value,
+                factor: draw,
+                wait: rate,
+                left: number,
+                total: start as u64,
+                declined: end as u64,
+            });
+        }
+        ShotLine::Bad => {
             io::write_all(STDOUT_FILENO, b"bad\n");
         }
     }
@@ -119,6 +148,27 @@ fn bad_calls() {
     call(b"t=-1 op=sinc key=a rate=60 n=8 draw=0");
 }
 
+fn good_shots() {
+    shot(b"t=0 ctl=a shot=17 rate=60 draw=0");
+    shot(b"t=1700 ctl=abcdefghijklmnopqrstuvwxyz012345 shot=0 rate=0 draw=4503599627370496");
+    shot(b"t=18446744073709551615 ctl=9 shot=18446744073709551615 rate=9007199254740992 draw=1");
+}
+
+fn bad_shots() {
+    shot(b"");
+    shot(b"t=0 op=sinc key=a rate=60 n=8 draw=0");
+    shot(b"t=0 ctl=a shot=17 rate=60 draw=0 ");
+    shot(b"t=0 ctl=a shot=17 rate=60");
+    shot(b"t=0 ctl=a rate=60 shot=17 draw=0");
+    shot(b"t=0 shot=17 ctl=a rate=60 draw=0");
+    shot(b"t=0 key=a shot=17 rate=60 draw=0");
+    shot(b"t=0 ctl=a shot=017 rate=60 draw=0");
+    shot(b"t=0 ctl=a shot=18446744073709551616 rate=60 draw=0");
+    shot(b"t=0 ctl=a shot=17 rate=9007199254740993 draw=0");
+    shot(b"t=0 ctl= shot=17 rate=60 draw=0");
+    shot(b"t=0 ctl=abcdefghijklmnopqrstuvwxyz0123456 shot=17 rate=60 draw=0");
+}
+
 fn answer(t: u64, answer: Answer, factor: u64, total: u64) {
     say(AnswerLine {
         t,
@@ -144,11 +194,14 @@ fn answers() {
     );
     answer(2, Answer::Yes, 11259375, 10);
     answer(3, Answer::Refused, 0, 9);
+    answer(4, Answer::Held, 0, 7);
 }
 
 fn main() {
     all_settings();
     good_calls();
     bad_calls();
+    good_shots();
+    bad_shots();
     answers();
 }

@@ -1,6 +1,6 @@
--- The line that `desk` prints, as bytes, in 01's words: these are the definitions to hold beside the page.
+-- The line that `desk` and `shots` print, as bytes, in 01's words: these are the definitions to hold beside the page.
 -- Assumes nothing.
-use mathlib.Core.Bool.{Bool, true, false, cond}
+use mathlib.Core.Bool.{cond}
 use mathlib.Core.List.{List, [], _∷_, _++_}
 use Prim.Native.Nat.{ℕ, zero, suc, _+_, _/_, _%_}
 use lib.ListN.{length, drop}
@@ -8,20 +8,21 @@ use lib.Dec.{ltb}
 use Rattle.fields.specs.Numbers.{showNumber}
 use Rattle.lines.specs.Shown.{tText, factorText}
 use Rattle.printing.specs.declared.Answer.{Answer}
-use Rattle.printing.specs.declared.Answer.the-variants.{Allowed, Rejected, Yes, No, Value, Refused}
+use Rattle.printing.specs.declared.Answer.the-variants.{Allowed, Rejected, Yes, No, Value, Held, Refused}
 use Rattle.printing.specs.declared.AnswerLine.{AnswerLine}
 
 --  code=
 abbrev pub codeText : List ℕ
 codeText = 32 ∷ 99 ∷ 111 ∷ 100 ∷ 101 ∷ 61 ∷ []
 
---  answer=allowed and so on: 01's six words
+--  answer=allowed and so on: 01's six words, and `held`
 abbrev pub answerText : Answer → List ℕ
 answerText Allowed = 32 ∷ 97 ∷ 110 ∷ 115 ∷ 119 ∷ 101 ∷ 114 ∷ 61 ∷ 97 ∷ 108 ∷ 108 ∷ 111 ∷ 119 ∷ 101 ∷ 100 ∷ []
 answerText Rejected = 32 ∷ 97 ∷ 110 ∷ 115 ∷ 119 ∷ 101 ∷ 114 ∷ 61 ∷ 114 ∷ 101 ∷ 106 ∷ 101 ∷ 99 ∷ 116 ∷ 101 ∷ 100 ∷ []
 answerText Yes = 32 ∷ 97 ∷ 110 ∷ 115 ∷ 119 ∷ 101 ∷ 114 ∷ 61 ∷ 121 ∷ 101 ∷ 115 ∷ []
 answerText No = 32 ∷ 97 ∷ 110 ∷ 115 ∷ 119 ∷ 101 ∷ 114 ∷ 61 ∷ 110 ∷ 111 ∷ []
 answerText Value = 32 ∷ 97 ∷ 110 ∷ 115 ∷ 119 ∷ 101 ∷ 114 ∷ 61 ∷ 118 ∷ 97 ∷ 108 ∷ 117 ∷ 101 ∷ []
+answerText Held = 32 ∷ 97 ∷ 110 ∷ 115 ∷ 119 ∷ 101 ∷ 114 ∷ 61 ∷ 104 ∷ 101 ∷ 108 ∷ 100 ∷ []
 answerText Refused = 32 ∷ 97 ∷ 110 ∷ 115 ∷ 119 ∷ 101 ∷ 114 ∷ 61 ∷ 114 ∷ 101 ∷ 102 ∷ 117 ∷ 115 ∷ 101 ∷ 100 ∷ []
 
 --  wait=

@@ -1,4 +1,4 @@
-// The line that the program `desk` prints for a call, written into a lent slice. A line stands here without its newline.
+// The line that `desk` prints for a call and `shots` for a shot, written into a lent slice. A line stands here without its newline.
 ghost use mathlib.Core.Path.{_≡_};
 ghost use Prim.Native.Nat.{_+_, _≤_, _<_};
 ghost use mathlib.Core.List.{_++_};
@@ -15,6 +15,7 @@ pub enum Answer {
     Yes,
     No,
     Value,
+    Held,
     Refused,
 }
 
@@ -107,6 +108,7 @@ fn put_answer(out: &mut [u8], at: usize, answer: Answer) -> usize
         Answer::Yes => put_text(out, at, b" answer=yes"),
         Answer::No => put_text(out, at, b" answer=no"),
         Answer::Value => put_text(out, at, b" answer=value"),
+        Answer::Held => put_text(out, at, b" answer=held"),
         Answer::Refused => put_text(out, at, b" answer=refused"),
     }
 }

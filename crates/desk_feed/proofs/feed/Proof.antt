@@ -11,17 +11,17 @@ use Rattle.desk_feed.proofs.feed.Statement.{statement}
 use Rattle.desk_feed.proofs.feed.Tie as tie
 
 abbrev Inv-loop : tie.InvT-loop
-Inv-loop absolute₀ suppressed₀ hold₀ block out₀ state₀ taken₀ put₀ absolute suppressed hold out state taken put =
-    Stands (whole state₀ absolute₀ suppressed₀ hold₀) block out₀ (whole state absolute suppressed hold) out taken put ×
-    (length absolute ≡ length absolute₀) × (length suppressed ≡ length suppressed₀) × (length hold ≡ length hold₀)
+Inv-loop first₀ second₀ hold₀ block out₀ state₀ taken₀ put₀ first second hold out state taken put =
+    Stands (whole state₀ first₀ second₀ hold₀) block out₀ (whole state first second hold) out taken put ×
+    (length first ≡ length first₀) × (length second ≡ length second₀) × (length hold ≡ length hold₀)
 
 abbrev μ-loop : tie.MeasureT-loop
-μ-loop absolute₀ suppressed₀ hold₀ block out₀ state₀ taken₀ put₀ absolute suppressed hold out state taken put =
+μ-loop first₀ second₀ hold₀ block out₀ state₀ taken₀ put₀ first second hold out state taken put =
     length block - taken
 
 loop-holds : tie.Need-loop-holds Inv-loop μ-loop
 loop-holds c = let a = c .before .before .before .before .before .args in
-    (stands-first (whole (a .desk) (a .absolute .now) (a .suppressed .now) (a .hold .now)) (a .block .now) (a .out .now), refl, refl, refl)
+    (stands-first (whole (a .desk) (a .first .now) (a .second .now) (a .hold .now)) (a .block .now) (a .out .now), refl, refl, refl)
 
 same-length : tie.Need-same-length Inv-loop μ-loop
 same-length c = c .before .before .loop .inv .1
@@ -39,7 +39,7 @@ returns : tie.Need-returns Inv-loop μ-loop
 returns c =
     let a = c .before .before .before .before .before .before .before .before .args in
     let k = c .before .before .loop in
-    stands-full (whole (a .desk) (a .absolute .now) (a .suppressed .now) (a .hold .now)) (a .block .now) (a .out .now) _ _ _ _ (k .inv .0) _ _ _ _ refl
+    stands-full (whole (a .desk) (a .first .now) (a .second .now) (a .hold .now)) (a .block .now) (a .out .now) _ _ _ _ (k .inv .0) _ _ _ _ refl
     (omega (arith, k .inv .0 .same, c .if1 .taken))
 
 sub-if2 : tie.Need-sub-if2 Inv-loop μ-loop
@@ -61,7 +61,7 @@ returns-2 : tie.Need-returns-2 Inv-loop μ-loop
 returns-2 c =
     let a = c .before .before .before .before .before .before .before .before .before .args in
     let k = c .before .before .before .loop in
-    stands-full (whole (a .desk) (a .absolute .now) (a .suppressed .now) (a .hold .now)) (a .block .now) (a .out .now) _ _ _ _ (k .inv .0) _ _ _ _ refl
+    stands-full (whole (a .desk) (a .first .now) (a .second .now) (a .hold .now)) (a .block .now) (a .out .now) _ _ _ _ (k .inv .0) _ _ _ _ refl
     (omega (arith, k .inv .0 .same, c .if2 .taken, c .before .if1 .left))
 
 shared-slice-read-feed-byte : tie.Need-shared-slice-read-feed-byte Inv-loop μ-loop
@@ -84,7 +84,7 @@ loop-again c =
     .loop in
     let f = c .before .before .before .before .before .before .before .before .before .feed-byte in
     let s = k .inv .0 in (
-      stands-next (whole (a .desk) (a .absolute .now) (a .suppressed .now) (a .hold .now)) (a .block .now) (a .out .now) _ _ _ _ s _ (f .result) _ _ _ _ refl
+      stands-next (whole (a .desk) (a .first .now) (a .second .now) (a .hold .now)) (a .block .now) (a .out .now) _ _ _ _ s _ (f .result) _ _ _ _ refl
           (c .before .before .before .before .before .before .before .before .before .before .before .before .before .before .before .before .before
           .loop-test .taken) (omega (
             arith,
@@ -115,7 +115,7 @@ returns-3 : tie.Need-returns-3 Inv-loop μ-loop
 returns-3 c =
     let a = c .before .before .before .before .before .before .before .args in
     let k = c .before .loop in
-    stands-end (whole (a .desk) (a .absolute .now) (a .suppressed .now) (a .hold .now)) (a .block .now) (a .out .now) _ _ _ _ (k .inv .0) _ _ _ _ refl
+    stands-end (whole (a .desk) (a .first .now) (a .second .now) (a .hold .now)) (a .block .now) (a .out .now) _ _ _ _ (k .inv .0) _ _ _ _ refl
     (c .loop-test .left)
 
 pub feed-spec : {M : Type 1} → statement M

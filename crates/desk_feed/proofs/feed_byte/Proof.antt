@@ -29,7 +29,7 @@ returns : tie.Need-returns
 unfolding byte
 returns c =
     let a = c .before .before .before .before .before .before .before .before .before .before .before .before .before .before .before .before .before .args in
-    let w = whole (a .desk) (a .absolute .now) (a .suppressed .now) (a .hold .now) in
+    let w = whole (a .desk) (a .first .now) (a .second .now) (a .hold .now) in
     let e = c .before .before .before .before .before .before .before .end-line in
     rw (eq-eqb _ _ (c .before .before .before .before .before .before .before .before .before .before .before .before .if1 .taken))
     (line-gone (ending w) (a .out .now) (a .at) (e .result) (e .last .1 .0) (e .last .1 .1 .0) (a .hold .now) (e .last .1 .1 .1 .1 .0) (c .rested .result)
@@ -45,7 +45,7 @@ returns-2 : tie.Need-returns-2
 unfolding byte
 returns-2 c =
     let a = c .before .before .before .before .before .before .before .before .before .args in
-    let w = whole (a .desk) (a .absolute .now) (a .suppressed .now) (a .hold .now) in
+    let w = whole (a .desk) (a .first .now) (a .second .now) (a .hold .now) in
     let k = c .before .before .keep in
     rw (ne-eqb _ _ (c .before .before .before .before .if1 .left))
     (byte-gone w (a .b) (k .result) (k .last .1 .0) (a .out .now) (a .at) (k .ensures))

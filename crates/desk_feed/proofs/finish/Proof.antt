@@ -12,7 +12,7 @@ returns : tie.Need-returns
 unfolding finishing
 returns c =
     let a = c .before .before .before .before .before .args in
-    rw (lt-ltb _ _ (c .if1 .taken)) (record { phase = refl; absolute = refl; suppressed = refl; put = put-none (a .out .now) 0 })
+    rw (lt-ltb _ _ (c .if1 .taken)) (record { phase = refl; first = refl; second = refl; put = put-none (a .out .now) 0 })
 
 is-over-requires : tie.Need-is-over-requires
 is-over-requires c κs = search needs
@@ -22,7 +22,7 @@ unfolding finishing
 returns-2 c =
     let a = c .before .before .before .before .before .before .before .args in
     rw (le-ltb _ _ (c .before .before .if1 .left), ← c .before .is-over .ensures, c .if2 .taken)
-    (record { phase = refl; absolute = refl; suppressed = refl; put = put-none (a .out .now) 0 })
+    (record { phase = refl; first = refl; second = refl; put = put-none (a .out .now) 0 })
 
 end-line-requires : tie.Need-end-line-requires
 end-line-requires c κs = search needs

@@ -30,7 +30,7 @@ returns c =
     record {
       answer = refl;
       counted = refl;
-      ends = (ap isFailed (c .enum-told .given .1), record { absolute = refl; suppressed = refl; counted = omega (arith, a .fits) });
+      ends = (ap isFailed (c .enum-told .given .1), record { first = refl; second = refl; counted = omega (arith, a .fits) });
     }
 
 end-requires : tie.Need-end-requires

@@ -24,7 +24,7 @@ same-length-3 c = search needs
 returns : tie.Need-returns
 returns c =
     let f = c .before .before .before .before .before .before .before .before .finish .ensures in
-    record { absolute = f .absolute; suppressed = f .suppressed; counted = omega (arith, c .write-put .ensures, f .put .past) }
+    record { first = f .first; second = f .second; counted = omega (arith, c .write-put .ensures, f .put .past) }
 
 pub end-spec : {M : Type 1} → statement M
 end-spec =

@@ -14,12 +14,12 @@ use Rattle.desk_run.proofs.pump.Statement.{statement}
 use Rattle.desk_run.proofs.pump.Tie as tie
 
 abbrev Inv-loop : tie.InvT-loop
-Inv-loop absolute₀ suppressed₀ hold₀ block out₀ put state₀ at₀ sent₀ absolute suppressed hold out state at sent =
-    (length absolute ≡ length absolute₀) × (length suppressed ≡ length suppressed₀) × (length hold ≡ length hold₀) × (length out ≡ length out₀) ×
-    (at ≤ length block) × Reached (whole state₀ absolute₀ suppressed₀ hold₀) (take at block) put (whole state absolute suppressed hold) (sent .put)
+Inv-loop first₀ second₀ hold₀ block out₀ put state₀ at₀ sent₀ first second hold out state at sent =
+    (length first ≡ length first₀) × (length second ≡ length second₀) × (length hold ≡ length hold₀) × (length out ≡ length out₀) ×
+    (at ≤ length block) × Reached (whole state₀ first₀ second₀ hold₀) (take at block) put (whole state first second hold) (sent .put)
 
 abbrev μ-loop : tie.MeasureT-loop
-μ-loop absolute₀ suppressed₀ hold₀ block out₀ put state₀ at₀ sent₀ absolute suppressed hold out state at sent = length block - at
+μ-loop first₀ second₀ hold₀ block out₀ put state₀ at₀ sent₀ first second hold out state at sent = length block - at
 
 loop-holds : tie.Need-loop-holds Inv-loop μ-loop
 loop-holds c = (refl, refl, refl, refl, omega arith, reached-none _ _ (omega (arith, c .before .before .before .before .before .fits)))

@@ -37,7 +37,7 @@ returns : tie.Need-returns
 unfolding callOf
 returns c =
     let o = c .before .before .absolute-inc .ensures in
-    rw (c .before .before .before .before .enum-told .given .1) (record { answer = o .answer; absolute = o .words; suppressed = refl })
+    rw (c .before .before .before .before .enum-told .given .1) (record { answer = o .answer; first = o .words; second = refl })
 
 same-length-2 : tie.Need-same-length-2
 same-length-2 c = search needs
@@ -46,7 +46,7 @@ returns-2 : tie.Need-returns-2
 unfolding callOf
 returns-2 c =
     let o = c .before .before .absolute-get .ensures in
-    rw (c .before .before .before .before .enum-told2 .given .1) (record { answer = o .answer; absolute = o .words; suppressed = refl })
+    rw (c .before .before .before .before .enum-told2 .given .1) (record { answer = o .answer; first = o .words; second = refl })
 
 same-length-3 : tie.Need-same-length-3
 same-length-3 c = search needs
@@ -55,7 +55,7 @@ returns-3 : tie.Need-returns-3
 unfolding callOf
 returns-3 c =
     let o = c .before .before .suppressed-inc .ensures in
-    rw (c .before .before .before .before .enum-told3 .given .1) (record { answer = o .answer; suppressed = o .words; absolute = refl })
+    rw (c .before .before .before .before .enum-told3 .given .1) (record { answer = o .answer; first = refl; second = o .words })
 
 same-length-4 : tie.Need-same-length-4
 same-length-4 c = search needs
@@ -64,7 +64,7 @@ returns-4 : tie.Need-returns-4
 unfolding callOf
 returns-4 c =
     let o = c .before .before .suppressed-get .ensures in
-    rw (c .before .before .before .before .enum-told4 .given .1) (record { answer = o .answer; suppressed = o .words; absolute = refl })
+    rw (c .before .before .before .before .enum-told4 .given .1) (record { answer = o .answer; first = refl; second = o .words })
 
 pub call-spec : {M : Type 1} → statement M
 call-spec =

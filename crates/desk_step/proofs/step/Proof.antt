@@ -23,7 +23,7 @@ bad-line-requires c κs = search needs
 returns : tie.Need-returns
 unfolding stepped
 returns c = rw (sym (c .before .before .before .read-call .ensures) ∙ c .before .enum-told .given .1)
-    (record { answer = c .bad-line .ensures; absolute = refl; suppressed = refl })
+    (record { answer = c .bad-line .ensures; first = refl; second = refl })
 
 sub-call : tie.Need-sub-call
 sub-call c = let k = read-inside _ _ _ _ _ _ _ _ (sym (c .before .before .before .before .before .read-call .ensures) ∙

@@ -25,7 +25,7 @@ returns : tie.Need-returns
 unfolding turn
 returns c =
     let s = c .before .before .before .before .before .before .before .before .step .ensures in
-    record { phase = refl; absolute = s .absolute; suppressed = s .suppressed; put = rw (s .answer) at (c .before .before .put-line .ensures) }
+    record { phase = refl; first = s .first; second = s .second; put = rw (s .answer) at (c .before .before .put-line .ensures) }
 
 pub put-step-spec : {M : Type 1} → statement M
 put-step-spec =

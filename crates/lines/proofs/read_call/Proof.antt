@@ -2,6 +2,7 @@
 -- definition, which then computes to the answer.
 -- Assumes nothing.
 use mathlib.Core.Path.{sym, _∙_}
+use borrow.Author.Tests.{not-true, not-false}
 use Rattle.lines.specs.Reading.{readCall}
 use borrow.Author.Needs.{needs}
 use Rattle.lines.proofs.read_call.Statement.{statement}
@@ -11,13 +12,13 @@ slice-aggregate-field-at : tie.Need-slice-aggregate-field-at
 slice-aggregate-field-at c = search needs
 
 field-at-requires : tie.Need-field-at-requires
-field-at-requires c κs = tt
+field-at-requires c κs = search needs
 
 enum-known-t : tie.Need-enum-known-t
-enum-known-t c = c .match .keys1
+enum-known-t c = search needs
 
 enum-told : tie.Need-enum-told
-enum-told c = c .match .keys2
+enum-told c = search needs
 
 returns : tie.Need-returns
 unfolding readCall
@@ -25,13 +26,13 @@ returns c =
     rw (sym (c .before .before .field-at .ensures) ∙ c .enum-told .given .1)
 
 op-at-requires : tie.Need-op-at-requires
-op-at-requires c κs = tt
+op-at-requires c κs = search needs
 
 enum-known-op : tie.Need-enum-known-op
-enum-known-op c = c .match2 .keys1
+enum-known-op c = search needs
 
 enum-told-2 : tie.Need-enum-told-2
-enum-told-2 c = c .match2 .keys2
+enum-told-2 c = search needs
 
 returns-2 : tie.Need-returns-2
 unfolding readCall
@@ -42,89 +43,65 @@ returns-2 c =
       sym (c .before .before .op-at .ensures) ∙ c .enum-told2 .given .1,
     )
 
-slice-aggregate-text-at : tie.Need-slice-aggregate-text-at
-slice-aggregate-text-at c = search needs
+slice-aggregate-tail-at : tie.Need-slice-aggregate-tail-at
+slice-aggregate-tail-at c = search needs
 
-text-at-requires : tie.Need-text-at-requires
-text-at-requires c κs = tt
+slice-aggregate-tail-at-2 : tie.Need-slice-aggregate-tail-at-2
+slice-aggregate-tail-at-2 c = search needs
+
+slice-aggregate-tail-at-3 : tie.Need-slice-aggregate-tail-at-3
+slice-aggregate-tail-at-3 c = search needs
+
+slice-aggregate-tail-at-4 : tie.Need-slice-aggregate-tail-at-4
+slice-aggregate-tail-at-4 c = search needs
+
+tail-at-requires : tie.Need-tail-at-requires
+tail-at-requires c κs = search needs
 
 enum-known-start : tie.Need-enum-known-start
-enum-known-start c = c .match3 .keys1
+enum-known-start c = search needs
 
 enum-told-3 : tie.Need-enum-told-3
-enum-told-3 c = c .match3 .keys2
+enum-told-3 c = search needs
 
 returns-3 : tie.Need-returns-3
 unfolding readCall
 returns-3 c =
-    let s2 = c .before .before .before .before .before in
+    let s2 = c .before .before .before .before .before .before .before .before in
     let s1 = s2 .before .before .before .before in
     rw (
       sym (s1 .before .before .field-at .ensures) ∙ s1 .t .given .1,
       sym (s2 .before .before .op-at .ensures) ∙ s2 .op .given .1,
-      sym (c .before .before .text-at .ensures) ∙ c .enum-told3 .given .1,
+      sym (c .before .before .tail-at .ensures) ∙ c .enum-told3 .given .1,
     )
 
-key-at-requires : tie.Need-key-at-requires
-key-at-requires c κs = tt
-
-enum-known-end : tie.Need-enum-known-end
-enum-known-end c = c .match4 .keys1
-
-enum-told-4 : tie.Need-enum-told-4
-enum-told-4 c = c .match4 .keys2
+is-exact-requires : tie.Need-is-exact-requires
+is-exact-requires c κs = search needs
 
 returns-4 : tie.Need-returns-4
 unfolding readCall
 returns-4 c =
-    let s3 = c .before .before .before .before in
-    let s2 = s3 .before .before .before .before .before in
+    let s3 = c .before .before .before in
+    let s2 = s3 .before .before .before .before .before .before .before .before in
     let s1 = s2 .before .before .before .before in
     rw (
       sym (s1 .before .before .field-at .ensures) ∙ s1 .t .given .1,
       sym (s2 .before .before .op-at .ensures) ∙ s2 .op .given .1,
-      sym (s3 .before .before .text-at .ensures) ∙ s3 .start .given .1,
-      sym (c .before .before .key-at .ensures) ∙ c .enum-told4 .given .1,
+      sym (s3 .before .before .tail-at .ensures) ∙ s3 .start .given .1,
+      sym (c .before .is-exact .ensures) ∙ not-true _ (c .if1 .taken),
     )
-
-amounts-at-requires : tie.Need-amounts-at-requires
-amounts-at-requires c κs = tt
-
-enum-known-rate : tie.Need-enum-known-rate
-enum-known-rate c = c .match5 .keys1
-
-enum-told-5 : tie.Need-enum-told-5
-enum-told-5 c = c .match5 .keys2
 
 returns-5 : tie.Need-returns-5
 unfolding readCall
 returns-5 c =
-    let s4 = c .before .before .before .before in
-    let s3 = s4 .before .before .before .before in
-    let s2 = s3 .before .before .before .before .before in
+    let s3 = c .before .before .before in
+    let s2 = s3 .before .before .before .before .before .before .before .before in
     let s1 = s2 .before .before .before .before in
     rw (
       sym (s1 .before .before .field-at .ensures) ∙ s1 .t .given .1,
       sym (s2 .before .before .op-at .ensures) ∙ s2 .op .given .1,
-      sym (s3 .before .before .text-at .ensures) ∙ s3 .start .given .1,
-      sym (s4 .before .before .key-at .ensures) ∙ s4 .end .given .1,
-      sym (c .before .before .amounts-at .ensures) ∙ c .enum-told5 .given .1,
-    )
-
-returns-6 : tie.Need-returns-6
-unfolding readCall
-returns-6 c =
-    let s5 = c .before in
-    let s4 = s5 .before .before .before .before in
-    let s3 = s4 .before .before .before .before in
-    let s2 = s3 .before .before .before .before .before in
-    let s1 = s2 .before .before .before .before in
-    rw (
-      sym (s1 .before .before .field-at .ensures) ∙ s1 .t .given .1,
-      sym (s2 .before .before .op-at .ensures) ∙ s2 .op .given .1,
-      sym (s3 .before .before .text-at .ensures) ∙ s3 .start .given .1,
-      sym (s4 .before .before .key-at .ensures) ∙ s4 .end .given .1,
-      sym (s5 .before .before .amounts-at .ensures) ∙ s5 .rate .given .1,
+      sym (s3 .before .before .tail-at .ensures) ∙ s3 .start .given .1,
+      sym (c .before .is-exact .ensures) ∙ not-false _ (c .if1 .left),
     )
 
 pub read-call-spec : {M : Type 1} → statement M
@@ -140,17 +117,14 @@ read-call-spec =
     enum-known-op
     enum-told-2
     returns-2
-    slice-aggregate-text-at
-    text-at-requires
+    slice-aggregate-tail-at
+    slice-aggregate-tail-at-2
+    slice-aggregate-tail-at-3
+    slice-aggregate-tail-at-4
+    tail-at-requires
     enum-known-start
     enum-told-3
     returns-3
-    key-at-requires
-    enum-known-end
-    enum-told-4
+    is-exact-requires
     returns-4
-    amounts-at-requires
-    enum-known-rate
-    enum-told-5
-    returns-5
-    returns-6)
+    returns-5)

@@ -1,5 +1,5 @@
--- `lines::read_settings` meets its contract: at each answer the fields that were found, and the one that was not, are put into
--- the definition, which then computes to the answer.
+-- `lines::read_settings` meets its contract: at each answer the parts that were found, and the one that was not, are put into the
+-- definition, which then computes to the answer.
 -- Assumes nothing.
 use mathlib.Core.Path.{sym, _∙_}
 use borrow.Author.Tests.{not-true, not-false}
@@ -12,119 +12,69 @@ slice-aggregate-field-at : tie.Need-slice-aggregate-field-at
 slice-aggregate-field-at c = search needs
 
 field-at-requires : tie.Need-field-at-requires
-field-at-requires c κs = tt
+field-at-requires c κs = search needs
 
 enum-known-window : tie.Need-enum-known-window
-enum-known-window c = c .match .keys1
+enum-known-window c = search needs
 
 enum-told : tie.Need-enum-told
-enum-told c = c .match .keys2
+enum-told c = search needs
 
 returns : tie.Need-returns
 unfolding readSettings
 returns c =
     rw (sym (c .before .before .field-at .ensures) ∙ c .enum-told .given .1)
 
-slice-aggregate-field-at-2 : tie.Need-slice-aggregate-field-at-2
-slice-aggregate-field-at-2 c = search needs
+slice-aggregate-numbers-at : tie.Need-slice-aggregate-numbers-at
+slice-aggregate-numbers-at c = search needs
 
-field-at-requires-2 : tie.Need-field-at-requires-2
-field-at-requires-2 c κs = tt
+slice-aggregate-numbers-at-2 : tie.Need-slice-aggregate-numbers-at-2
+slice-aggregate-numbers-at-2 c = search needs
+
+slice-aggregate-numbers-at-3 : tie.Need-slice-aggregate-numbers-at-3
+slice-aggregate-numbers-at-3 c = search needs
+
+numbers-at-requires : tie.Need-numbers-at-requires
+numbers-at-requires c κs = search needs
 
 enum-known-bucket : tie.Need-enum-known-bucket
-enum-known-bucket c = c .match2 .keys1
+enum-known-bucket c = search needs
 
 enum-told-2 : tie.Need-enum-told-2
-enum-told-2 c = c .match2 .keys2
+enum-told-2 c = search needs
 
 returns-2 : tie.Need-returns-2
 unfolding readSettings
 returns-2 c =
-    let s1 = c .before .before .before .before .before in
+    let s1 = c .before .before .before .before .before .before .before in
     rw (
       sym (s1 .before .before .field-at .ensures) ∙ s1 .window .given .1,
-      sym (c .before .before .field-at2 .ensures) ∙ c .enum-told2 .given .1,
+      sym (c .before .before .numbers-at .ensures) ∙ c .enum-told2 .given .1,
     )
 
-slice-aggregate-field-at-3 : tie.Need-slice-aggregate-field-at-3
-slice-aggregate-field-at-3 c = search needs
-
-field-at-requires-3 : tie.Need-field-at-requires-3
-field-at-requires-3 c κs = tt
-
-enum-known-factor : tie.Need-enum-known-factor
-enum-known-factor c = c .match3 .keys1
-
-enum-told-3 : tie.Need-enum-told-3
-enum-told-3 c = c .match3 .keys2
+is-exact-requires : tie.Need-is-exact-requires
+is-exact-requires c κs = search needs
 
 returns-3 : tie.Need-returns-3
 unfolding readSettings
 returns-3 c =
-    let s2 = c .before .before .before .before .before in
-    let s1 = s2 .before .before .before .before .before in
+    let s2 = c .before .before .before in
+    let s1 = s2 .before .before .before .before .before .before .before in
     rw (
       sym (s1 .before .before .field-at .ensures) ∙ s1 .window .given .1,
-      sym (s2 .before .before .field-at2 .ensures) ∙ s2 .bucket .given .1,
-      sym (c .before .before .field-at3 .ensures) ∙ c .enum-told3 .given .1,
+      sym (s2 .before .before .numbers-at .ensures) ∙ s2 .bucket .given .1,
+      sym (c .before .is-exact .ensures) ∙ not-true _ (c .if1 .taken),
     )
-
-slice-aggregate-field-at-4 : tie.Need-slice-aggregate-field-at-4
-slice-aggregate-field-at-4 c = search needs
-
-field-at-requires-4 : tie.Need-field-at-requires-4
-field-at-requires-4 c κs = tt
-
-enum-known-cache : tie.Need-enum-known-cache
-enum-known-cache c = c .match4 .keys1
-
-enum-told-4 : tie.Need-enum-told-4
-enum-told-4 c = c .match4 .keys2
 
 returns-4 : tie.Need-returns-4
 unfolding readSettings
 returns-4 c =
-    let s3 = c .before .before .before .before .before in
-    let s2 = s3 .before .before .before .before .before in
-    let s1 = s2 .before .before .before .before .before in
+    let s2 = c .before .before .before in
+    let s1 = s2 .before .before .before .before .before .before .before in
     rw (
       sym (s1 .before .before .field-at .ensures) ∙ s1 .window .given .1,
-      sym (s2 .before .before .field-at2 .ensures) ∙ s2 .bucket .given .1,
-      sym (s3 .before .before .field-at3 .ensures) ∙ s3 .factor .given .1,
-      sym (c .before .before .field-at4 .ensures) ∙ c .enum-told4 .given .1,
-    )
-
-is-closed-requires : tie.Need-is-closed-requires
-is-closed-requires c κs = tt
-
-returns-5 : tie.Need-returns-5
-unfolding readSettings
-returns-5 c =
-    let s4 = c .before .before .before in
-    let s3 = s4 .before .before .before .before .before in
-    let s2 = s3 .before .before .before .before .before in
-    let s1 = s2 .before .before .before .before .before in
-    rw (
-      sym (s1 .before .before .field-at .ensures) ∙ s1 .window .given .1,
-      sym (s2 .before .before .field-at2 .ensures) ∙ s2 .bucket .given .1,
-      sym (s3 .before .before .field-at3 .ensures) ∙ s3 .factor .given .1,
-      sym (s4 .before .before .field-at4 .ensures) ∙ s4 .cache .given .1,
-      sym (c .before .is-closed .ensures) ∙ not-true _ (c .if1 .taken),
-    )
-
-returns-6 : tie.Need-returns-6
-unfolding readSettings
-returns-6 c =
-    let s4 = c .before .before .before in
-    let s3 = s4 .before .before .before .before .before in
-    let s2 = s3 .before .before .before .before .before in
-    let s1 = s2 .before .before .before .before .before in
-    rw (
-      sym (s1 .before .before .field-at .ensures) ∙ s1 .window .given .1,
-      sym (s2 .before .before .field-at2 .ensures) ∙ s2 .bucket .given .1,
-      sym (s3 .before .before .field-at3 .ensures) ∙ s3 .factor .given .1,
-      sym (s4 .before .before .field-at4 .ensures) ∙ s4 .cache .given .1,
-      sym (c .before .is-closed .ensures) ∙ not-false _ (c .if1 .left),
+      sym (s2 .before .before .numbers-at .ensures) ∙ s2 .bucket .given .1,
+      sym (c .before .is-exact .ensures) ∙ not-false _ (c .if1 .left),
     )
 
 pub read-settings-spec : {M : Type 1} → statement M
@@ -136,21 +86,13 @@ read-settings-spec =
     enum-known-window
     enum-told
     returns
-    slice-aggregate-field-at-2
-    field-at-requires-2
+    slice-aggregate-numbers-at
+    slice-aggregate-numbers-at-2
+    slice-aggregate-numbers-at-3
+    numbers-at-requires
     enum-known-bucket
     enum-told-2
     returns-2
-    slice-aggregate-field-at-3
-    field-at-requires-3
-    enum-known-factor
-    enum-told-3
+    is-exact-requires
     returns-3
-    slice-aggregate-field-at-4
-    field-at-requires-4
-    enum-known-cache
-    enum-told-4
-    returns-4
-    is-closed-requires
-    returns-5
-    returns-6)
+    returns-4)

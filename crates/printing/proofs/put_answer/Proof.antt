@@ -1,7 +1,6 @@
 -- `printing::put_answer` meets its contract: each arm puts the text of its own word.
 -- Assumes nothing.
 use native.Mathlib.Omega.{arith}
-use Rattle.printing.specs.Answers.{answerText}
 use Rattle.printing.specs.Printing.{put-word}
 use borrow.Author.Needs.{needs}
 use Rattle.printing.proofs.put_answer.Statement.{statement}
@@ -61,6 +60,15 @@ slice-aggregate-put-text-6 c = search needs
 put-text-requires-6 : tie.Need-put-text-requires-6
 put-text-requires-6 c κs = search needs
 
+enum-told-7 : tie.Need-enum-told-7
+enum-told-7 c = search needs
+
+slice-aggregate-put-text-7 : tie.Need-slice-aggregate-put-text-7
+slice-aggregate-put-text-7 c = search needs
+
+put-text-requires-7 : tie.Need-put-text-requires-7
+put-text-requires-7 c κs = search needs
+
 same-length : tie.Need-same-length
 same-length c = search needs
 
@@ -97,6 +105,12 @@ same-length-6 c = search needs
 returns-6 : tie.Need-returns-6
 returns-6 c = rw (c .before .before .before .before .before .enum-told6 .given .1) (put-word _ _ _ _ _ (c .before .before .put-text6 .ensures) (omega arith))
 
+same-length-7 : tie.Need-same-length-7
+same-length-7 c = search needs
+
+returns-7 : tie.Need-returns-7
+returns-7 c = rw (c .before .before .before .before .before .enum-told7 .given .1) (put-word _ _ _ _ _ (c .before .before .put-text7 .ensures) (omega arith))
+
 pub put-answer-spec : {M : Type 1} → statement M
 put-answer-spec =
     tie.close
@@ -119,6 +133,9 @@ put-answer-spec =
     enum-told-6
     slice-aggregate-put-text-6
     put-text-requires-6
+    enum-told-7
+    slice-aggregate-put-text-7
+    put-text-requires-7
     same-length
     returns
     same-length-2
@@ -130,4 +147,6 @@ put-answer-spec =
     same-length-5
     returns-5
     same-length-6
-    returns-6)
+    returns-6
+    same-length-7
+    returns-7)

@@ -3,8 +3,8 @@
 use mathlib.Core.Path.{refl, sym, _∙_}
 use Rattle.printing.specs.Printing.{put-none}
 use borrow.Author.Needs.{needs}
-use Rattle.desk_turn.proofs.open_desk.Statement.{statement}
-use Rattle.desk_turn.proofs.open_desk.Tie as tie
+use Rattle.desk_turn.proofs.take_settings.Statement.{statement}
+use Rattle.desk_turn.proofs.take_settings.Tie as tie
 
 begin-requires : tie.Need-begin-requires
 begin-requires c κs = search needs
@@ -34,8 +34,8 @@ returns-2 c = rw (sym (c .before .before .before .before .before .before .before
     c .before .before .before .before .before .before .opening2 .given .1)
     (record { phase = refl; put = rw (c .before .before .before .before .refusal .ensures) at (c .before .before .put-line .ensures) })
 
-pub open-desk-spec : {M : Type 1} → statement M
-open-desk-spec =
+pub take-settings-spec : {M : Type 1} → statement M
+take-settings-spec =
     tie.close
     (tie.spec
     begin-requires

@@ -1,0 +1,2 @@
+pub mod Shots
+pub mod Laws
