@@ -1,17 +1,15 @@
 #!/bin/sh
 # mistakes.sh [calls] [pattern] [broken]: plants each mistake of mistakes/ in a copy of the twin, one at a time, and tells whether the
-# comparison with the original finds it; with `broken`, whether that many damaged rooms beside the Rattle code do. Needs a judge
-# built by build.sh.
+# comparison with the original finds it, or the comparison of shots one in the gateway; with `broken`, whether that many damaged rooms
+# beside the Rattle code do. Needs a judge built by build.sh.
 set -eu
 cd "$(dirname "$0")"
 calls=${1:-300000}
 pattern=${2:-*}
-asked="$calls 1 first"
 linked=
 if [ "${3:-}" = broken ]; then
     archive=${FROSTAXLE_ARCHIVE:-../target/staticlib/libabi.a}
     test -f "$archive" || { echo "no archive: $archive"; exit 2; }
-    asked="broken $calls 1"
     linked="--cfg archive -C link-arg=$(realpath "$archive")"
 fi
 work=target/mistake
@@ -23,6 +21,11 @@ for edit in mistakes/$pattern.edit; do
     mkdir -p $work
     cp -r ../twin/src $work/src
     file=$work/src/$(sed -n 's/^file: //p' "$edit")
+    case $linked,$file in
+    ?*,*) asked="broken $calls 1" ;;
+    *gateway.rs | *shots.rs) asked="shots $calls 1 first" ;;
+    *) asked="$calls 1 first" ;;
+    esac
     # Replaces the one place of the old text.
     awk -v edit="$edit" '
         BEGIN {

@@ -1,8 +1,9 @@
 #!/bin/sh
-# run.sh [calls] [seed] [few]: builds, checks the worked desk example, compares; prints one line. With `few`, most short histories are
-# left out.
+# run.sh [calls] [seed] [few]: builds, checks the worked examples of desk and shots, compares; prints a line for the shots and one for
+# the limiters. With `few`, most short histories are left out.
 set -eu
 here=$(cd "$(dirname "$0")" && pwd)
 "$here/build.sh"
 "$here/../twin/target/desk" < "$here/../twin/example.input" | cmp - "$here/../twin/example.output"
+"$here/../twin/target/shots" < "$here/../twin/shots.input" | cmp - "$here/../twin/shots.output"
 "$here/target/judge" "${1:-10000000}" "${2:-1}" ${3:+"$3"}

@@ -5,6 +5,9 @@ use std::sync::Arc;
 use original::{LocalRateLimiterProvider, RateLimit, RateLimitDecision};
 
 use crate::load::{Increment, Limiter, Load};
+use crate::shots::TwinShots;
+#[cfg(archive)]
+use crate::shots::archive::ArchiveShots;
 
 pub trait Contestant {
     fn name(&self) -> &'static str;
@@ -25,7 +28,7 @@ pub trait Contestant {
 }
 
 /// An answer as a number, the same for each contestant.
-fn allowed() -> u64 {
+pub fn allowed() -> u64 {
     1
 }
 
@@ -33,16 +36,16 @@ fn rejected(wait: u64, left: u64) -> u64 {
     2 + 4 * wait + (left << 32)
 }
 
-fn suppressed(factor: u64, admitted: bool) -> u64 {
+pub fn suppressed(factor: u64, admitted: bool) -> u64 {
     3 + factor + u64::from(admitted)
 }
 
-fn refused(number: u64) -> ! {
+pub fn refused(number: u64) -> ! {
     panic!("an increment was refused with {number}");
 }
 
 /// Folds one answer more.
-fn folded(answers: u64, answer: u64) -> u64 {
+pub fn folded(answers: u64, answer: u64) -> u64 {
     answers.rotate_left(5) ^ answer
 }
 
@@ -91,7 +94,7 @@ macro_rules! of_rooms {
             fn run(&mut self, limiter: Limiter, load: &Load, increments: &[Increment]) -> u64 {
                 let mut answers = 0;
                 for increment in increments {
-                    let Increment { reading, draw, count, key } = *increment;
+                    let Increment { reading, draw, count, key, .. } = *increment;
                     let key = &load.keys[key as usize];
                     let (bytes, count) = (key.text.as_bytes(), u64::from(count));
                     let result = match limiter {
@@ -191,6 +194,20 @@ pub mod archive {
         ) -> u64;
     }
 
+    /// Every key of a limiter's room goes.
+    pub fn clear(limiter: Limiter, load: &Load, room: &mut [u64], reading: u64) {
+        let crate::load::Settings { window, bucket, cache, factor } = load.settings;
+        let clear: unsafe extern "C" fn(_, _, _, _, _, _, _, _) -> _ = match limiter {
+            Limiter::Absolute => frostaxle_absolute_clear,
+            Limiter::Suppressed => frostaxle_suppressed_clear,
+        };
+        let (words, length, mut row) = (room.as_mut_ptr(), room.len(), [0; 5]);
+        let code = unsafe {
+            clear(window, bucket, cache, factor, words, length, reading, row.as_mut_ptr())
+        };
+        assert_eq!(code, 0, "a room is cleared");
+    }
+
     pub struct Archive {
         absolute: Vec<u64>,
         suppressed: Vec<u64>,
@@ -218,17 +235,11 @@ pub mod archive {
         }
 
         fn clear(&mut self, limiter: Limiter, load: &Load, reading: u64) {
-            let crate::load::Settings { window, bucket, cache, factor } = load.settings;
-            let (room, clear): (_, unsafe extern "C" fn(_, _, _, _, _, _, _, _) -> _) =
-                match limiter {
-                    Limiter::Absolute => (&mut self.absolute, frostaxle_absolute_clear),
-                    Limiter::Suppressed => (&mut self.suppressed, frostaxle_suppressed_clear),
-                };
-            let (words, length, mut row) = (room.as_mut_ptr(), room.len(), [0; 5]);
-            let code = unsafe {
-                clear(window, bucket, cache, factor, words, length, reading, row.as_mut_ptr())
+            let room = match limiter {
+                Limiter::Absolute => &mut self.absolute,
+                Limiter::Suppressed => &mut self.suppressed,
             };
-            assert_eq!(code, 0, "a room is cleared");
+            clear(limiter, load, room, reading);
         }
 
         fn run(&mut self, limiter: Limiter, load: &Load, increments: &[Increment]) -> u64 {
@@ -236,7 +247,7 @@ pub mod archive {
             let mut answers = 0;
             let mut row = [0; 5];
             for increment in increments {
-                let Increment { reading, draw, count, key } = *increment;
+                let Increment { reading, draw, count, key, .. } = *increment;
                 let key = &load.keys[key as usize];
                 let count = u64::from(count);
                 let code = match limiter {
@@ -332,7 +343,7 @@ impl Contestant for Original {
     fn run(&mut self, limiter: Limiter, load: &Load, increments: &[Increment]) -> u64 {
         let mut answers = 0;
         for increment in increments {
-            let Increment { reading, draw, count, key } = *increment;
+            let Increment { reading, draw, count, key, .. } = *increment;
             let (text, rate) = (&load.keys[key as usize].text, &self.rates[key as usize]);
             let count = u64::from(count);
             original::set_reading(reading);
@@ -403,4 +414,22 @@ pub fn all(load: &Load) -> Vec<Box<dyn Contestant>> {
         Box::new(Original::new(load)),
         Box::new(Bare::new(load)),
     ]
+}
+
+/// Those that take shots, after those that take the same as increments.
+pub fn of_shots(load: &Load) -> Vec<Box<dyn Contestant>> {
+    vec![
+        Box::new(Twin::new(load)),
+        #[cfg(archive)]
+        Box::new(archive::Archive::new(load)),
+        Box::new(TwinShots::new(load)),
+        #[cfg(archive)]
+        Box::new(ArchiveShots::new(load)),
+    ]
+}
+
+/// Those that take shots alone.
+pub fn of_shots_alone(load: &Load) -> Vec<Box<dyn Contestant>> {
+    let mut contestants = of_shots(load);
+    contestants.split_off(contestants.len() / 2)
 }

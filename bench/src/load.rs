@@ -30,10 +30,24 @@ const SMALL_BUCKET: u64 = 10;
 const MOST_BUCKETS: u64 = 100;
 const MOST_BUCKETS_OF_LONG: u64 = 298;
 
+/// What is timed.
+#[derive(Clone, Copy, Debug, PartialEq, Eq)]
+pub enum Deed {
+    /// Increments of 1 to 4.
+    Increments,
+    /// Shots whose numbers rise, and increments of 1.
+    Shots,
+    /// Shots under the number that each controller was admitted with.
+    Held,
+    /// The same, all of the controller in the table's last entry.
+    HeldLast,
+}
+
 /// How many keys, how many live buckets each is to have, the ring, the window and the bucket size; the rest of the settings are the
 /// defaults.
 #[derive(Clone, Copy, Debug)]
 pub struct Shape {
+    pub deed: Deed,
     pub keys: usize,
     pub live: u64,
     pub ring: usize,
@@ -49,7 +63,7 @@ impl Shape {
             MOST_BUCKETS_OF_LONG => (LONG_WINDOW, DEFAULT_BUCKET),
             _ => (DEFAULT_WINDOW, SMALL_BUCKET),
         };
-        Shape { keys, live, ring: live as usize, window, bucket }
+        Shape { deed: Deed::Increments, keys, live, ring: live as usize, window, bucket }
     }
 }
 
@@ -72,6 +86,8 @@ pub struct Increment {
     pub draw: u64,
     pub count: u32,
     pub key: u32,
+    /// Of a shot.
+    pub number: u32,
 }
 
 pub struct Load {
@@ -80,8 +96,10 @@ pub struct Load {
     pub keys: Vec<Key>,
 }
 
-/// Counts are 1 to 4, and two increments go to a bucket.
-const MEAN_OF_BUCKET: f64 = 5.0;
+/// The greatest count of an increment; shots count 1.
+fn most_count(deed: Deed) -> u64 {
+    if deed == Deed::Increments { 4 } else { 1 }
+}
 
 impl Load {
     pub fn new(shape: Shape) -> Self {
@@ -89,7 +107,9 @@ impl Load {
         let settings = Settings { window, bucket, cache: 100, factor: 1.0 };
         // Keys of even number stay below their limit, the others are held back now and then.
         let limit = |key: usize| {
-            let total = MEAN_OF_BUCKET * shape.live as f64;
+            // Two increments go to a bucket.
+            let mean_of_bucket = (1 + most_count(shape.deed)) as f64;
+            let total = mean_of_bucket * shape.live as f64;
             if key % 2 == 0 { 1.25 * total } else { 0.95 * total }
         };
         let keys = (0..shape.keys)
@@ -111,8 +131,9 @@ impl Load {
     }
 
     /// As many rounds as fill the rings, then the increments that are timed. In a round each key has one increment, and the
-    /// keys come in an order of their own.
+    /// keys come in an order of their own. Where shots are held, each controller has one number, and the first is admitted.
     pub fn increments(&self, timed: usize) -> (Vec<Increment>, Vec<Increment>) {
+        let deed = self.shape.deed;
         let mut random = Random(0x1234_5678_9abc_def1);
         let mut order: Vec<u32> = (0..self.keys.len() as u32).collect();
         let filling = 4 * self.shape.live;
@@ -123,15 +144,21 @@ impl Load {
                 order.swap(at, random.below(at as u64 + 1) as usize);
             }
             let reading = self.reading(round);
+            let is_held = matches!(deed, Deed::Held | Deed::HeldLast);
             all.extend(order.iter().map(|key| Increment {
                 reading,
                 draw: random.below(1 << 53),
-                count: 1 + random.below(4) as u32,
+                count: 1 + random.below(most_count(deed)) as u32,
                 key: *key,
+                number: if is_held { 1 } else { round as u32 + 1 },
             }));
         }
         let mut timed_ones = all.split_off(filling as usize * order.len());
         timed_ones.truncate(timed);
+        if deed == Deed::HeldLast {
+            let last = all[order.len() - 1].key;
+            timed_ones.iter_mut().for_each(|shot| shot.key = last);
+        }
         (all, timed_ones)
     }
 }

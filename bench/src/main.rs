@@ -2,11 +2,12 @@
 
 mod contestants;
 mod load;
+mod shots;
 
 use std::time::{Duration, Instant};
 
-use contestants::{Contestant, all};
-use load::{Increment, Limiter, Load, Shape, later};
+use contestants::{Contestant, all, of_shots, of_shots_alone};
+use load::{Deed, Increment, Limiter, Load, Shape, later};
 
 /// How many increments are timed at a time.
 const STRETCH: usize = 2_000;
@@ -21,9 +22,28 @@ fn main() {
     let number = |text: &str| text.parse::<usize>().expect("a whole number");
     match words[..] {
         [] => tables(1_000_000, 5),
+        ["shots", timed, times] => shot_tables(number(timed), number(times)),
         [timed, times] => tables(number(timed), number(times)),
-        ["one", name, limiter, live, timed] => one(name, limiter, number(live), number(timed)),
-        _ => panic!("[INCREMENTS REPETITIONS] | one CONTESTANT LIMITER BUCKETS INCREMENTS"),
+        ["one", name, limiter, live, timed] => {
+            let limiter = Limiter::BOTH.into_iter().find(|other| other.name() == limiter);
+            let limiter = limiter.expect("absolute or suppressed");
+            let load = Load::new(Shape::full(KEYS, number(live) as u64));
+            one(name, limiter, &load, all(&load), number(timed));
+        }
+        ["one", name, deed @ ("rising" | "held" | "last"), keys, live, timed] => {
+            let deed = match deed {
+                "rising" => Deed::Shots,
+                "held" => Deed::Held,
+                _ => Deed::HeldLast,
+            };
+            let shape = Shape { deed, ..Shape::full(number(keys), number(live) as u64) };
+            let load = Load::new(shape);
+            one(name, Limiter::Suppressed, &load, of_shots(&load), number(timed));
+        }
+        _ => panic!(
+            "[INCREMENTS REPETITIONS] | shots SHOTS REPETITIONS | one CONTESTANT LIMITER BUCKETS INCREMENTS | \
+             one CONTESTANT rising|held|last CONTROLLERS BUCKETS SHOTS"
+        ),
     }
 }
 
@@ -57,6 +77,67 @@ fn tables(timed: usize, times: usize) {
             }
         }
     }
+    shot_tables(timed, times);
+}
+
+/// What the shots' tables time, and what it is called behind a contestant's name.
+const DEEDS: [(Deed, &str); 3] =
+    [(Deed::Shots, ""), (Deed::Held, ", held"), (Deed::HeldLast, ", held last")];
+
+/// A shot beside the same increment, and shots that are held; one row for each number of controllers and each ring.
+fn shot_tables(timed: usize, times: usize) {
+    println!(
+        "\nnanoseconds for increments of 1 of the suppressed limiter, and for the same as shots"
+    );
+    println!(
+        "whose numbers rise; for shots that are held, which take a walk over the table's keys and"
+    );
+    println!(
+        "no more: of all controllers in mixed order, and of the one in the table's last entry; at"
+    );
+    println!(
+        "the end of a line the shot's ratio to the twin's, and to an increment and such a walk in"
+    );
+    println!("mixed order together");
+    println!("{timed} of each, rooms cleared and filled first, least of {times}");
+    let mut named = false;
+    for (keys, live) in [40, 64].into_iter().flat_map(|keys| [10, 100].map(|live| (keys, live))) {
+        let each = shot_row(keys, live, timed, times);
+        if !named {
+            let names: Vec<&str> = each.iter().map(|(name, _)| name.as_str()).collect();
+            println!("\ncontrollers  ring  {}", names.join("  "));
+            named = true;
+        }
+        print!("{keys:11}  {live:4}");
+        for (name, took) in &each {
+            print!("  {took:width$.1}", width = name.len());
+        }
+        let of = |name: &str| each.iter().find(|(other, _)| other == name).map(|(_, took)| *took);
+        if let (Some(shot), Some(increment)) = (of("archive-shot"), of(ARCHIVE)) {
+            let (twin, walk) = (of("twin-shot"), of("archive-shot, held"));
+            let (twin, walk) = (twin.unwrap_or_default(), walk.unwrap_or_default());
+            print!("  {:5.2}  {:5.2}", shot / twin, shot / (increment + walk));
+        }
+        println!();
+    }
+}
+
+/// Each contestant's name at each deed, and its time.
+fn shot_row(keys: usize, live: u64, timed: usize, times: usize) -> Vec<(String, f64)> {
+    let mut each = Vec::new();
+    for (deed, called) in DEEDS {
+        let load = Load::new(Shape { deed, ..Shape::full(keys, live) });
+        let mut contestants = match deed {
+            Deed::Shots => of_shots(&load),
+            _ => of_shots_alone(&load),
+        };
+        let took = race(Limiter::Suppressed, &load, &mut contestants, timed, times);
+        each.extend(contestants.iter().zip(took).map(|(contestant, took)| {
+            let nanoseconds = took.as_secs_f64() * 1e9 / timed as f64;
+            (format!("{}{called}", contestant.name()), nanoseconds)
+        }));
+    }
+    each
 }
 
 /// Whose times the archive's are compared with, besides the twin's.
@@ -157,14 +238,16 @@ fn buckets(room: &[u64]) -> f64 {
 }
 
 /// One contestant alone, for a profiler.
-fn one(name: &str, limiter: &str, live: usize, timed: usize) {
-    let load = Load::new(Shape::full(KEYS, live as u64));
-    let limiter = Limiter::BOTH.into_iter().find(|other| other.name() == limiter);
-    let limiter = limiter.expect("absolute or suppressed");
-    let mut contestants = all(&load);
+fn one(
+    name: &str,
+    limiter: Limiter,
+    load: &Load,
+    mut contestants: Vec<Box<dyn Contestant>>,
+    timed: usize,
+) {
     let contestant = contestants.iter_mut().find(|other| other.name() == name);
     let contestant = contestant.expect("a contestant");
     let (filling, increments) = load.increments(timed);
-    let before = contestant.run(limiter, &load, &filling);
-    println!("{before:x} {:x}", contestant.run(limiter, &load, &increments));
+    let before = contestant.run(limiter, load, &filling);
+    println!("{before:x} {:x}", contestant.run(limiter, load, &increments));
 }

@@ -109,7 +109,8 @@ fn fill_series(
     body[..5].copy_from_slice(&[limit.to_bits(), total, declined_total, head as u64, many as u64]);
 }
 
-fn packed(key: &[u8]) -> [u64; 5] {
+/// A key as an entry has it: its length, then its bytes in four words.
+pub fn packed(key: &[u8]) -> [u64; 5] {
     let mut bytes = [0u8; 32];
     bytes[..key.len()].copy_from_slice(key);
     let word =

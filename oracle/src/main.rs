@@ -31,10 +31,11 @@ mod all_short;
 mod broken;
 mod compare;
 mod desk_check;
-mod desk_lines;
 mod expected;
 #[cfg(archive)]
 mod faces;
+mod input_lines;
+mod lines_check;
 mod loaded;
 mod long;
 mod original;
@@ -42,7 +43,14 @@ mod random;
 #[cfg(archive)]
 mod rattle;
 mod sample;
+mod seasons;
+mod short_seasons;
+mod shots;
+mod shots_check;
+mod shots_expected;
+mod shots_together;
 mod state;
+mod tables;
 mod together;
 mod trial;
 mod units_check;
@@ -51,6 +59,8 @@ mod words;
 use std::io::Write;
 
 use compare::Comparison;
+use input_lines::Program;
+use shots::Shots;
 use twin::calls::Limiters;
 
 /// What the arguments ask for.
@@ -60,9 +70,22 @@ fn main() {
     let number = |text: &str| text.parse::<u64>().expect("a whole number");
     match words[..] {
         ["sample", calls, seed] => sample::print(number(calls), number(seed)),
-        ["desk", lines, seed] => {
-            let input = desk_lines::input(number(lines), number(seed));
+        [program @ ("desk" | "shot-lines"), lines, seed] => {
+            let program = if program == "desk" { Program::Desk } else { Program::Shots };
+            let input = input_lines::input(program, number(lines), number(seed));
             std::io::stdout().write_all(&input).expect("standard output");
+        }
+        ["season", seed] => {
+            let mut shots = Shots::new();
+            seasons::played(&mut shots, number(seed));
+            println!("{shots}");
+        }
+        ["shots", calls, seed, ref wishes @ ..] if wishes.iter().all(|wish| *wish == "first") => {
+            let mut shots = Shots::new();
+            shots.most_differing = if wishes.is_empty() { 100 } else { 1 };
+            compare_shots(&mut shots, number(calls), number(seed));
+            println!("{shots}");
+            std::process::exit(i32::from(shots.differed() > 0));
         }
         ["history", seed] => {
             let mut comparison = Comparison::new(others());
@@ -70,9 +93,11 @@ fn main() {
             println!("{comparison}");
         }
         ["broken", rooms, seed] => {
+            let mut shots = Shots::new();
+            tables::run(&mut shots, number(rooms) / 10, number(seed));
             let trials = broken::run(number(rooms), number(seed));
-            println!("{trials}");
-            std::process::exit(i32::from(trials.differed > 0));
+            println!("{shots}\n{trials}");
+            std::process::exit(i32::from(trials.differed + shots.differed() > 0));
         }
         [calls, seed, ref wishes @ ..]
             if wishes.iter().all(|wish| ["tally", "first", "few"].contains(wish)) =>
@@ -88,7 +113,8 @@ fn main() {
             compare(number(calls), number(seed), comparison);
         }
         _ => panic!(
-            "CALLS SEED [tally] [first] [few], history SEED, broken ROOMS SEED, sample CALLS SEED, or desk LINES SEED"
+            "CALLS SEED [tally] [first] [few], history SEED, broken ROOMS SEED, shots CALLS SEED [first], season SEED, sample CALLS SEED, \
+             desk LINES SEED, or shot-lines LINES SEED"
         ),
     }
 }
@@ -104,13 +130,27 @@ fn others() -> Others {
     return vec![];
 }
 
-/// Desk inputs, random histories and short ones, and units; one line.
+/// Seasons of shots, short and random, lines of them, damaged tables and refusals met together.
+fn compare_shots(shots: &mut Shots, calls: u64, seed: u64) {
+    short_seasons::run(shots, calls);
+    seasons::run(shots, calls, seed);
+    shots_check::run(shots, calls / 50_000, seed);
+    tables::run(shots, calls / 10, seed);
+}
+
+/// Desk inputs, random histories and short ones, units; and shots. A line for the shots, and one for the others.
 fn compare(calls: u64, seed: u64, mut comparison: Comparison) {
     desk_check::run(&mut comparison, calls / 10_000, seed);
     random::run(&mut comparison, calls, seed);
     all_short::run(&mut comparison, seed);
     units_check::run(&mut comparison);
+    let mut shots = Shots::new();
+    // Where the first difference is asked for, one is enough.
+    if comparison.goes_on() {
+        shots.most_differing = comparison.most_differing;
+        compare_shots(&mut shots, calls / 5, seed);
+    }
     comparison.show_tally();
-    println!("{comparison}");
-    std::process::exit(i32::from(comparison.differed > 0));
+    println!("{shots}\n{comparison}");
+    std::process::exit(i32::from(comparison.differed + shots.differed() > 0));
 }

@@ -43,7 +43,7 @@ impl Dice {
     }
 }
 
-fn settings(dice: &mut Dice, is_steady: bool) -> Settings {
+pub fn settings(dice: &mut Dice, is_steady: bool) -> Settings {
     let window = dice.pick(&[1, 1, 2, 3, 7, 10, 10, 10, 30, 60, 3600, 33_554_432]);
     let ms = 1000 * window;
     let bucket = match dice.below(8) {
@@ -132,22 +132,22 @@ pub fn bad_settings(dice: &mut Dice, good: &Settings) -> Settings {
 
 const KEY_POOL: [&[u8]; 7] =
     [b"a", b"b", b"", b"abcdefgh", b"abcdefghi", b"a\0", b"0123456789abcdef0123456789abcdef"];
-const LONG_KEY: [u8; 33] = [b'k'; 33];
+pub const LONG_KEY: [u8; 33] = [b'k'; 33];
 
 /// What the next call is drawn from.
-struct Source {
-    dice: Dice,
-    rates: Vec<f64>,
+pub struct Source {
+    pub dice: Dice,
+    pub rates: Vec<f64>,
     /// Readings at which something was written.
-    times: Vec<u64>,
-    now: u64,
-    is_suppressed: bool,
+    pub times: Vec<u64>,
+    pub now: u64,
+    pub is_suppressed: bool,
     /// Small counts at small rises, so that a key dwells between its limits.
-    is_steady: bool,
+    pub is_steady: bool,
 }
 
 impl Source {
-    fn rate(&mut self) -> f64 {
+    pub fn rate(&mut self) -> f64 {
         if self.dice.once_in(60) {
             return bad_rate(&mut self.dice);
         }
@@ -155,7 +155,7 @@ impl Source {
     }
 
     /// Zero, a boundary's length, or a boundary's age of an earlier time.
-    fn reading(&mut self, settings: &Settings) -> u64 {
+    pub fn reading(&mut self, settings: &Settings) -> u64 {
         let dice = &mut self.dice;
         let (bucket, cache, window) = (settings.bucket, settings.cache, 1000 * settings.window);
         if dice.once_in(80) {
@@ -241,7 +241,7 @@ impl Source {
     }
 
     /// A draw at an end, or beside the chance that the key's factor gives now.
-    fn draw(&mut self, history: &History, key: &[u8]) -> u64 {
+    pub fn draw(&mut self, settings: &Settings, rooms: &Rooms, key: &[u8]) -> u64 {
         if self.dice.once_in(100) {
             return self.dice.pick(&[TOP, TOP + 1, u64::MAX]);
         }
@@ -249,8 +249,8 @@ impl Source {
             let ends = [0, 1, TOP - 1, TOP / 2, TOP / 2 - 1, self.dice.below(TOP)];
             return self.dice.pick(&ends);
         }
-        let mut room = history.rooms.suppressed.clone();
-        let factor = get_suppression_factor(&history.settings, &mut room, self.now, key);
+        let mut room = rooms.suppressed.clone();
+        let factor = get_suppression_factor(settings, &mut room, self.now, key);
         let chance = (1.0 - factor.unwrap_or(0.5)) * TOP as f64;
         let beside = (chance as u64 + self.dice.below(3)).saturating_sub(1);
         beside.min(TOP - 1)
@@ -280,10 +280,9 @@ impl Source {
         Op::NamelessSet { kind, rate, count, nameless }
     }
 
-    fn op(&mut self, history: &History, key: &[u8]) -> Op {
-        let settings = &history.settings;
+    pub fn op(&mut self, settings: &Settings, rooms: &Rooms, key: &[u8]) -> Op {
         let kind = if self.is_suppressed { Kind::Suppressed } else { Kind::Absolute };
-        let series = of_key(history.rooms.of(kind), key).0.unwrap_or_default();
+        let series = of_key(rooms.of(kind), key).0.unwrap_or_default();
         let rate = self.rate();
         let limit = match series.limit {
             0 => settings.limit(kind, rate),
@@ -300,7 +299,7 @@ impl Source {
                 match kind {
                     Kind::Absolute => Op::AbsoluteInc { rate, count },
                     Kind::Suppressed => {
-                        Op::SuppressedInc { rate, count, draw: self.draw(history, key) }
+                        Op::SuppressedInc { rate, count, draw: self.draw(settings, rooms, key) }
                     }
                 }
             }
@@ -324,7 +323,7 @@ impl Source {
 }
 
 /// A start near the top of the readings, at 0, or anywhere.
-fn first_reading(dice: &mut Dice, settings: &Settings) -> u64 {
+pub fn first_reading(dice: &mut Dice, settings: &Settings) -> u64 {
     match dice.below(10) {
         0 => u64::MAX - dice.below(4000 * settings.window),
         1 => dice.any() >> 1,
@@ -389,7 +388,7 @@ fn played<'a>(
         // The sample has no refused call: its draws stay as they are.
         let op = match comparison.record.is_none() && source.dice.once_in(100) {
             true => source.nameless_set(),
-            false => source.op(&history, key),
+            false => source.op(&settings, &history.rooms, key),
         };
         let given = match source.dice.once_in(150) {
             true => bad_settings(&mut source.dice, &settings),
@@ -410,7 +409,7 @@ fn on_damaged(comparison: &mut Comparison, mut history: History, mut source: Sou
     let reading = source.reading(&history.settings);
     let keys = history.keys;
     let key: &[u8] = &source.dice.pick(&[&keys[0], &keys[1], &keys[2]]).bytes;
-    let op = source.op(&history, key);
+    let op = source.op(&history.settings, &history.rooms, key);
     for _ in 0..=source.dice.below(2) {
         damage(&mut source.dice, &mut history.rooms.absolute);
         damage(&mut source.dice, &mut history.rooms.suppressed);

@@ -1,6 +1,7 @@
 //! The Rattle code, over the C face of its archive. What is lent stands between words that no call may reach.
 
-use twin::calls::{Answer, Call, Limiters, Nameless, Op, Rooms, Row};
+use twin::calls::{Answer, Asked, Call, Limiters, Nameless, Op, Rooms, Row};
+use twin::gateway::Shot;
 use twin::room::Bucket;
 use twin::rules::{Comparator, Kind, Mode, Settings};
 use twin::set::Wanted;
@@ -54,11 +55,16 @@ faces! {
     frostaxle_absolute_bucket(key: *const u8, length: usize, at: usize);
     frostaxle_suppressed_bucket(key: *const u8, length: usize, at: usize);
     frostaxle_provider_cleanup(suppressed: *mut u64, suppressed_words: usize, reading: u64, stale: u64);
+    frostaxle_gateway_shot(
+        suppressed: *mut u64, suppressed_words: usize, reading: u64, controller: *const u8, length: usize, number: u64, rate: f64, draw: u64
+    );
 }
 
 unsafe extern "C" {
     fn frostaxle_room_words(slots: u64, ring: u64) -> usize;
     fn frostaxle_make(room: *mut u64, words: usize, slots: u64, ring: u64) -> u64;
+    fn frostaxle_gateway_new_season(table: *mut u64, words: usize, row: *mut u64) -> u64;
+    fn frostaxle_gateway_make_table(table: *mut u64, words: usize) -> u64;
 }
 
 /// How many words a room needs, 0 where there is no such room.
@@ -417,6 +423,55 @@ fn answer(op: Op, row: [u64; ROW]) -> Option<Answer> {
     })
 }
 
+/// The row that a gateway's call leaves, from the function's number and what it wrote.
+fn gateway_row(
+    settings: &Settings,
+    table: &mut Lent,
+    room: &mut Lent,
+    reading: u64,
+    asked: Asked,
+) -> [u64; ROW] {
+    let mut row = Lent::new(&[GUARD; ROW]);
+    let (table, room) = (table.words(), room.words());
+    let (start, words, told) = (table.as_mut_ptr(), table.len(), row.words().as_mut_ptr());
+    let number = match asked {
+        Asked::Shot(Shot { controller, number, rate, draw }) => unsafe {
+            let Settings { window, bucket, cache, factor } = *settings;
+            let (name, length) = (controller.as_ptr(), controller.len());
+            let (suppressed, many) = (room.as_mut_ptr(), room.len());
+            frostaxle_gateway_shot(
+                window, bucket, cache, factor, start, words, suppressed, many, reading, name,
+                length, number, rate, draw, told,
+            )
+        },
+        Asked::NewSeason => unsafe { frostaxle_gateway_new_season(start, words, told) },
+        Asked::MakeTable => {
+            // It has no row: what it returns is all that it tells.
+            let number = unsafe { frostaxle_gateway_make_table(start, words) };
+            row.words().copy_from_slice(&[number, u64::from(number == 0), 0, 0, 0]);
+            number
+        }
+    };
+    let mut told = [0; ROW];
+    row.give_back(&mut told);
+    assert_eq!(number, told[0], "what is returned is the row's first word");
+    told
+}
+
+/// The answer that a gateway's row stands for, if it stands for one of the call's.
+fn gateway_answer(asked: Asked, row: [u64; ROW]) -> Option<Answer> {
+    Some(match (asked, row) {
+        (_, [number, 0, 0, 0, 0]) if number != 0 => Answer::Refused(number),
+        (Asked::Shot(_), [0, 1, 0, 0, 0]) => Answer::Allowed,
+        (Asked::Shot(_), [0, 3, factor, admitted, 0]) => {
+            Answer::Suppressed { factor, admitted: yes(admitted)? }
+        }
+        (Asked::Shot(_), [0, 4, 0, 0, 0]) => Answer::Held,
+        (Asked::NewSeason | Asked::MakeTable, [0, 1, 0, 0, 0]) => Answer::Done,
+        _ => return None,
+    })
+}
+
 /// The Rattle code.
 pub struct Rattle;
 
@@ -443,5 +498,21 @@ impl Limiters for Rattle {
         suppressed.give_back(&mut rooms.suppressed);
         told.give_back(&mut [0; ROW]);
         answer
+    }
+
+    fn ask(
+        &self,
+        settings: &Settings,
+        table: &mut [u64],
+        room: &mut [u64],
+        reading: u64,
+        asked: Asked,
+    ) -> Answer {
+        let (mut lent_table, mut lent_room) = (Lent::new(table), Lent::new(room));
+        let row = gateway_row(settings, &mut lent_table, &mut lent_room, reading, asked);
+        lent_table.give_back(table);
+        lent_room.give_back(room);
+        gateway_answer(asked, row)
+            .unwrap_or_else(|| panic!("no answer to {asked:?} has the row {row:?}"))
     }
 }

@@ -10,8 +10,8 @@ use crate::expected::{has_key, kind};
 use crate::random::{Dice, bad_rate, nameless};
 use crate::trial::Trials;
 
-const TOP: u64 = 1 << 53;
-const LAST: u64 = 1000;
+pub const TOP: u64 = 1 << 53;
+pub const LAST: u64 = 1000;
 
 /// How often each set is tried on each call, with other words at fault.
 const TIMES: u64 = 3;
@@ -19,24 +19,24 @@ const TIMES: u64 = 3;
 /// S is 0 and H over 2^53, so that one count can meet 10 and 13.
 const SETTINGS: Settings =
     Settings { window: 10, bucket: 100, cache: 100, factor: (1u64 << 60) as f64 };
-const RATE: f64 = 0.0625;
+pub const RATE: f64 = 0.0625;
 
 /// Stands in the form of a call, each of which draws its own.
 const NAMELESS: Nameless = Nameless { comparator: 5, preservation: None };
 
 /// A set of refusals.
 #[derive(Clone, Copy)]
-struct Faults(u64);
+pub struct Faults(pub u64);
 
 impl Faults {
-    fn has(self, number: u64) -> bool {
+    pub fn has(self, number: u64) -> bool {
         self.0 >> number & 1 == 1
     }
 }
 
 /// How a room meets 5.
 #[derive(Clone, Copy, PartialEq)]
-enum Unfit {
+pub enum Unfit {
     Lengths,
     Slot,
 }
@@ -69,7 +69,7 @@ fn calls() -> Vec<Op> {
 }
 
 /// The room's two slots, of keys `a` and `b`: one bucket that is past joining. 12: the ring is full; 13: its counts are 0.
-fn room(kind: Kind, faults: Faults) -> Vec<u64> {
+pub fn room(kind: Kind, faults: Faults) -> Vec<u64> {
     let mut room = empty_room(2, 2);
     room[2] = LAST;
     let count = u64::from(kind == Kind::Absolute || !faults.has(13));
@@ -117,7 +117,7 @@ fn with_faults(dice: &mut Dice, op: Op, faults: Faults) -> Op {
     }
 }
 
-fn settings(dice: &mut Dice, faults: Faults) -> Settings {
+pub fn settings(dice: &mut Dice, faults: Faults) -> Settings {
     let mut settings = SETTINGS;
     if faults.has(1) {
         settings.window = dice.pick(&[0, 33_554_433, u64::MAX]);
@@ -136,7 +136,7 @@ fn settings(dice: &mut Dice, faults: Faults) -> Settings {
 }
 
 /// Wrong lengths, or an unsound first slot.
-fn spoil(dice: &mut Dice, room: &mut Vec<u64>, unfit: Unfit) {
+pub fn spoil(dice: &mut Dice, room: &mut Vec<u64>, unfit: Unfit) {
     match (unfit, dice.below(4)) {
         (Unfit::Lengths, 0) => room.push(0),
         (Unfit::Lengths, 1) => drop(room.pop()),

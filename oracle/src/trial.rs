@@ -73,6 +73,10 @@ impl Trials {
         }
     }
 
+    pub fn calls(&self) -> u64 {
+        self.calls
+    }
+
     /// A room that no call made is about to be tried.
     pub fn count_room(&mut self, kind: Kind, room: &[u64]) {
         let mut hasher = DefaultHasher::new();

@@ -1,5 +1,6 @@
 //! Every call as a value, so that one list of calls can be put to several implementations.
 
+use crate::gateway::{self, Shot, ShotAnswer};
 use crate::room::{Bucket, empty_room};
 use crate::rules::{Decision, Kind, Refusal, SetOutcome, Settings};
 use crate::set::Wanted;
@@ -37,6 +38,14 @@ pub struct Nameless {
     pub preservation: Option<u64>,
 }
 
+/// A call of the gateway, without settings and reading; what has no key looks at neither.
+#[derive(Clone, Copy, Debug)]
+pub enum Asked<'a> {
+    Shot(Shot<'a>),
+    NewSeason,
+    MakeTable,
+}
+
 /// An answer, doubles as their bits.
 #[derive(Clone, Copy, Debug, PartialEq, Eq)]
 pub enum Answer {
@@ -52,6 +61,7 @@ pub enum Answer {
     Deleted(Option<u64>),
     Set { matched: bool, previous: u64, current: u64 },
     Buckets(u64),
+    Held,
 }
 
 impl From<Decision> for Answer {
@@ -62,6 +72,15 @@ impl From<Decision> for Answer {
             Decision::Suppressed { factor, admitted } => {
                 Answer::Suppressed { factor: factor.to_bits(), admitted }
             }
+        }
+    }
+}
+
+impl From<ShotAnswer> for Answer {
+    fn from(answer: ShotAnswer) -> Self {
+        match answer {
+            ShotAnswer::Held => Answer::Held,
+            ShotAnswer::Decided(decision) => decision.into(),
         }
     }
 }
@@ -96,7 +115,7 @@ fn told<T: Into<Answer>>(result: Result<T, Refusal>) -> Answer {
 /// Where a read-out puts its buckets: the row is as long as the caller made it.
 pub type Row = Vec<Bucket>;
 
-/// Both limiters over one absolute and one suppressed room of words.
+/// Both limiters over one absolute and one suppressed room of words, and the gateway over a table and a suppressed room.
 /// The twin is one; an archive with C faces becomes another by forwarding each call.
 pub trait Limiters {
     fn name(&self) -> &'static str;
@@ -108,6 +127,15 @@ pub trait Limiters {
         reading: u64,
         call: Call,
         row: &mut Row,
+    ) -> Answer;
+
+    fn ask(
+        &self,
+        settings: &Settings,
+        table: &mut [u64],
+        room: &mut [u64],
+        reading: u64,
+        asked: Asked,
     ) -> Answer;
 }
 
@@ -191,6 +219,22 @@ impl Limiters for Twin {
             Op::ReadOut { kind } => told(
                 shared::read_out(kind, settings, rooms.of(kind), key, row).map(Answer::Buckets),
             ),
+        }
+    }
+
+    fn ask(
+        &self,
+        settings: &Settings,
+        table: &mut [u64],
+        room: &mut [u64],
+        reading: u64,
+        asked: Asked,
+    ) -> Answer {
+        match asked {
+            Asked::Shot(shot) => told(gateway::shot(settings, table, room, reading, shot)),
+            Asked::NewSeason => told(gateway::new_season(table)),
+            Asked::MakeTable if gateway::make_table(table) => Answer::Done,
+            Asked::MakeTable => Answer::Refused(5),
         }
     }
 }

@@ -1,15 +1,19 @@
-//! The two limiters as an ordinary Rust program over the same fixed rooms, written from document 01.
+//! The two limiters and the gateway above them as an ordinary Rust program over the same fixed words, written from document 01
+//! and ticket 12.
 //! docs/WORDS.md says which words each call writes.
 
 pub mod absolute;
 pub mod calls;
 pub mod desk;
+pub mod gateway;
+pub mod lines;
 pub mod provider;
 pub mod replay;
 pub mod room;
 pub mod rules;
 pub mod set;
 pub mod shared;
+pub mod shots;
 pub mod suppressed;
 #[cfg(trusting)]
 mod trusting;

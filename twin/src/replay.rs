@@ -76,6 +76,7 @@ pub fn answer_numbers(answer: Answer) -> [u64; 4] {
         Answer::Deleted(accepted) => optional(9, accepted),
         Answer::Set { matched, previous, current } => [10, u64::from(matched), previous, current],
         Answer::Buckets(buckets) => [11, buckets, 0, 0],
+        Answer::Held => unreachable!("the list has no shots"),
     }
 }
 

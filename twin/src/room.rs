@@ -5,13 +5,13 @@ use crate::rules::{Kind, Refusal, Settings, TOP, cut, refuse_if};
 pub use crate::trusting::scan_slot;
 
 const LAST: usize = 2;
-const HEADER: usize = 3;
-const ENTRY: usize = 6;
+pub const HEADER: usize = 3;
+pub const ENTRY: usize = 6;
 const FIXED: usize = 7;
 const CELL: usize = 3;
 
 const USE: usize = 0;
-const LENGTH: usize = 1;
+pub const LENGTH: usize = 1;
 const KEY: usize = 2;
 
 const LIMIT: usize = 0;
@@ -63,7 +63,7 @@ pub fn store_reading(room: &mut [u64], reading: u64) {
     room[LAST] = reading;
 }
 
-fn entry_start(slot: usize) -> usize {
+pub fn entry_start(slot: usize) -> usize {
     HEADER + ENTRY * slot
 }
 
@@ -72,7 +72,7 @@ fn body_start(room: &[u64], slot: usize) -> usize {
 }
 
 /// A key as the directory has it: length, then the bytes in four words.
-fn packed(key: &[u8]) -> [u64; 5] {
+pub fn packed(key: &[u8]) -> [u64; 5] {
     let mut words = [key.len() as u64, 0, 0, 0, 0];
     for (at, byte) in key.iter().enumerate() {
         words[1 + at / 8] |= u64::from(*byte) << (8 * (at % 8));

@@ -1,13 +1,15 @@
-//! Input for desk programs: good lines at the boundaries, and damaged ones.
+//! Input for the programs of lines, desk and shots: good lines at the boundaries, and damaged ones.
+
+use std::collections::BTreeMap;
 
 use crate::random::Dice;
 
 const TOP: u64 = 1 << 53;
 
-fn settings_line(dice: &mut Dice) -> String {
-    let window = dice.pick(&[1, 1, 2, 10, 10, 10, 60, 33_554_432]);
+fn settings_line(dice: &mut Dice, choice: &Choice) -> String {
+    let window = dice.pick(&choice.windows);
     let bucket = dice.pick(&[1, 10, 100, 100, 1000, 2000, 4_294_967_296u64]);
-    let factor = dice.pick(&[1, 1, 2, 2, 3, 4, 1000, TOP]);
+    let factor = dice.pick(&choice.factors);
     let cache = dice.pick(&[1, 10, 100, 100, 1000, 4_294_967_296u64]);
     let line = format!("window={window} bucket={bucket} factor={factor} cache={cache}");
     match dice.below(40) {
@@ -55,15 +57,20 @@ fn key(dice: &mut Dice, most_keys: u64) -> String {
     }
 }
 
-fn call_line(dice: &mut Dice, now: &mut u64, most_keys: u64) -> String {
+/// The reading of the next line, which mostly rises.
+fn reading(dice: &mut Dice, now: &mut u64, most_keys: u64) -> u64 {
     let rises = [0, 0, 1, 2, 10, 50, 99, 100, 101, 500, 999, 1000, 1001, 9999, 10_000, 10_001];
     // With one key the reading mostly rises little, so that a ring can fill.
     let is_long = most_keys > 1 || dice.once_in(100);
     *now += dice.pick(if is_long { &rises } else { &rises[..9] });
-    let t = match dice.below(50) {
+    match dice.below(50) {
         0 => now.saturating_sub(1),
         _ => *now,
-    };
+    }
+}
+
+fn desk_line(dice: &mut Dice, now: &mut u64, most_keys: u64) -> String {
+    let t = reading(dice, now, most_keys);
     let op = dice.pick(&["ainc", "ainc", "sinc", "sinc", "sinc", "aget", "sget"]);
     let op = if dice.once_in(100) { dice.pick(&["inc", "", "aincx", "SINC"]) } else { op };
     let rate = dice.pick(&[1, 3, 3, 6, 60, 60, 120, 600, 600, 0, TOP]);
@@ -73,6 +80,76 @@ fn call_line(dice: &mut Dice, now: &mut u64, most_keys: u64) -> String {
     let key = key(dice, most_keys);
     let (rate, count, draw) = (number(dice, rate), number(dice, count), number(dice, draw));
     format!("t={t} op={op} key={key} rate={rate} n={count} draw={draw}")
+}
+
+/// The number that a controller's next shot has: mostly the one after the last that was sent, or that one again.
+fn shot_number(dice: &mut Dice, sent: u64) -> u64 {
+    match dice.below(24) {
+        0 => dice.pick(&[0, 1, (1 << 32) - 2, (1 << 32) - 1, 1 << 32]),
+        1 | 2 => 1 + dice.below(6),
+        3..=8 => sent.max(1),
+        9 => sent.saturating_sub(1),
+        _ => sent + 1,
+    }
+}
+
+/// A controller's number is kept among those sent, unless it is one at the ends.
+fn shot_line(dice: &mut Dice, now: &mut u64, most_keys: u64, sent: &mut Sent) -> String {
+    let t = reading(dice, now, most_keys);
+    // A crowd is to be admitted, others to be turned away now and then.
+    let rates = if most_keys > 5 { [60, 60, 600, 600, 600, TOP] } else { [3, 6, 12, 12, 30, 60] };
+    let rate = if dice.once_in(20) { 0 } else { dice.pick(&rates) };
+    let draw = dice.pick(&[0, 0, TOP - 1, TOP / 2, TOP / 2 - 1, TOP / 3]);
+    let t = if dice.once_in(10) { number(dice, t) } else { t.to_string() };
+    // More controllers than a table knows, first one after another.
+    let crowd = 68;
+    let next = if sent.len() < crowd { sent.len() } else { dice.below(crowd as u64) as usize };
+    let ctl = match most_keys > 5 && !dice.once_in(8) {
+        true => format!("c{next}"),
+        false => key(dice, most_keys),
+    };
+    let last = sent.entry(ctl.clone()).or_default();
+    let shot = shot_number(dice, *last);
+    if shot <= *last + 1 {
+        *last = shot.max(*last);
+    }
+    let (rate, shot, draw) = (number(dice, rate), number(dice, shot), number(dice, draw));
+    format!("t={t} ctl={ctl} shot={shot} rate={rate} draw={draw}")
+}
+
+/// The greatest number that each controller has sent one after another.
+type Sent = BTreeMap<String, u64>;
+
+/// Which program the lines are for.
+#[derive(Clone, Copy, PartialEq, Eq)]
+pub enum Program {
+    Desk,
+    Shots,
+}
+
+/// What an input's keys and settings are chosen from.
+struct Choice {
+    keys: [u64; 4],
+    windows: [u64; 8],
+    factors: [u64; 8],
+}
+
+impl Program {
+    /// Shots count 1: they come between limits that are not too near.
+    fn choice(self) -> Choice {
+        match self {
+            Program::Desk => Choice {
+                keys: [1, 2, 5, 10],
+                windows: [1, 1, 2, 10, 10, 10, 60, 33_554_432],
+                factors: [1, 1, 2, 2, 3, 4, 1000, TOP],
+            },
+            Program::Shots => Choice {
+                keys: [1, 3, 10, 10],
+                windows: [1, 10, 10, 10, 10, 10, 60, 33_554_432],
+                factors: [1, 2, 3, 3, 4, 4, 5, TOP],
+            },
+        }
+    }
 }
 
 /// One byte gone, doubled, changed or put in.
@@ -94,17 +171,22 @@ fn damaged(dice: &mut Dice, line: String) -> Vec<u8> {
 }
 
 /// A whole input of so many call lines.
-pub fn input(lines: u64, seed: u64) -> Vec<u8> {
+pub fn input(program: Program, lines: u64, seed: u64) -> Vec<u8> {
     let mut dice = Dice::new(seed);
     if dice.once_in(50) {
         return Vec::new();
     }
     let mut now = dice.pick(&[0, 0, 0, 5, u64::MAX - 40_000_000]);
-    let most_keys = dice.pick(&[1, 2, 5, 10]);
-    let settings = settings_line(&mut dice);
+    let choice = program.choice();
+    let most_keys = dice.pick(&choice.keys);
+    let mut sent = Sent::new();
+    let settings = settings_line(&mut dice, &choice);
     let mut input = damaged(&mut dice, settings);
     for _ in 0..lines {
-        let line = call_line(&mut dice, &mut now, most_keys);
+        let line = match program {
+            Program::Desk => desk_line(&mut dice, &mut now, most_keys),
+            Program::Shots => shot_line(&mut dice, &mut now, most_keys, &mut sent),
+        };
         input.push(b'\n');
         input.extend(damaged(&mut dice, line));
     }

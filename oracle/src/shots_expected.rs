@@ -1,0 +1,109 @@
+//! What ticket 12 says of a call of the gateway, read a second time: from a table's entries as bytes, with the limiter asked as it is.
+
+use twin::calls::{Answer, Asked, Call, Limiters, Op, Twin};
+use twin::gateway::Shot;
+use twin::rules::Settings;
+
+use crate::expected::{expected, settings_fault};
+use crate::loaded::packed;
+use crate::shots::Memory;
+
+const ENTRY: usize = 6;
+const MOST: u64 = 64;
+const NUMBERS: u64 = 1 << 32;
+
+/// What a table says of a controller.
+enum Says {
+    Unsound,
+    Last { at: usize, number: u64 },
+    New { at: usize },
+}
+
+/// A table's entries that are in use, if it has the length and the header of one.
+fn entries(table: &[u64]) -> Option<&[u64]> {
+    match table {
+        [known @ 0..=MOST, 0, 0, entries @ ..] if entries.len() == ENTRY * MOST as usize => {
+            Some(&entries[..ENTRY * *known as usize])
+        }
+        _ => None,
+    }
+}
+
+/// Whether an entry's key is the controller's name, and zeros behind it.
+fn is_of(entry: &[u64], controller: &[u8]) -> bool {
+    let bytes = entry[2..].iter().flat_map(|word| word.to_le_bytes());
+    let padded = controller.iter().copied().chain(std::iter::repeat(0)).take(32);
+    controller.len() <= 32 && entry[1] == controller.len() as u64 && bytes.eq(padded)
+}
+
+fn says(table: &[u64], controller: &[u8]) -> Says {
+    let Some(entries) = entries(table) else {
+        return Says::Unsound;
+    };
+    let own: Vec<(usize, u64)> = entries
+        .chunks(ENTRY)
+        .enumerate()
+        .filter(|(_, entry)| is_of(entry, controller))
+        .map(|(at, entry)| (at, entry[0]))
+        .collect();
+    match own[..] {
+        [] => Says::New { at: entries.len() / ENTRY },
+        [(at, number @ 1..NUMBERS)] => Says::Last { at, number },
+        _ => Says::Unsound,
+    }
+}
+
+/// The limiter's answer to an increment of 1, which leaves its words in the room.
+fn limiter(settings: &Settings, memory: &mut Memory, reading: u64, shot: Shot) -> Answer {
+    let op = Op::SuppressedInc { rate: shot.rate, count: 1, draw: shot.draw };
+    let call = Call { key: shot.controller, op };
+    match expected(settings, &memory.rooms, reading, call).refusal {
+        0 => Twin.call(settings, &mut memory.rooms, reading, call, &mut vec![]),
+        number => Answer::Refused(number),
+    }
+}
+
+fn shot(settings: &Settings, memory: &mut Memory, reading: u64, shot: Shot) -> Answer {
+    let Shot { controller, number, .. } = shot;
+    if number == 0 || number >= NUMBERS {
+        return Answer::Refused(19);
+    }
+    let at = match says(&memory.table, controller) {
+        Says::Unsound => {
+            let fault = settings_fault(settings);
+            return Answer::Refused(if fault == 0 { 5 } else { fault });
+        }
+        Says::Last { number: last, .. } if last > number => return Answer::Refused(20),
+        Says::Last { number: last, .. } if last == number => return Answer::Held,
+        Says::New { at } if at == MOST as usize => return Answer::Refused(21),
+        Says::Last { at, .. } | Says::New { at } => at,
+    };
+    let answer = limiter(settings, memory, reading, shot);
+    if is_admitted(answer) {
+        let [known, _, _, entries @ ..] = &mut memory.table[..] else {
+            unreachable!("the table is sound");
+        };
+        entries[ENTRY * at] = number;
+        entries[ENTRY * at + 1..][..5].copy_from_slice(&packed(controller));
+        *known = (*known).max(at as u64 + 1);
+    }
+    answer
+}
+
+pub fn is_admitted(answer: Answer) -> bool {
+    matches!(answer, Answer::Allowed | Answer::Suppressed { admitted: true, .. })
+}
+
+/// The answer; the memory becomes what the call must leave.
+pub fn foreseen(settings: &Settings, memory: &mut Memory, reading: u64, asked: Asked) -> Answer {
+    let is_table = match asked {
+        Asked::Shot(given) => return shot(settings, memory, reading, given),
+        Asked::NewSeason => entries(&memory.table).is_some(),
+        Asked::MakeTable => memory.table.len() == 387,
+    };
+    if !is_table {
+        return Answer::Refused(5);
+    }
+    memory.table = vec![0; 387];
+    Answer::Done
+}

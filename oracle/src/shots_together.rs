@@ -1,0 +1,164 @@
+//! Refusals of a shot met together: every set of 1 to 13, with and without 19, for a controller of each standing in the table.
+//! The first in the order 19, 20, 21, 1, 2, .. must be given, and held before 1.
+
+use twin::calls::{Answer, Asked, Rooms};
+use twin::gateway::{Shot, empty_table};
+use twin::rules::Kind;
+
+use crate::loaded::packed;
+use crate::random::{Dice, bad_rate};
+use crate::seasons::rooms;
+use crate::shots::{HELD, Memory, NO, Shots};
+use crate::together::{Faults, LAST, RATE, TOP, Unfit, room, settings, spoil};
+
+/// How the shot's number and its controller stand to the table.
+#[derive(Clone, Copy, PartialEq)]
+enum Standing {
+    New,
+    Higher,
+    Held,
+    /// 20.
+    Lower,
+    /// 21: not in a table of 64.
+    NoPlace,
+}
+
+const STANDINGS: [Standing; 5] =
+    [Standing::New, Standing::Higher, Standing::Held, Standing::Lower, Standing::NoPlace];
+
+/// The number that the controller's entry has.
+const NUMBER: u64 = 17;
+
+/// What the sets of a run must come to.
+const COMES: [usize; 18] = [HELD, NO, 1, 2, 3, 4, 5, 6, 7, 8, 9, 10, 11, 12, 13, 19, 20, 21];
+
+/// A table of 64 or of fewer controllers, with this one where it is to be known.
+fn table(dice: &mut Dice, standing: Standing, controller: &[u8]) -> Vec<u64> {
+    let mut table = empty_table();
+    let known = if standing == Standing::NoPlace { 64 } else { 1 + dice.below(63) };
+    table[0] = known;
+    let own = dice.below(known);
+    let is_known = !matches!(standing, Standing::New | Standing::NoPlace);
+    for at in 0..known {
+        let name = format!("other{at}");
+        let name = if is_known && at == own { controller } else { name.as_bytes() };
+        let entry = &mut table[3 + 6 * at as usize..][..6];
+        entry[0] = NUMBER;
+        entry[1..].copy_from_slice(&packed(name));
+    }
+    table
+}
+
+/// The table becomes unsound for the controller, or for all.
+fn spoil_table(dice: &mut Dice, table: &mut Vec<u64>, controller: &[u8]) {
+    let known = table[0] as usize;
+    let has_name = |entry: &[u64]| controller.len() <= 32 && entry[1..] == packed(controller);
+    let own = table[3..].chunks(6).take(known).position(has_name);
+    match (dice.below(6), own) {
+        (0, _) => drop(table.pop()),
+        (1, _) => table.push(0),
+        (2, _) => table[0] = dice.pick(&[65, 1 << 32, u64::MAX]),
+        (3, Some(own)) => table[3 + 6 * own] = dice.pick(&[0, 1 << 32, u64::MAX]),
+        (4, Some(own)) if known > 1 => {
+            let start = 3 + 6 * own;
+            let other = (own + 1) % known;
+            table.copy_within(start..start + 6, 3 + 6 * other);
+        }
+        _ => table[dice.pick(&[1, 2])] = dice.pick(&[1, u64::MAX]),
+    }
+}
+
+/// What is due: a refusal, 0 where the limiter decides, or none where the shot is held.
+fn due(faults: Faults, standing: Standing, is_table_unfit: bool) -> Option<u64> {
+    // A long key has no entry, and an unsound table no last number.
+    let is_long = faults.has(7);
+    let has_last = !is_long && !is_table_unfit;
+    match standing {
+        _ if faults.has(19) => return Some(19),
+        Standing::Lower if has_last => return Some(20),
+        Standing::Held if has_last => return None,
+        Standing::NoPlace if !is_table_unfit => return Some(21),
+        _ => {}
+    }
+    // A slot that is not there is not full, and has no total.
+    let has_slot = !is_long && !faults.has(11);
+    let is_met = |number: &u64| faults.has(*number) && (has_slot || ![10, 12, 13].contains(number));
+    Some((1..14).find(is_met).unwrap_or(0))
+}
+
+/// The room's key: long, without a slot, or the first slot's.
+fn controller(faults: Faults) -> &'static [u8] {
+    match (faults.has(7), faults.has(11)) {
+        (true, _) => &[b'a'; 33],
+        (_, true) => b"zz",
+        _ => b"a",
+    }
+}
+
+/// The suppressed room of refusals met together; for 10 the first slot's total is at the top.
+fn room_of(faults: Faults) -> Vec<u64> {
+    let mut room = room(Kind::Suppressed, faults);
+    if faults.has(10) {
+        for at in [1, 2, 8, 10] {
+            room[15 + at] = TOP;
+        }
+    }
+    room
+}
+
+fn one(shots: &mut Shots, dice: &mut Dice, faults: Faults, standing: Standing) {
+    let controller = controller(faults);
+    let is_long = faults.has(7);
+    let in_table: &[u8] = if is_long { b"a" } else { controller };
+    let mut memory = Memory {
+        table: table(dice, standing, in_table),
+        rooms: Rooms { suppressed: room_of(faults), ..rooms(1, 1) },
+    };
+    let is_named = !is_long && !faults.has(11);
+    let is_table_unfit = faults.has(5) && dice.once_in(2);
+    match is_table_unfit {
+        true => spoil_table(dice, &mut memory.table, controller),
+        false if faults.has(5) => {
+            // Only a slot that the call addresses is judged.
+            let unfit =
+                if is_named { dice.pick(&[Unfit::Lengths, Unfit::Slot]) } else { Unfit::Lengths };
+            spoil(dice, &mut memory.rooms.suppressed, unfit);
+        }
+        false => {}
+    }
+    let number = match (faults.has(19), standing) {
+        (true, _) => dice.pick(&[0, 1 << 32, u64::MAX]),
+        (_, Standing::Lower) => dice.pick(&[1, NUMBER - 1]),
+        (_, Standing::Held) => NUMBER,
+        _ => dice.pick(&[NUMBER + 1, (1 << 32) - 1]),
+    };
+    let rate = if faults.has(8) { bad_rate(dice) } else { RATE };
+    let draw = if faults.has(9) { dice.pick(&[TOP, u64::MAX]) } else { 0 };
+    let reading = if faults.has(6) { dice.pick(&[LAST - 1, LAST - 100]) } else { LAST };
+    let shot = Shot { controller, number, rate, draw };
+    let due = due(faults, standing, is_table_unfit);
+    let settings = settings(dice, faults);
+    let told = shots.put(&settings, &mut memory, reading, Asked::Shot(shot));
+    let is_due = match due {
+        None => told == Answer::Held,
+        Some(0) => !matches!(told, Answer::Held | Answer::Refused(_)),
+        Some(number) => told == Answer::Refused(number),
+    };
+    if !is_due {
+        shots.differ(format!("{due:?} is due to {shot:?}, and {told:?} was told"));
+    }
+}
+
+/// Every set of refusals, for every standing.
+pub fn run(shots: &mut Shots, dice: &mut Dice) {
+    for standing in STANDINGS {
+        for set in 0..1u64 << 14 {
+            // The last bit is 19's.
+            let faults = Faults((set & 0x1fff) << 1 | (set >> 13) << 19);
+            if shots.goes_on() {
+                one(shots, dice, faults, standing);
+            }
+        }
+    }
+    shots.end_part("refusals together", &COMES);
+}
