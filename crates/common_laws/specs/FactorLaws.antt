@@ -1,5 +1,5 @@
 -- The laws of the factor and the draw that the limiters cite: a factor that is worked out lies in 0 to 1, so its word is sound; the scaled chance is a
--- whole number and the comparison with a draw is exact; the perceived rate is zero exactly where nothing was counted.
+-- whole number and the comparison with a draw is exact; the perceived rate is zero exactly where nothing was counted, and the factor is 0 there.
 -- Assumes nothing.
 use mathlib.Core.Path.{_≡_, refl, sym, ap, subst, _∙_}
 use mathlib.Core.Bool.{Bool, true, false, _&&_, cond}
@@ -18,10 +18,10 @@ use lib.Ieee.Scale.{round-same}
 use denote.Floats.{passes}
 use borrow.Author.Tests.{lt-ltb, le-ltb, ne-eqb, leb-false}
 use Rattle.common.specs.Ranges.{nil, one}
-use Rattle.suppression.specs.Factor.{average, freshFactor, perceivesNothing, Unit01, factorWordOk, chance, odds, admitted}
+use Rattle.suppression.specs.Factor.{average, perceived, freshFactor, Unit01, factorWordOk, chance, odds, admitted}
 use Rattle.common_laws.specs.Floats.Bounds.{plain, Upp, odd-shape}
 use Rattle.common_laws.specs.Floats.Draw.{odds-exact, draw-lt, odds-nil, odds-one}
-use Rattle.common_laws.specs.Floats.Factor.{perceived-any, fresh-upp, unit-of-upp}
+use Rattle.common_laws.specs.Floats.Factor.{perceived-any, nil-upp, fresh-upp, unit-of-upp}
 use Rattle.common_laws.specs.Floats.Ops.{div-is}
 use Rattle.common_laws.specs.Floats.Stored.{window}
 
@@ -43,49 +43,6 @@ clear-word n p = go (leb (top binary64) n) refl p
     go : (b : Bool) → leb (top binary64) n ≡ b → T (plain (ofFields binary64 b (n % top binary64 / hid binary64) (n % hid binary64))) → n < 2 ^ 63
     go true e h = absurd (minus-fields (n % top binary64 / hid binary64) (n % hid binary64) h)
     go false e h = leb-false (top binary64) n e
-
--- ---- the fresh factor
-upp-plain : (x : Float) → Upp x 1 1 → T (plain x)
-upp-plain nan u = absurd u
-upp-plain (inf s) u = absurd u
-upp-plain (fin s m e) u = u .0
-
-and3 : (a b c : Bool) → a ≡ true → T b → T c → a && (b && c) ≡ true
-and3 true true true e p q = refl
-and3 true true false e p q = absurd q
-and3 true false c e p q = absurd p
-and3 false b c e p q = e
-
-pub record Counted (S total W last : ℕ) : Type 0 where
-  pub soft : S ≤ total
-  pub some : 0 < total
-  pub few : total ≤ 2 ^ 53
-  pub from : 1 ≤ W
-  pub to : W ≤ 33554432
-  pub newest : last ≤ 2 ^ 53
-
-counted-upp : (S total W last : ℕ) → Counted S total W last → Upp (freshFactor S total W last) 1 1
-counted-upp S total W last k =
-    fresh-upp S total W last (k .soft) (k .some) (le-trans (k .few) (lit≤ tt)) (k .from) (le-trans (k .to) (lit≤ tt)) (le-trans (k .newest) (lit≤ tt))
-
-pub fresh-unit : (S total W last : ℕ) → Counted S total W last → Unit01 (freshFactor S total W last)
-fresh-unit S total W last k = unit-of-upp (freshFactor S total W last) (counted-upp S total W last k)
-
--- a factor that is stored is sound, and is the same when it is read again
-word-ok : (x : Float) → T (fits binary64 x) → Upp x 1 1 → factorWordOk (toBits binary64 x) ≡ true
-unfolding factorWordOk
-word-ok x t u =
-    let b = ofBits-toBits binary64 x t in
-    let c = clear-word (toBits binary64 x) (subst (λ (y : Float). T (plain y)) (sym b) (upp-plain x u)) in
-    let v = unit-of-upp x u in
-    rw b (and3 _ (le nil x) (le x one) (lt-ltb _ _ c) (v .0) (v .1))
-
-pub fresh-fits : (S total W last : ℕ) → T (fits binary64 (freshFactor S total W last))
-unfolding freshFactor
-fresh-fits S total W last = sub-fits binary64 _ _
-
-pub fresh-ok : (S total W last : ℕ) → Counted S total W last → factorWordOk (toBits binary64 (freshFactor S total W last)) ≡ true
-fresh-ok S total W last k = word-ok (freshFactor S total W last) (fresh-fits S total W last) (counted-upp S total W last k)
 
 -- ---- the perceived rate
 no-rate : (x : Float) → T (lt nil x) → eq x nil ≡ false
@@ -110,21 +67,83 @@ zero-average W p q =
     round-same binary64 false (0 * 1 * down g) (w * up g * 1) 0 1 (mul-pos (mul-pos c (up-pos g)) (zero-lt-suc 0)) (zero-lt-suc 0)
     (mul-one (0 * 1 * down g) ∙ zero-mul (down g) ∙ sym (zero-mul (w * up g * 1)))
 
-nothing : (W : ℕ) → 1 ≤ W → W ≤ 33554432 → perceivesNothing 0 W 0 ≡ true
-unfolding perceivesNothing ofInt round lt eq
-nothing W p q = rw (zero-average W p q)
+zero-rate : (W : ℕ) → 1 ≤ W → W ≤ 33554432 → eq (perceived 0 W 0) nil ≡ true
+unfolding ofInt round lt eq
+zero-rate W p q = rw (zero-average W p q)
 
-something : (total W last : ℕ) → last ≤ suc total → suc total ≤ 2 ^ 53 → 1 ≤ W → W ≤ 33554432 → perceivesNothing (suc total) W last ≡ false
-unfolding perceivesNothing
-something total W last l n p q =
-    no-rate _ (perceived-any 0 (suc total) W last zero-le (zero-lt-suc total) (le-trans n (lit≤ tt)) p (le-trans q (lit≤ tt))
-    (le-trans l (le-trans n (lit≤ tt))) .2)
+some-rate : (total W last : ℕ) → 0 < total → last ≤ 2 ^ 53 → total ≤ 2 ^ 53 → 1 ≤ W → W ≤ 33554432 → eq (perceived total W last) nil ≡ false
+some-rate total W last s l n p q =
+    no-rate _ (perceived-any 0 total W last zero-le s (le-trans n (lit≤ tt)) p (le-trans q (lit≤ tt)) (le-trans l (lit≤ tt)) .2)
 
--- "Refusal 13 is met exactly at .. total 0"
-pub nothing-is : (total W last : ℕ) → last ≤ total → total ≤ 2 ^ 53 → 1 ≤ W → W ≤ 33554432 → perceivesNothing total W last ≡ eqb total 0
-nothing-is zero W zero l n p q = nothing W p q
-nothing-is zero W (suc last) l n p q = absurd (omega arith)
-nothing-is (suc total) W last l n p q = something total W last l n p q ∙ sym (ne-eqb (suc total) 0 (λ z. omega arith))
+-- zero exactly where nothing was counted
+pub rate-zero : (total W last : ℕ) → last ≤ total → total ≤ 2 ^ 53 → 1 ≤ W → W ≤ 33554432 → eq (perceived total W last) nil ≡ eqb total 0
+rate-zero zero W zero l n p q = zero-rate W p q
+rate-zero zero W (suc last) l n p q = absurd (omega arith)
+rate-zero (suc total) W last l n p q =
+    some-rate (suc total) W last (zero-lt-suc total) (le-trans l n) n p q ∙ sym (ne-eqb (suc total) 0 (λ z. omega arith))
+
+-- ---- the fresh factor
+upp-plain : (x : Float) → Upp x 1 1 → T (plain x)
+upp-plain nan u = absurd u
+upp-plain (inf s) u = absurd u
+upp-plain (fin s m e) u = u .0
+
+and3 : (a b c : Bool) → a ≡ true → T b → T c → a && (b && c) ≡ true
+and3 true true true e p q = refl
+and3 true true false e p q = absurd q
+and3 true false c e p q = absurd p
+and3 false b c e p q = e
+
+pub record Counted (S total W last : ℕ) : Type 0 where
+  pub soft : S ≤ total
+  pub few : total ≤ 2 ^ 53
+  pub from : 1 ≤ W
+  pub to : W ≤ 33554432
+  pub newest : last ≤ total
+
+-- 0 where nothing was counted, so at a zero perceived rate ..
+pub fresh-none : (S W : ℕ) → 1 ≤ W → W ≤ 33554432 → freshFactor S 0 W 0 ≡ nil
+unfolding freshFactor
+fresh-none S W p q = rw (zero-rate W p q)
+
+-- .. and worked out everywhere else, with or without a count in the last second
+pub fresh-some : (S total W last : ℕ) → 0 < total → Counted S total W last →
+    freshFactor S total W last ≡ sub binary64 one (div binary64 (average S W) (perceived total W last))
+unfolding freshFactor
+fresh-some S total W last n k = rw (some-rate total W last n (le-trans (k .newest) (k .few)) (k .few) (k .from) (k .to))
+
+counted-upp : (S total W last : ℕ) → Counted S total W last → Upp (freshFactor S total W last) 1 1
+counted-upp S zero W zero k = subst (λ (x : Float). Upp x 1 1) (sym (fresh-none S W (k .from) (k .to))) nil-upp
+counted-upp S zero W (suc last) k = let n : suc last ≤ 0 = k .newest in absurd (omega arith)
+counted-upp S (suc total) W last k =
+    fresh-upp S (suc total) W last (k .soft) (zero-lt-suc total) (le-trans (k .few) (lit≤ tt)) (k .from) (le-trans (k .to) (lit≤ tt))
+    (le-trans (k .newest) (le-trans (k .few) (lit≤ tt)))
+
+pub fresh-unit : (S total W last : ℕ) → Counted S total W last → Unit01 (freshFactor S total W last)
+fresh-unit S total W last k = unit-of-upp (freshFactor S total W last) (counted-upp S total W last k)
+
+-- a factor that is stored is sound, and is the same when it is read again
+word-ok : (x : Float) → T (fits binary64 x) → Upp x 1 1 → factorWordOk (toBits binary64 x) ≡ true
+unfolding factorWordOk
+word-ok x t u =
+    let b = ofBits-toBits binary64 x t in
+    let c = clear-word (toBits binary64 x) (subst (λ (y : Float). T (plain y)) (sym b) (upp-plain x u)) in
+    let v = unit-of-upp x u in
+    rw b (and3 _ (le nil x) (le x one) (lt-ltb _ _ c) (v .0) (v .1))
+
+either-fits : (b : Bool) (x : Float) → T (fits binary64 x) → T (fits binary64 (cond b nil x))
+unfolding fits
+either-fits true x t = tt
+either-fits false x t = t
+
+pub fresh-fits : (S total W last : ℕ) → T (fits binary64 (freshFactor S total W last))
+unfolding freshFactor
+fresh-fits S total W last =
+    let share = div binary64 (average S W) (perceived total W last) in
+    either-fits (eq (perceived total W last) nil) (sub binary64 one share) (sub-fits binary64 one share)
+
+pub fresh-ok : (S total W last : ℕ) → Counted S total W last → factorWordOk (toBits binary64 (freshFactor S total W last)) ≡ true
+fresh-ok S total W last k = word-ok (freshFactor S total W last) (fresh-fits S total W last) (counted-upp S total W last k)
 
 -- ---- the draw
 pub factor-unit : (n : ℕ) → factorWordOk n ≡ true → Unit01 (ofBits binary64 n)
@@ -177,6 +196,11 @@ admitted-is x draw t u d = go (eq x nil) (eq x one) refl refl
     go true b p q = sym (ap (ltb draw) (zero-odds x t (passes _ p)) ∙ lt-ltb draw (2 ^ 53) d)
     go false true p q = sym (ap (ltb draw) (one-odds x t (passes _ q)) ∙ le-ltb draw 0 zero-le)
     go false false p q = draw-lt x draw t u (le-of-lt d)
+
+-- "Factor 0 admits"
+pub nil-admits : (draw : ℕ) → admitted nil draw ≡ true
+unfolding admitted eq
+nil-admits draw = refl
 
 -- ---- the words of 0 and 1
 abbrev pub nilWord : ℕ

@@ -48,7 +48,7 @@ use Rattle.rules.specs.Both.{limitIn}
 use Rattle.shared_opened.specs.Opened.{deleting, forgotten, usedWith, limiting}
 use Rattle.sets_opened.specs.Sets.{setting}
 use Rattle.rules.specs.Sets.{stillFor, setTurns, rateTurns}
-use Rattle.rules.specs.Suppressed.{asking, getTurns, factorTurns}
+use Rattle.rules.specs.Suppressed.{asking, factorTurns}
 use Rattle.judge.specs.Held.{heldIn, noneFree}
 use Rattle.calls.specs.Delete.{delete}
 use Rattle.calls.specs.Rate.{setRateLimit}
@@ -240,15 +240,15 @@ module _ (s : Settings) (le : bucketIn s ≤ windowTicks (windowIn s)) (limit : 
     unfolding get
     get-own =
         let k = asking s t (heldIn w key) in
-        call-either gotten.Refused kind.Suppressed s w t key (getTurns s t (heldIn w key)) _ (λ v. Kept s (keyOf key) limit (v .words) log) (λ m z. a)
-        (λ e f. let d = snapshot-does s w t key e f in change-kept key is w t log a (d .passed) (k .caching) (d .applies))
+        call-either gotten.Refused kind.Suppressed s w t key [] _ (λ v. Kept s (keyOf key) limit (v .words) log) (λ m z. a)
+        (λ e f. let d = snapshot-does s w t key e in change-kept key is w t log a (d .passed) (k .caching) (d .applies))
 
     pub factor-own : Kept s (keyOf key) limit (getFactor s w t key .words) log
     unfolding getFactor
     factor-own =
         let x = slotIn s w t key in
         let k = asking s t (heldIn w key) in
-        call-either factored.Refused kind.Suppressed s w t key (factorTurns s (noneFree w) t (heldIn w key)) _ (λ v. Kept s (keyOf key) limit (v .words) log)
+        call-either factored.Refused kind.Suppressed s w t key (factorTurns (noneFree w) (heldIn w key)) _ (λ v. Kept s (keyOf key) limit (v .words) log)
         (λ m z. a)
         (λ e f.
         let d = factor-does s w t key (is .bytes) e f in

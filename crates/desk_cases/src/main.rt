@@ -33,7 +33,7 @@ fn main() {
     run(b"nine-keys");
     run(b"full-ring");
     run(b"refusals");
-    run(b"thirteen");
+    run(b"after-an-empty-call");
     run(b"no-last-newline");
     run(b"lesson-1");
     run(b"lesson-2");

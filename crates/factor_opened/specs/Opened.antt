@@ -1,6 +1,5 @@
 -- A key's suppression factor as the code works it out, on the key's slot x that is opened at reading t: the rules' own clauses on the
--- numbers that the slot has. They are the rules' (`suppressed_verdicts/specs/Seen.antt`), and no contract of a call names them. z says
--- whether the perceived rate is zero.
+-- numbers that the slot has. They are the rules' (`suppressed_verdicts/specs/Seen.antt`), and no contract of a call names them.
 -- Assumes nothing.
 use mathlib.Core.Path.{_≡_}
 use mathlib.Core.Bool.{Bool, true, not, _&&_, _||_, cond}
@@ -54,14 +53,14 @@ unfoldable pub ruleAt : ℕ → ℕ → Slot → FactorRule
 ruleAt S H x = clauses S H (not (x .series) || eqb (left x) 0) (x .pass .«live_total») (x .pass .«live_declined»)
 
 -- by the soft and the hard limit
-abbrev pub workedBy : ℕ → ℕ → ℕ → List ℕ → ℕ → Slot → Bool → Asked
-workedBy S H W w t x z = freshly (ruleAt S H x) z S W t (x .pass .«live_total») (secondAt w t x)
+abbrev pub workedBy : ℕ → ℕ → ℕ → List ℕ → ℕ → Slot → Asked
+workedBy S H W w t x = freshly (ruleAt S H x) S W t (x .pass .«live_total») (secondAt w t x)
 
-unfoldable pub workedAt : Float → ℕ → List ℕ → ℕ → Slot → ℕ → Bool → Asked
-workedAt F W w t x limit z = workedBy (softWord F limit) (cutWord limit) W w t x z
+unfoldable pub workedAt : Float → ℕ → List ℕ → ℕ → Slot → ℕ → Asked
+workedAt F W w t x limit = workedBy (softWord F limit) (cutWord limit) W w t x
 
-abbrev pub askedBy : Settings → ℕ → ℕ → List ℕ → ℕ → Slot → Bool → Asked
-askedBy s S H w t x z = cond (usableAt (cacheIn s) t x) (asCached (x .factor)) (workedBy S H (windowIn s) w t x z)
+abbrev pub askedBy : Settings → ℕ → ℕ → List ℕ → ℕ → Slot → Asked
+askedBy s S H w t x = cond (usableAt (cacheIn s) t x) (asCached (x .factor)) (workedBy S H (windowIn s) w t x)
 
-unfoldable pub askedAt : Settings → List ℕ → ℕ → Slot → ℕ → Bool → Asked
-askedAt s w t x limit z = cond (usableAt (cacheIn s) t x) (asCached (x .factor)) (workedAt (factorIn s) (windowIn s) w t x limit z)
+unfoldable pub askedAt : Settings → List ℕ → ℕ → Slot → ℕ → Asked
+askedAt s w t x limit = cond (usableAt (cacheIn s) t x) (asCached (x .factor)) (workedAt (factorIn s) (windowIn s) w t x limit)

@@ -1,8 +1,7 @@
 // A key's suppression factor: the cached one while it may be used, else a fresh one, which is then cached.
 ghost use mathlib.Core.Path.{_≡_};
-ghost use lib.Dec.{eqb};
 ghost use Rattle.settings.specs.Settings.{windowIn, cacheIn};
-ghost use Rattle.rules.specs.Suppressed.{freshBy, blindBy};
+ghost use Rattle.rules.specs.Suppressed.{freshBy};
 ghost use Rattle.factor_opened.specs.Opened.{left, staysAt, usableAt, keptAt, ruleAt, secondAt, InRoom, workedBy, askedBy, askedAt};
 use common::WindowSize;
 use opened::Slot;
@@ -129,28 +128,16 @@ fn fresh_by(
     }
 }
 
-// Whether the rule works a factor out where nothing is perceived.
-fn blind_by(by: FactorRule, nothing: bool) -> bool
-    ensures { λ r. ⌜ r ≡ blindBy by nothing ⌝ }
-{
-    match by {
-        FactorRule::Nil => false,
-        FactorRule::One => false,
-        FactorRule::Worked => nothing,
-    }
-}
-
-// The fresh factor of a slot, and that it is cached. The perceived rate is zero exactly where nothing was counted.
+// The fresh factor of a slot, and that it is cached.
 fn work_out(settings: Settings, w: &[u64], x: Slot, soft: u64, hard: u64, reading: u64) -> Asked
     requires { ⌜ InRoom (now w) x ⌝ }
-    ensures { λ r. ⌜ r ≡ workedBy soft hard (windowIn settings) (now (w .entry)) reading x (eqb (x .pass .«live_total») 0) ⌝ }
+    ensures { λ r. ⌜ r ≡ workedBy soft hard (windowIn settings) (now (w .entry)) reading x ⌝ }
 {
     let pass = x.pass;
     let total = pass.live_total;
     let by = rule_of(x, soft, hard);
     let factor = fresh_by(by, w, x, soft, total, settings.window_size, reading);
     Asked {
-        blind: blind_by(by, total == 0),
         factor,
         caching: Caching::Cached(CachedFactor {
             suppression_factor: factor,
@@ -162,12 +149,11 @@ fn work_out(settings: Settings, w: &[u64], x: Slot, soft: u64, hard: u64, readin
 // The factor of a slot of the room `w`, by its soft and its hard limit: the cached one while it may be used, else a fresh one.
 pub fn ask_by(settings: Settings, w: &[u64], x: Slot, soft: u64, hard: u64, reading: u64) -> Asked
     requires { ⌜ InRoom (now w) x ⌝ }
-    ensures { λ r. ⌜ r ≡ askedBy settings soft hard (now (w .entry)) reading x (eqb (x .pass .«live_total») 0) ⌝ }
+    ensures { λ r. ⌜ r ≡ askedBy settings soft hard (now (w .entry)) reading x ⌝ }
 {
     if is_usable(settings, x, reading) {
         let cached = kept(x);
         return Asked {
-            blind: false,
             factor: cached.suppression_factor,
             caching: Caching::Left,
         };
@@ -178,7 +164,7 @@ pub fn ask_by(settings: Settings, w: &[u64], x: Slot, soft: u64, hard: u64, read
 // The same by its limit.
 pub fn ask(settings: Settings, w: &[u64], x: Slot, limit: u64, reading: u64) -> Asked
     requires { ⌜ InRoom (now w) x ⌝ }
-    ensures { λ r. ⌜ r ≡ askedAt settings (now (w .entry)) reading x limit (eqb (x .pass .«live_total») 0) ⌝ }
+    ensures { λ r. ⌜ r ≡ askedAt settings (now (w .entry)) reading x limit ⌝ }
 {
     let soft = common::soft_limit(limit, settings.hard_limit_factor);
     ask_by(settings, w, x, soft, common::cut_limit(limit), reading)

@@ -24,8 +24,8 @@ acceptedAt x = x .pass .«live_total» - x .pass .«live_declined»
 abbrev pub forecastAt : Slot → ℕ → ℕ
 forecastAt x c = acceptedAt x + c
 
-unfoldable pub outcomeAt : Settings → List ℕ → ℕ → Slot → ℕ → Bool → ℕ → ℕ → ℕ → Outcome
-outcomeAt s w t x limit z n c draw = outcomeOf (reachOf n (softWord (factorIn s) limit) (cutWord limit)) (askedAt s w t x limit z) t c draw
+unfoldable pub outcomeAt : Settings → List ℕ → ℕ → Slot → ℕ → ℕ → ℕ → ℕ → Outcome
+outcomeAt s w t x limit n c draw = outcomeOf (reachOf n (softWord (factorIn s) limit) (cutWord limit)) (askedAt s w t x limit) t c draw
 
 -- no more is declined than counted
 by-draw : (is : Bool) (c : ℕ) → declinedBy is c ≤ c
@@ -39,6 +39,6 @@ by-reach Soft a t c draw = omega arith
 by-reach Over a t c draw = omega arith
 by-reach Between a t c draw = by-draw (admitted (a .factor) draw) c
 
-pub outcome-declined : (s : Settings) (w : List ℕ) (t : ℕ) (x : Slot) (limit : ℕ) (z : Bool) (n c draw : ℕ) → outcomeAt s w t x limit z n c draw .declined ≤ c
+pub outcome-declined : (s : Settings) (w : List ℕ) (t : ℕ) (x : Slot) (limit n c draw : ℕ) → outcomeAt s w t x limit n c draw .declined ≤ c
 unfolding outcomeAt
-outcome-declined s w t x limit z n c draw = by-reach (reachOf n (softWord (factorIn s) limit) (cutWord limit)) (askedAt s w t x limit z) t c draw
+outcome-declined s w t x limit n c draw = by-reach (reachOf n (softWord (factorIn s) limit) (cutWord limit)) (askedAt s w t x limit) t c draw

@@ -1,7 +1,6 @@
 // An increment's decision, by where its forecast stands to the soft and the hard limit.
 ghost use mathlib.Core.Path.{_≡_};
 ghost use Prim.Native.Nat.{_+_, _≤_};
-ghost use lib.Dec.{eqb};
 ghost use Rattle.layout.specs.Layout.{mostTotal};
 ghost use Rattle.rules.specs.Suppressed.{reachOf, fullAt, drawn, declinedBy};
 ghost use Rattle.factor_opened.specs.Opened.{InRoom};
@@ -64,7 +63,6 @@ fn draw_by(a: Asked, count: u64, draw: u64) -> Outcome
     let caching = a.caching;
     let is_allowed = suppression::admits(factor, draw);
     Outcome {
-        blind: a.blind,
         decision: RateLimitDecision::Suppressed {
             suppression_factor: factor,
             is_allowed,
@@ -86,25 +84,22 @@ pub fn decide(
     draw: u64,
 ) -> Outcome
     requires { ⌜ InRoom (now w) x ⌝ }
-    ensures { λ r. ⌜ r ≡ outcomeAt settings (now (w .entry)) reading x limit (eqb (x .pass .«live_total») 0) forecast count draw ⌝ }
+    ensures { λ r. ⌜ r ≡ outcomeAt settings (now (w .entry)) reading x limit forecast count draw ⌝ }
 {
     let soft = common::soft_limit(limit, settings.hard_limit_factor);
     let hard = common::cut_limit(limit);
     match reach_of(forecast, soft, hard) {
         Reach::Hard => Outcome {
-            blind: false,
             decision: RateLimitDecision::Allowed,
             declined: 0,
             caching: full_at(reading),
         },
         Reach::Soft => Outcome {
-            blind: false,
             decision: RateLimitDecision::Allowed,
             declined: 0,
             caching: Caching::Left,
         },
         Reach::Over => Outcome {
-            blind: false,
             decision: RateLimitDecision::Suppressed {
                 suppression_factor: 1.0,
                 is_allowed: false,

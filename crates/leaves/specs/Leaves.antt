@@ -47,7 +47,7 @@ use Rattle.rules.specs.declared.FactorRule.the-variants.{Nil, One, Worked}
 use Rattle.rules.specs.declared.Outcome.{Outcome}
 use Rattle.factor_opened.specs.Opened.{left, staysAt, usableAt, ruleAt, secondAt, workedAt, askedAt}
 use Rattle.forecast_opened.specs.Forecast.{acceptedAt, forecastAt}
-use Rattle.rules.specs.Suppressed.{cachedAt, freshBy, blindBy}
+use Rattle.rules.specs.Suppressed.{cachedAt, freshBy}
 use Rattle.suppressed_edits.specs.Edits.{factorAfter, timeAfter, useAfter, recached, getChange, get-series, loneEdit, loneBy, loneChange, factorChange}
 use Rattle.suppressed_edits.specs.Edits.{factor-series, factor-lone, incEdit, incChange}
 use Rattle.suppressed_refusals.specs.Refusals.{incLate}
@@ -86,23 +86,22 @@ rule-lone S H x e =
     (cond (leb H (x .pass .«live_total»)) One (cond (ltb (acceptedAt x) S) Nil (cond (eqb (acceptedAt x) S && eqb S H) One Worked)))) e
 
 abbrev anew : ℕ → Asked
-anew t = record { blind = false; factor = nil; caching = Cached (cachedAt nil t) }
+anew t = record { factor = nil; caching = Cached (cachedAt nil t) }
 
 abbrev again : Slot → Asked
-again x = record { blind = false; factor = ofBits binary64 (x .factor); caching = Left }
+again x = record { factor = ofBits binary64 (x .factor); caching = Left }
 
-module _ (s : Settings) (w : List ℕ) (t : ℕ) (x : Slot) (limit : ℕ) (z : Bool) where
-  pub asked-again : usableAt (cacheIn s) t x ≡ true → askedAt s w t x limit z ≡ again x
+module _ (s : Settings) (w : List ℕ) (t : ℕ) (x : Slot) (limit : ℕ) where
+  pub asked-again : usableAt (cacheIn s) t x ≡ true → askedAt s w t x limit ≡ again x
   unfolding askedAt
-  asked-again u = ap (λ (y : Bool). cond y (again x) (workedAt (factorIn s) (windowIn s) w t x limit z)) u
+  asked-again u = ap (λ (y : Bool). cond y (again x) (workedAt (factorIn s) (windowIn s) w t x limit)) u
 
-  pub asked-anew : x .series ≡ false → usableAt (cacheIn s) t x ≡ false → askedAt s w t x limit z ≡ anew t
+  pub asked-anew : x .series ≡ false → usableAt (cacheIn s) t x ≡ false → askedAt s w t x limit ≡ anew t
   unfolding askedAt workedAt
   asked-anew e u =
       let S = softWord (factorIn s) limit in
-      ap (λ (y : Bool). cond y (again x) (workedAt (factorIn s) (windowIn s) w t x limit z)) u ∙
+      ap (λ (y : Bool). cond y (again x) (workedAt (factorIn s) (windowIn s) w t x limit)) u ∙
       ap (λ (r : FactorRule). record {
-        blind = blindBy r z;
         factor = freshBy r S (x .pass .«live_total») (windowIn s) (secondAt w t x);
         caching = Cached (cachedAt (freshBy r S (x .pass .«live_total») (windowIn s) (secondAt w t x)) t);
       }) (rule-lone S (cutWord limit) x e)
@@ -114,12 +113,11 @@ module _ (s : Settings) (w : List ℕ) (t : ℕ) (key : List ℕ) (e : early kin
   q = passed kind.Suppressed s w t key e
 
   -- the factor that `get` and `get_suppression_factor` answer with
-  pub factor-ok : askedAt s w t x (x .limit) (eqb (x .pass .«live_total») 0) .blind ≡ false →
-      AskedOk t (askedAt s w t x (x .limit) (eqb (x .pass .«live_total») 0))
-  factor-ok b = asked-ok s (q .settings) w t x (sums s w t key q x p) (λ c. cached-there s w t key q x p c .word) (x .limit) b
+  pub factor-ok : AskedOk t (askedAt s w t x (x .limit))
+  factor-ok = asked-ok s (q .settings) w t x (sums s w t key q x p) (λ c. cached-there s w t key q x p c .word) (x .limit)
 
-  pub given-ok : (a : Asked) → a ≡ askedAt s w t x (x .limit) (eqb (x .pass .«live_total») 0) → a .blind ≡ false → AskedOk t a
-  given-ok a i b = subst (λ (y : Asked). AskedOk t y) (sym i) (factor-ok (sym (ap (λ (y : Asked). y .blind) i) ∙ b))
+  pub given-ok : (a : Asked) → a ≡ askedAt s w t x (x .limit) → AskedOk t a
+  given-ok a i = subst (λ (y : Asked). AskedOk t y) (sym i) factor-ok
 
   -- its slot has the key
   key-has : hasSlot x ≡ true → keyAt w (x .at) ≡ keyOf key
@@ -171,10 +169,10 @@ module _ (s : Settings) (w : List ℕ) (t : ℕ) (key : List ℕ) (e : early kin
       (key-has (with-series s w t key e x p h)) (update-changed w at key (bucketIn s) t d g))
       (key-fits key y (q .short)) (evicted-right s w t key q x p k o h) (live-known h)
 
-  module _ (a : Asked) (i : a ≡ askedAt s w t x (x .limit) (eqb (x .pass .«live_total») 0)) (b : a .blind ≡ false) where
+  module _ (a : Asked) (i : a ≡ askedAt s w t x (x .limit)) where
     -- ---- get
     get-words : applied w (x .at) key (bucketIn s) t (getChange x (a .caching)) ≡ get s w t key .words
-    get-words = get-done s w t key e x p a i b (snapshotAt x (a .factor)) (getChange x (a .caching))
+    get-words = get-done s w t key e x p a i (snapshotAt x (a .factor)) (getChange x (a .caching))
         (applied w (x .at) key (bucketIn s) t (getChange x (a .caching))) refl refl refl .words
 
     -- a known key is rid of its expired buckets
@@ -184,7 +182,7 @@ module _ (s : Settings) (w : List ℕ) (t : ℕ) (key : List ℕ) (e : early kin
     get-stands y h =
         subst (λ (v : List ℕ). Stands kind.Suppressed s w v (x .at) t (keyOf key) (x .limit) (factorAfter (a .caching) (x .factor))
         (timeAfter (a .caching) (x .«factor_time»)) (useAfter (a .caching) x) (liveOf s t (heldIn w key)))
-        (ap (applied w (x .at) key (bucketIn s) t) (get-series x (a .caching) h) ∙ get-words) (evicted-stands (a .caching) y h (given-ok a i b .caching))
+        (ap (applied w (x .at) key (bucketIn s) t) (get-series x (a .caching) h) ∙ get-words) (evicted-stands (a .caching) y h (given-ok a i .caching))
 
     -- "`get` on an unknown key .. takes no slot": the reading alone is stored
     pub get-keeps : x .series ≡ false → get s w t key .words ≡ withReading w t
@@ -197,7 +195,7 @@ module _ (s : Settings) (w : List ℕ) (t : ℕ) (key : List ℕ) (e : early kin
     module _ (f : lacksAt w (placeOf w x) x ≡ false) where
       factor-words : applied w (placeOf w x) key (bucketIn s) t (factorChange x (a .caching) t) ≡ getFactor s w t key .words
       factor-words =
-          factor-done s w t key e x p (placeOf w x) refl (lacksAt w (placeOf w x) x) refl f a i b (factorChange x (a .caching) t)
+          factor-done s w t key e x p (placeOf w x) refl (lacksAt w (placeOf w x) x) refl f a i (factorChange x (a .caching) t)
           (applied w (placeOf w x) key (bucketIn s) t (factorChange x (a .caching) t)) refl refl .words
 
       pub factor-stands : Bytes key → x .series ≡ true →
@@ -209,12 +207,12 @@ module _ (s : Settings) (w : List ℕ) (t : ℕ) (key : List ℕ) (e : early kin
           (timeAfter (a .caching) (x .«factor_time»)) (useAfter (a .caching) x) (liveOf s t (heldIn w key)))
           (ap (λ (j : ℕ). applied w j key (bucketIn s) t (Update (recached x (a .caching) (evicting x Nothing)))) (sym n) ∙
           ap (applied w (placeOf w x) key (bucketIn s) t) (get-series x (a .caching) h ∙ factor-series x (a .caching) t h) ∙ factor-words)
-          (evicted-stands (a .caching) y h (given-ok a i b .caching))
+          (evicted-stands (a .caching) y h (given-ok a i .caching))
 
       -- "but gives a lone cached factor at age below C": the reading alone is stored
       pub factor-keeps : x .series ≡ false → usableAt (cacheIn s) t x ≡ true → getFactor s w t key .words ≡ withReading w t
       factor-keeps h u =
-          let k : a .caching ≡ Left = ap (λ (y : Asked). y .caching) (i ∙ asked-again s w t x (x .limit) (eqb (x .pass .«live_total») 0) u) in
+          let k : a .caching ≡ Left = ap (λ (y : Asked). y .caching) (i ∙ asked-again s w t x (x .limit) u) in
           sym factor-words ∙
           ap (applied w (placeOf w x) key (bucketIn s) t) (sym (factor-lone x (a .caching) t h) ∙ ap (λ (j : Caching). loneChange (x .cached) j t) k) ∙
           keep-words w (placeOf w x) key (bucketIn s) t
@@ -226,7 +224,7 @@ module _ (s : Settings) (w : List ℕ) (t : ℕ) (key : List ℕ) (e : early kin
       factor-lone-stands y h u =
           let at = placeOf w x in
           let k : a .caching ≡ Cached (cachedAt nil t) = ap (λ (j : Asked). j .caching)
-          (i ∙ asked-anew s w t x (x .limit) (eqb (x .pass .«live_total») 0) h u) in
+          (i ∙ asked-anew s w t x (x .limit) h u) in
           let c : loneBy (x .cached) t ≡ factorChange x (a .caching) t =
           sym (ap (λ (j : Caching). loneChange (x .cached) j t) k) ∙ factor-lone x (a .caching) t h in
           let g : EditsAt w at (bucketIn s) t (loneEdit t) = either (loneEdit t) (x .cached)
@@ -239,13 +237,12 @@ module _ (s : Settings) (w : List ℕ) (t : ℕ) (key : List ℕ) (e : early kin
 
   -- ---- inc
   module _ (rate : RateLimit) (c draw : ℕ) (f : first (incLate s x (lacksAt w (placeOf w x) x) (ringOf w) t rate c draw) ≡ 0) (o : Outcome)
-      (i : o ≡ incOutcome s w t rate c draw x (eqb (x .pass .«live_total») 0)) (b : o .blind ≡ false) where
+      (i : o ≡ incOutcome s w t rate c draw x) where
     -- the decision's factor, and what is cached
     pub decision-ok : DecisionOk (o .decision) × CachingOk t (o .caching)
     decision-ok =
         subst (λ (y : Outcome). DecisionOk (y .decision) × CachingOk t (y .caching)) (sym i)
-        (outcome-ok s (q .settings) w t x (sums s w t key q x p) (λ y. cached-there s w t key q x p y .word) (limitAt s x rate) (forecastAt x c) c draw
-        (sym (ap (λ (y : Outcome). y .blind) i) ∙ b))
+        (outcome-ok s (q .settings) w t x (sums s w t key q x p) (λ y. cached-there s w t key q x p y .word) (limitAt s x rate) (forecastAt x c) c draw)
 
     rate-ok : rateOk (rate .0) ≡ true
     rate-ok =
@@ -260,7 +257,7 @@ module _ (s : Settings) (w : List ℕ) (t : ℕ) (key : List ℕ) (e : early kin
     inc-words =
         inc-done s w t key e x p (placeOf w x) refl (lacksAt w (placeOf w x) x) refl rate c draw (ringOf w)
         (first (incLate s x (lacksAt w (placeOf w x) x) (ringOf w) t rate c draw)) refl refl f o
-        (limitAt s x rate) (forecastAt x c) refl refl i b (incChange x (limitAt s x rate) c (o .declined) (o .caching))
+        (limitAt s x rate) (forecastAt x c) refl refl i (incChange x (limitAt s x rate) c (o .declined) (o .caching))
         (applied w (placeOf w x) key (bucketIn s) t (incChange x (limitAt s x rate) c (o .declined) (o .caching))) refl refl .words
 
     inc-edits : EditsAt w (placeOf w x) (bucketIn s) t (edit (x .series))

@@ -3,17 +3,16 @@
 -- whose words are told.
 -- Assumes nothing.
 use mathlib.Core.Path.{_≡_, refl, sym, ap, ap₂, subst, _∙_}
-use mathlib.Core.Bool.{Bool, true, false, not, _&&_, cond, false≢true}
+use mathlib.Core.Bool.{Bool, true, false, cond, false≢true}
 use mathlib.Core.List.{List, []}
 use Prim.Native.Nat.{ℕ, _≤_, _<_}
 use native.Mathlib.Decide.{ℕ-discrete}
 use native.Mathlib.Omega.{arith}
-use lib.Dec.{eqb}
 use Rattle.answers.specs.HistoryMode.{noSnapshot}
 use Rattle.common_laws.specs.LimitLaws.{soft-le-hard}
 use Rattle.common.specs.Limits.{cutWord, softWord}
 use Rattle.common.specs.Ranges.{nil, one}
-use Rattle.common.specs.Refusals.{first, all-false, none-first}
+use Rattle.common.specs.Refusals.{first, all-false}
 use Rattle.settings.specs.Settings.{windowIn, bucketIn, factorIn, cacheIn, Proper}
 use Rattle.answers.specs.declared.FactorAnswer.{FactorAnswer}
 use Rattle.answers.specs.declared.FactorAnswer.the-variants as factor
@@ -31,8 +30,8 @@ use Rattle.rules.specs.declared.Outcome.{Outcome}
 use Rattle.rules.specs.declared.RoomKind.the-variants as kind
 use Rattle.rules.specs.Held.{Held}
 use Rattle.rules.specs.Both.{liveOf}
-use Rattle.rules.specs.Suppressed.{limitFor, usable, asked, asking, forecast, reachOf, declinedBy, outcomeOf, outcome, admits, incTurns, getTurns, factorTurns}
-use Rattle.rules.specs.Laws.{unseen, blind-is, reach-admits, reach-soft, reach-hard, reach-over, declined-all}
+use Rattle.rules.specs.Suppressed.{limitFor, usable, asked, asking, forecast, reachOf, declinedBy, outcomeOf, outcome, admits, incTurns, factorTurns}
+use Rattle.rules.specs.Laws.{empty-admits, reach-admits, reach-soft, reach-hard, reach-over, declined-all}
 use Rattle.room.specs.Room.{ringOf, withReading}
 use Rattle.keys.specs.Keys.{keyOf}
 use Rattle.frame.specs.Keys.{Bytes}
@@ -52,7 +51,6 @@ use Rattle.suppressed_verdicts.specs.Calls.{get, getFactor, inc}
 use Rattle.suppressed_verdicts.specs.Opened.{askingAt, snapshotAt, limitAt, incOutcome}
 use Rattle.suppressed_verdicts.specs.Laws.{get-done, factor-done, inc-done}
 use Rattle.suppressed_verdicts.specs.Seen.{usable-is, second-is, asking-is, limit-is, decides, late-is}
-use Rattle.suppressed_verdicts.specs.Standing.{sums, unperceived-is}
 use Rattle.leaves.specs.Calls.{Stands}
 use Rattle.leaves.specs.Follows.{Follows, call-follows}
 use Rattle.leaves.specs.Unit.{SnapshotOk, FactorOk, DecisionOk, snapshot-ok}
@@ -60,10 +58,10 @@ use Rattle.leaves.specs.Leaves.{asked-anew, given-ok, get-stands, get-ke
 
 -- the number of a refusal, 0 where there is none
 abbrev pub getNumber : Settings → List ℕ → ℕ → List ℕ → ℕ
-getNumber s w t key = first (refusals kind.Suppressed s w t key (getTurns s t (heldIn w key)))
+getNumber s w t key = first (refusals kind.Suppressed s w t key [])
 
 abbrev pub factorNumber : Settings → List ℕ → ℕ → List ℕ → ℕ
-factorNumber s w t key = first (refusals kind.Suppressed s w t key (factorTurns s (noneFree w) t (heldIn w key)))
+factorNumber s w t key = first (refusals kind.Suppressed s w t key (factorTurns (noneFree w) (heldIn w key)))
 
 abbrev pub incNumber : Settings → List ℕ → ℕ → List ℕ → RateLimit → ℕ → ℕ → ℕ
 incNumber s w t key rate c draw = first (refusals kind.Suppressed s w t key (incTurns s (ringOf w) (noneFree w) t rate c draw (heldIn w key)))
@@ -127,60 +125,49 @@ module _ (s : Settings) (w : List ℕ) (t : ℕ) (key : List ℕ) where
     asks : askingAt s w t (slotIn s w t key) ≡ asking s t (heldIn w key)
     asks = asking-is s t h x o w (second-is s w t key q)
 
-    asked-is : asking s t (heldIn w key) ≡ askedAt s w t (slotIn s w t key) (slotIn s w t key .limit) (eqb (slotIn s w t key .pass .«live_total») 0)
-    asked-is = sym asks ∙ ap (askedAt s w t x (x .limit)) (unperceived-is s w t key q x refl)
+    asked-is : asking s t (heldIn w key) ≡ askedAt s w t (slotIn s w t key) (slotIn s w t key .limit)
+    asked-is = sym asks
 
     series-as : (z : Bool) → heldIn w key .known ≡ z → slotIn s w t key .series ≡ z
     series-as z f = o .series-is ∙ f
 
-    -- "Refusal 13 is met exactly at S = 0, H at least 1, some bucket, total 0", where a fresh factor is asked for at this limit
-    pub thirteen : (limit : ℕ) →
-        asked s t limit (heldIn w key) .blind ≡ not (usable s t (heldIn w key)) &&
-        unseen (softWord (factorIn s) limit) (cutWord limit) (liveOf s t (heldIn w key))
-    thirteen limit =
-        let n = sums s w t key q x refl in
-        blind-is s t limit h (q .settings .window-low) (q .settings .window-high) (omega (arith, n .recent, second-is s w t key q, o .live-is))
-        (omega (arith, n .declined, o .declined-is, o .live-is)) (omega (arith, n .most, o .live-is))
-
     -- ---- get
-    gets : Bytes key → first (getTurns s t (heldIn w key)) ≡ 0 → Gets s w t key (get s w t key)
-    gets y f =
+    gets : Bytes key → Gets s w t key (get s w t key)
+    gets y =
         let a = asking s t h in
-        let b : a .blind ≡ false = all-false (getTurns s t h) (omega arith) f .0 in
-        let r = get-done s w t key e x refl a asked-is b (snapshotAt x (a .factor)) (getChange x (a .caching))
+        let r = get-done s w t key e x refl a asked-is (snapshotAt x (a .factor)) (getChange x (a .caching))
         (applied w (x .at) key (bucketIn s) t (getChange x (a .caching))) refl refl refl .answer in
         let full : ℕ → ℕ → SuppressedRateLimitSnapshot = λ (m n : ℕ). record { total = m; «total_declined» = n; «suppression_factor» = a .factor } in
         let by : Bool → SnapshotAnswer = λ (z : Bool). snapshot.Snapshot (cond z (full (x .pass .«live_total») (x .pass .«live_declined»)) noSnapshot) in
         record {
           known-answer = λ g. sym r ∙ ap by (series-as true g) ∙ ap₂ (λ (m n : ℕ). snapshot.Snapshot (full m n)) (o .live-is) (o .declined-is);
-          known = λ g. get-stands s w t key e x refl a asked-is b y (series-as true g);
+          known = λ g. get-stands s w t key e x refl a asked-is y (series-as true g);
           unknown-answer = λ g. sym r ∙ ap by (series-as false g);
           unit = subst (λ (z : SnapshotAnswer). SnapshotOk z) r
-              (snapshot-ok (x .series) (full (x .pass .«live_total») (x .pass .«live_declined»)) (given-ok s w t key e x refl a asked-is b .unit));
-          unknown = λ g. get-keeps s w t key e x refl a asked-is b (series-as false g);
+              (snapshot-ok (x .series) (full (x .pass .«live_total») (x .pass .«live_declined»)) (given-ok s w t key e x refl a asked-is .unit));
+          unknown = λ g. get-keeps s w t key e x refl a asked-is (series-as false g);
         }
 
     -- ---- get_suppression_factor
     usable-as : usableAt (cacheIn s) t (slotIn s w t key) ≡ usable s t (heldIn w key)
     usable-as = usable-is s t h x o
 
-    factors : Bytes key → first (factorTurns s (noneFree w) t (heldIn w key)) ≡ 0 → GivesFactor s w t key (getFactor s w t key)
+    factors : Bytes key → first (factorTurns (noneFree w) (heldIn w key)) ≡ 0 → GivesFactor s w t key (getFactor s w t key)
     factors y f =
         let a = asking s t h in
-        let n = all-false (factorTurns s (noneFree w) t h) (omega arith) f in
-        let b : a .blind ≡ false = n .1 .0 in
+        let n = all-false (factorTurns (noneFree w) h) (omega arith) f in
         let l : lacksAt w (placeOf w x) x ≡ false = lacks-is (windowIn s) t h x o w ∙ n .0 in
         let ch = factorChange x (a .caching) t in
-        let r = factor-done s w t key e x refl (placeOf w x) refl (lacksAt w (placeOf w x) x) refl l a asked-is b ch
+        let r = factor-done s w t key e x refl (placeOf w x) refl (lacksAt w (placeOf w x) x) refl l a asked-is ch
         (applied w (placeOf w x) key (bucketIn s) t ch) refl refl .answer in
         record {
           answer = sym r;
-          unit = subst (λ (z : FactorAnswer). FactorOk z) r (given-ok s w t key e x refl a asked-is b .unit);
-          known = λ g. factor-stands s w t key e x refl a asked-is b l y (series-as true g);
-          kept = λ g u. factor-keeps s w t key e x refl a asked-is b l (series-as false g) (usable-as ∙ u);
-          anew = λ g u. factor-lone-stands s w t key e x refl a asked-is b l y (series-as false g) (usable-as ∙ u);
+          unit = subst (λ (z : FactorAnswer). FactorOk z) r (given-ok s w t key e x refl a asked-is .unit);
+          known = λ g. factor-stands s w t key e x refl a asked-is l y (series-as true g);
+          kept = λ g u. factor-keeps s w t key e x refl a asked-is l (series-as false g) (usable-as ∙ u);
+          anew = λ g u. factor-lone-stands s w t key e x refl a asked-is l y (series-as false g) (usable-as ∙ u);
           anew-zero = λ g u. ap (λ (j : Asked). j .factor)
-              (asked-is ∙ asked-anew s w t x (x .limit) (eqb (x .pass .«live_total») 0) (series-as false g) (usable-as ∙ u));
+              (asked-is ∙ asked-anew s w t x (x .limit) (series-as false g) (usable-as ∙ u));
         }
 
     -- ---- inc
@@ -192,8 +179,8 @@ module _ (s : Settings) (w : List ℕ) (t : ℕ) (key : List ℕ) where
       decided = outcome s t (limitFor s rate (heldIn w key)) c draw (heldIn w key)
 
       outcome-told : outcome s t (limitFor s rate (heldIn w key)) c draw (heldIn w key) ≡
-          incOutcome s w t rate c draw (slotIn s w t key) (eqb (slotIn s w t key .pass .«live_total») 0)
-      outcome-told = sym (decides s w t key rate c draw q) ∙ ap (incOutcome s w t rate c draw x) (unperceived-is s w t key q x refl)
+          incOutcome s w t rate c draw (slotIn s w t key)
+      outcome-told = sym (decides s w t key rate c draw q)
 
       declined-is : outcome s t (limitFor s rate (heldIn w key)) c draw (heldIn w key) .declined ≡
           declinedBy (admits (outcome s t (limitFor s rate (heldIn w key)) c draw (heldIn w key) .decision)) c
@@ -207,19 +194,16 @@ module _ (s : Settings) (w : List ℕ) (t : ℕ) (key : List ℕ) where
           let at = placeOf w x in
           let o = outcome s t limit c draw h in
           let late = incLate s x (lacksAt w at x) (ringOf w) t rate c draw in
-          let n = all-false (incTurns s (ringOf w) (noneFree w) t rate c draw h) (omega arith) f in
-          let l : first late ≡ 0 = ap first (late-is s w t key rate c draw q) ∙
-          none-first _ (n .0, (n .1 .0, (n .1 .1 .0, (n .1 .1 .1 .0, (n .1 .1 .1 .1 .0, tt))))) in
-          let b : o .blind ≡ false = n .1 .1 .1 .1 .1 .0 in
+          let l : first late ≡ 0 = ap first (late-is s w t key rate c draw q) ∙ f in
           let m = limit-is s t h x (seen kind.Suppressed s w t key q) rate in
           let ch = incChange x (limitAt s x rate) c (o .declined) (o .caching) in
           let r : inc s w t key rate c draw .answer ≡ o .decision =
           sym (inc-done s w t key e x refl at refl (lacksAt w at x) refl rate c draw (ringOf w) (first late) refl refl l o (limitAt s x rate)
-          (forecastAt x c) refl refl outcome-told b ch (applied w at key (bucketIn s) t ch) refl refl .answer) in
+          (forecastAt x c) refl refl outcome-told ch (applied w at key (bucketIn s) t ch) refl refl .answer) in
           record {
             settings = q .settings;
             answer = r;
-            unit = decision-ok s w t key e x refl rate c draw l o outcome-told b .0;
+            unit = decision-ok s w t key e x refl rate c draw l o outcome-told .0;
             stands =
                 subst (λ (k : ℕ). Stands kind.Suppressed s w (inc s w t key rate c draw .words) at t (keyOf key) k (factorAfter (o .caching) (x .factor))
                 (timeAfter (o .caching) (x .«factor_time»)) (useAfter (o .caching) x)
@@ -228,18 +212,18 @@ module _ (s : Settings) (w : List ℕ) (t : ℕ) (key : List ℕ) where
                 (factorAfter (o .caching) (x .factor)) (timeAfter (o .caching) (x .«factor_time»)) (useAfter (o .caching) x)
                 (joined (bucketIn s) t c d (liveOf s t h)))
                 (declined-is ∙ ap (λ (z : RateLimitDecision). declinedBy (admits z) c) (sym r))
-                (inc-stands s w t key e x refl rate c draw l o outcome-told b y));
+                (inc-stands s w t key e x refl rate c draw l o outcome-told y));
           }
 
   -- ---- for every input
 
   pub get-follows : Bytes key → Follows snapshot.Refused w (getNumber s w t key) (get s w t key) (Gets s w t key (get s w t key))
   unfolding get
-  get-follows y = call-follows kind.Suppressed s w t key (getTurns s t (heldIn w key)) snapshot.Refused _ (Gets s w t key (get s w t key)) (λ e f. gets e y f)
+  get-follows y = call-follows kind.Suppressed s w t key [] snapshot.Refused _ (Gets s w t key (get s w t key)) (λ e f. gets e y)
 
   pub factor-follows : Bytes key → Follows factor.Refused w (factorNumber s w t key) (getFactor s w t key) (GivesFactor s w t key (getFactor s w t key))
   unfolding getFactor
-  factor-follows y = call-follows kind.Suppressed s w t key (factorTurns s (noneFree w) t (heldIn w key)) factor.Refused _
+  factor-follows y = call-follows kind.Suppressed s w t key (factorTurns (noneFree w) (heldIn w key)) factor.Refused _
       (GivesFactor s w t key (getFactor s w t key)) (λ e f. factors e y f)
 
   -- what the rules decide of an increment
@@ -294,6 +278,13 @@ module _ (s : Settings) (w : List ℕ) (t : ℕ) (key : List ℕ) (rate : RateLi
   -- "Over H: .. not admitted"
   pub over-declined : cutWord (limitFor s rate (heldIn w key)) < forecast (liveOf s t (heldIn w key)) c → v .answer ≡ decision.Suppressed one false
   over-declined h = decided-is ∙ reach-over ahead soft hard factorAsked t c draw soft-below h
+
+  -- document 02, ticket 2: a key whose live buckets counted nothing, with no cached factor to use, is admitted up to its hard limit, whatever the draw
+  pub empty-admitted : counts (liveOf s t (heldIn w key)) ≡ 0 → usable s t (heldIn w key) ≡ false → c ≤ cutWord (limitFor s rate (heldIn w key)) →
+      admits (v .answer) ≡ true
+  empty-admitted n u l =
+      ap (λ (z : RateLimitDecision). admits z) (k .answer) ∙
+      empty-admits s t (limitFor s rate (heldIn w key)) (heldIn w key) (k .settings .window-low) (k .settings .window-high) n u c draw l
 
 -- ---- so for every input
 

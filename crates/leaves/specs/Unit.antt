@@ -6,8 +6,8 @@ use mathlib.Core.List.{List}
 use Prim.Native.Nat.{ℕ, _-_, _≤_}
 use native.Mathlib.Omega.{arith}
 use lib.Dec.{leb, ltb, eqb}
-use lib.Ieee.{Float, binary64, ofBits, toBits}
-use borrow.Author.Tests.{ltb-false, eqb-false}
+use lib.Ieee.{Float, binary64, toBits}
+use borrow.Author.Tests.{ltb-false}
 use Rattle.base.specs.Decides.{and-true}
 use Rattle.suppression.specs.Factor.{Unit01, factorWordOk}
 use Rattle.common_laws.specs.FactorLaws.{Counted, fresh-unit, fresh-ok, factor-unit, nilWord, oneWord, nil-ok, one-ok, nil-word, one-word}
@@ -33,7 +33,7 @@ use Rattle.rules.specs.declared.Reach.{Reach}
 use Rattle.rules.specs.declared.Reach.the-variants.{Hard, Soft, Over, Between}
 use Rattle.factor_opened.specs.Opened.{left, staysAt, usableAt, ruleAt, secondAt, workedAt, askedAt}
 use Rattle.forecast_opened.specs.Forecast.{acceptedAt, outcomeAt}
-use Rattle.rules.specs.Suppressed.{freshBy, blindBy, reachOf, drawn, outcomeOf}
+use Rattle.rules.specs.Suppressed.{freshBy, asCached, reachOf, drawn, outcomeOf}
 use Rattle.suppressed_verdicts.specs.Standing.{Sums}
 
 -- ---- 0 and 1
@@ -77,15 +77,13 @@ pub record Within01 (f : Float) : Type 0 where
   pub word : factorWordOk (toBits binary64 f) ≡ true
 
 module _ (w : List ℕ) (t : ℕ) (x : Slot) (o : Sums w t x) (W : ℕ) (p : 1 ≤ W) (q : W ≤ 33554432) where
-  by-rule : (S H : ℕ) (r : FactorRule) → ruleAt S H x ≡ r → blindBy r (eqb (x .pass .«live_total») 0) ≡ false →
-      Within01 (freshBy r S (x .pass .«live_total») W (secondAt w t x))
-  by-rule S H Nil e b = record { unit = unit-nil; word = word-nil }
-  by-rule S H One e b = record { unit = unit-one; word = word-one }
-  by-rule S H Worked e b =
+  by-rule : (S H : ℕ) (r : FactorRule) → ruleAt S H x ≡ r → Within01 (freshBy r S (x .pass .«live_total») W (secondAt w t x))
+  by-rule S H Nil e = record { unit = unit-nil; word = word-nil }
+  by-rule S H One e = record { unit = unit-one; word = word-one }
+  by-rule S H Worked e =
       let l = worked-soft S H x e in
-      let n = eqb-false (x .pass .«live_total») 0 b in
       let k : Counted S (x .pass .«live_total») W (secondAt w t x) =
-      record { soft = omega arith; some = omega arith; few = o .most; from = p; to = q; newest = omega (arith, o .recent, o .most) } in
+      record { soft = omega arith; few = o .most; from = p; to = q; newest = o .recent } in
       record {
         unit = fresh-unit S (x .pass .«live_total») W (secondAt w t x) k;
         word = fresh-ok S (x .pass .«live_total») W (secondAt w t x) k;
@@ -108,27 +106,22 @@ usable-cached C t x e = and-true (x .cached) (eqb (x .pass .expired) 0)
     (and-true (x .cached && eqb (x .pass .expired) 0) (ltb (t - x .«factor_time») C) e .0) .0
 
 module _ (s : Settings) (p : Proper s) (w : List ℕ) (t : ℕ) (x : Slot) (o : Sums w t x) (h : x .cached ≡ true → factorWordOk (x .factor) ≡ true) where
-  worked-ok : (limit : ℕ) → workedAt (factorIn s) (windowIn s) w t x limit (eqb (x .pass .«live_total») 0) .blind ≡ false →
-      AskedOk t (workedAt (factorIn s) (windowIn s) w t x limit (eqb (x .pass .«live_total») 0))
+  worked-ok : (limit : ℕ) → AskedOk t (workedAt (factorIn s) (windowIn s) w t x limit)
   unfolding workedAt
-  worked-ok limit b =
+  worked-ok limit =
       let S = softWord (factorIn s) limit in
       let H = cutWord limit in
-      let r = by-rule w t x o (windowIn s) (p .window-low) (p .window-high) S H (ruleAt S H x) refl b in
+      let r = by-rule w t x o (windowIn s) (p .window-low) (p .window-high) S H (ruleAt S H x) refl in
       record { unit = r .unit; caching = (r .word, omega arith) }
 
   by-use : (limit : ℕ) (z : Bool) → usableAt (cacheIn s) t x ≡ z →
-      cond z (record { blind = false; factor = ofBits binary64 (x .factor); caching = Left })
-      (workedAt (factorIn s) (windowIn s) w t x limit (eqb (x .pass .«live_total») 0)) .blind ≡ false →
-      AskedOk t (cond z (record { blind = false; factor = ofBits binary64 (x .factor); caching = Left })
-      (workedAt (factorIn s) (windowIn s) w t x limit (eqb (x .pass .«live_total») 0)))
-  by-use limit true e b = record { unit = factor-unit (x .factor) (h (usable-cached (cacheIn s) t x e)); caching = tt }
-  by-use limit false e b = worked-ok limit b
+      AskedOk t (cond z (asCached (x .factor)) (workedAt (factorIn s) (windowIn s) w t x limit))
+  by-use limit true e = record { unit = factor-unit (x .factor) (h (usable-cached (cacheIn s) t x e)); caching = tt }
+  by-use limit false e = worked-ok limit
 
-  pub asked-ok : (limit : ℕ) → askedAt s w t x limit (eqb (x .pass .«live_total») 0) .blind ≡ false →
-      AskedOk t (askedAt s w t x limit (eqb (x .pass .«live_total») 0))
+  pub asked-ok : (limit : ℕ) → AskedOk t (askedAt s w t x limit)
   unfolding askedAt
-  asked-ok limit b = by-use limit (usableAt (cacheIn s) t x) refl b
+  asked-ok limit = by-use limit (usableAt (cacheIn s) t x) refl
 
 -- ---- "It lies in 0 to 1": of what each call answers
 
@@ -152,19 +145,17 @@ DecisionOk (Rejected window wait rest) = Unit {0}
 DecisionOk (Suppressed f is) = Unit01 f
 DecisionOk (Refused n) = Unit {0}
 
-by-reach : (r : Reach) (a : Asked) (t c draw : ℕ) → (a .blind ≡ false → AskedOk t a) → outcomeOf r a t c draw .blind ≡ false →
+by-reach : (r : Reach) (a : Asked) (t c draw : ℕ) → AskedOk t a →
     DecisionOk (outcomeOf r a t c draw .decision) × CachingOk t (outcomeOf r a t c draw .caching)
 unfolding drawn
-by-reach Hard a t c draw g b = (tt, (word-one, omega arith))
-by-reach Soft a t c draw g b = (tt, tt)
-by-reach Over a t c draw g b = (unit-one, (word-one, omega arith))
-by-reach Between a t c draw g b = (g b .unit, g b .caching)
+by-reach Hard a t c draw g = (tt, (word-one, omega arith))
+by-reach Soft a t c draw g = (tt, tt)
+by-reach Over a t c draw g = (unit-one, (word-one, omega arith))
+by-reach Between a t c draw g = (g .unit, g .caching)
 
 module _ (s : Settings) (p : Proper s) (w : List ℕ) (t : ℕ) (x : Slot) (o : Sums w t x) (h : x .cached ≡ true → factorWordOk (x .factor) ≡ true) where
-  pub outcome-ok : (limit n c draw : ℕ) → outcomeAt s w t x limit (eqb (x .pass .«live_total») 0) n c draw .blind ≡ false →
-      DecisionOk (outcomeAt s w t x limit (eqb (x .pass .«live_total») 0) n c draw .decision) × CachingOk t
-      (outcomeAt s w t x limit (eqb (x .pass .«live_total») 0) n c draw .caching)
+  pub outcome-ok : (limit n c draw : ℕ) →
+      DecisionOk (outcomeAt s w t x limit n c draw .decision) × CachingOk t (outcomeAt s w t x limit n c draw .caching)
   unfolding outcomeAt
-  outcome-ok limit n c draw b =
-      by-reach (reachOf n (softWord (factorIn s) limit) (cutWord limit)) (askedAt s w t x limit (eqb (x .pass .«live_total») 0)) t c draw
-      (asked-ok s p w t x o h limit) b
+  outcome-ok limit n c draw =
+      by-reach (reachOf n (softWord (factorIn s) limit) (cutWord limit)) (askedAt s w t x limit) t c draw (asked-ok s p w t x o h limit)

@@ -23,6 +23,7 @@ use Rattle.settings.specs.Settings.{defaults, withWindow}
 use Rattle.share.specs.Share as Share
 use Rattle.answers.specs.declared.FactorAnswer.the-variants as factor
 use Rattle.answers.specs.declared.RateLimitDecision.the-variants.{Allowed, Rejected, Suppressed, Refused}
+use Rattle.answers.specs.HistoryMode.{noSnapshot}
 use Rattle.answers.specs.declared.SnapshotAnswer.the-variants as snapshot
 use Rattle.answers.specs.declared.TotalAnswer.the-variants as total
 use Rattle.ring.specs.Order as Order
@@ -70,7 +71,7 @@ use Rattle.finding.specs.Finding as Finding
 use Rattle.finding.specs.Finding.{bucketsOf}
 use Rattle.promises.specs.Rules.{incTable}
 use Rattle.promises.specs.Cases.{half, hardBy, perSecond, key, room, ainc, aget, ten, sinc, factorAt, sget, eightAndTwo, twenty, clean}
-use Rattle.promises.specs.Cases.{incAt, most, full, single, inSlot, sevenFive, preserve, twentieth}
+use Rattle.promises.specs.Cases.{incAt, most, full, single, inSlot, sevenFive, preserve, twentieth, linkTested}
 
 pub record Boundary : Type 0 where
   -- "age 10,000 live; 10,001 expired"
@@ -100,9 +101,9 @@ pub record Boundary : Type 0 where
   pub rejected-50 : ainc 50 1 ten .answer ≡ Rejected (record { 0 = 10 }) 9950 10
   pub rejected-10000 : ainc 10000 1 ten .answer ≡ Rejected (record { 0 = 10 }) 0 10
   pub allowed-10001 : ainc 10001 1 ten .answer ≡ Allowed
-  -- "rate 0.05, F = 4: counts 0 then 1 at readings 0 and 1 give Allowed, then 13"
-  pub nothing-allowed : twentieth 0 0 room .answer ≡ Allowed
-  pub nothing-13 : twentieth 1 1 (twentieth 0 0 room .words) .answer ≡ Refused 13
+  -- "rate 0.05, F = 4: counts 0 then 1 at readings 0 and 1 give Allowed", then "Suppressed with factor 0 and yes" (document 02, ticket 2)
+  pub empty-allowed : twentieth 0 0 room .answer ≡ Allowed
+  pub shot-admitted : twentieth 1 1 linkTested .answer ≡ Suppressed nil true
   -- "factor 0.5: draw 4503599627370495 admits, 4503599627370496 does not"
   pub draw-admits : sinc 1700 5 4503599627370495 eightAndTwo .answer ≡ Suppressed half true
   pub draw-declines : sinc 1700 5 4503599627370496 eightAndTwo .answer ≡ Suppressed half false
@@ -147,6 +148,9 @@ pub record Further : Type 0 where
   pub hard-20 : hardOf (hardBy 2) (perSecond one) ≡ 20
   pub soft-10 : softOf (hardBy 2) (perSecond one) ≡ 10
   pub twenty-full : sinc 50 1 0 twenty .answer ≡ Suppressed one false
+  -- the factor after the link test, by the two calls that give it
+  pub empty-factor : SuppressedCalls.getFactor (hardBy 4) linkTested 1 key .answer ≡ factor.Factor nil
+  pub empty-snapshot : SuppressedCalls.get (hardBy 4) linkTested 1 key .answer ≡ snapshot.Snapshot noSnapshot
   -- the totals that `get` gives; and a total, word 10 of the room, that is not the sum, which is unsound
   pub twenty-known : heldIn twenty key .known ≡ true
   pub twenty-given : sget 0 twenty .answer ≡ snapshot.Snapshot (record { total = 20; «total_declined» = 0; «suppression_factor» = one })
@@ -158,7 +162,7 @@ pub record Computed : Type 0 where
   pub further : Further
 
 pub computed : Computed
-unfolding Seek.seek Splice.splice Tab.tab Factor.freshFactor Factor.perceivesNothing Factor.factorWordOk Factor.admitted Limits.absoluteWord Limits.hardWord
+unfolding Seek.seek Splice.splice Tab.tab Factor.freshFactor Factor.factorWordOk Factor.admitted Limits.absoluteWord Limits.hardWord
     Limits.cutWord Limits.softWord Limits.limitOk Ranges.rateOk Ranges.factorOk Refusals.first Settings.faults Share.mulDiv Order.fine Ring.sumOf Ring.wrap
     Ring.bucketAt Ring.buckets Ring.shaped Ring.pushed Ring.rewritten Ring.without RingSound.soundBuckets Rules.older Rules.recent Rules.ahead Rules.joins
     Rules.partial Sweep.passOf HistoryWords.incremented Preserving.wholes Preserving.partWords Preserving.shrunkWords Preserving.preservedWords
@@ -193,8 +197,8 @@ computed = record {
     rejected-50 = refl;
     rejected-10000 = refl;
     allowed-10001 = refl;
-    nothing-allowed = refl;
-    nothing-13 = refl;
+    empty-allowed = refl;
+    shot-admitted = refl;
     draw-admits = refl;
     draw-declines = refl;
     most-taken = refl;
@@ -235,6 +239,8 @@ computed = record {
     hard-20 = refl;
     soft-10 = refl;
     twenty-full = refl;
+    empty-factor = refl;
+    empty-snapshot = refl;
     twenty-known = refl;
     twenty-given = refl;
     made-up = λ n h. rw (ne-eqb n 20 h);

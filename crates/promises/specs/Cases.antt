@@ -131,5 +131,10 @@ preserve n w = Sets.set kind.Suppressed defaults w 0 key (perSecond (ratio 1 4))
 
 -- ---- the suppressed limiter at rate 1/20 and F = 4: H = 2, S = 0
 
+-- by the greatest draw, which a factor other than 0 seldom lets through
 abbrev pub twentieth : ℕ → ℕ → List ℕ → Verdict RateLimitDecision
-twentieth t count w = Suppressed.inc (hardBy 4) w t key (perSecond (ratio 1 20)) count 0
+twentieth t count w = Suppressed.inc (hardBy 4) w t key (perSecond (ratio 1 20)) count 9007199254740991
+
+-- a link test of count 0 at reading 0
+abbrev pub linkTested : List ℕ
+linkTested = twentieth 0 0 room .words

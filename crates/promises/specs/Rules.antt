@@ -44,7 +44,7 @@ use Rattle.provider.specs.Laws.{lowest-none, both-by-table}
 use Rattle.readout.specs.ReadOut as ReadOut
 use Rattle.readout.specs.Rule.{ReadsOut, reads-out}
 use Rattle.steps.specs.Ops.{Op, answerRow}
-use Rattle.steps.specs.Table.{tableOf, absoluteInc, plain, suppressedInc, suppressedGet, suppressedFactor, setRate, sets, clears, cleans, cleansBoth}
+use Rattle.steps.specs.Table.{tableOf, absoluteInc, plain, suppressedInc, suppressedFactor, setRate, sets, clears, cleans, cleansBoth}
 use Rattle.promises.specs.Answers.{ruleRow, answered}
 use Rattle.promises.specs.Refusals.{reads, reads-number}
 use Rattle.promises.specs.Shared.{RateRule, DeleteRule, SetRule, ClearRule, CleanRule, rate-follows, delete-follows, set-follows, clear-follows}
@@ -94,7 +94,7 @@ abbrev pub TotalByRules : (Settings → List ℕ → ℕ → List ℕ → Verdic
 TotalByRules f = (s : Settings) (w : List ℕ) (t : ℕ) (key : List ℕ) → first (plain kind.Absolute s w t key) ≡ 0 → GetLaw s w t key (f s w t key)
 
 abbrev pub SnapshotByRules : (Settings → List ℕ → ℕ → List ℕ → Verdict SnapshotAnswer) → Type 0
-SnapshotByRules f = (s : Settings) (w : List ℕ) (t : ℕ) (key : List ℕ) → Bytes key → first (suppressedGet s w t key) ≡ 0 → Gets s w t key (f s w t key)
+SnapshotByRules f = (s : Settings) (w : List ℕ) (t : ℕ) (key : List ℕ) → Bytes key → first (plain kind.Suppressed s w t key) ≡ 0 → Gets s w t key (f s w t key)
 
 -- ---- the promise
 

@@ -4,24 +4,26 @@ use mathlib.Core.Path.{_≡_, refl}
 use mathlib.Core.Bool.{true, false}
 use mathlib.Core.List.{List, [], _∷_}
 use Prim.Native.Nat.{ℕ}
+use lib.Ieee as Ieee
 use Rattle.answers.specs.declared.DeleteAnswer.the-variants as delete
 use Rattle.answers.specs.declared.HistoryPreservation.the-variants.{PreserveNewest, PreserveOldest}
 use Rattle.answers.specs.declared.HistoryUpdateMode.the-variants as mode
 use Rattle.common.specs.declared.comparator.RateLimitComparator.the-variants as comparator
 use Rattle.settings.specs.Settings.{defaults}
-use Rattle.common.specs.Ranges.{one}
+use Rattle.common.specs.Ranges.{nil, one}
 use Rattle.share.specs.Share.{mulDiv}
+use Rattle.suppression.specs.Factor.{freshFactor}
 use Rattle.ring.specs.declared.Bucket.{Bucket}
 use Rattle.ring.specs.Ring.{bucket, sumOf}
 use Rattle.rules.specs.declared.Reach.the-variants.{Hard}
 use Rattle.rules.specs.declared.RoomKind.the-variants.{Absolute}
-use Rattle.rules.specs.Buckets.{older, ahead, joins, joined, raised, live, partial, cutOldest, cutNewest, preserved}
+use Rattle.rules.specs.Buckets.{older, recent, ahead, joins, joined, raised, live, partial, cutOldest, cutNewest, preserved}
 use Rattle.rules.specs.Held.{Held, nothing}
 use Rattle.rules.specs.Both.{liveOf, ringFull}
 use Rattle.rules.specs.Laws.{condition}
 use Rattle.rules.specs.Sets as sets
 use Rattle.rules.specs.Stale.{seriesStays, factorStays}
-use Rattle.rules.specs.Suppressed.{stays, usable, reachOf}
+use Rattle.rules.specs.Suppressed.{stays, usable, freshOn, reachOf}
 
 -- 3 counted at 0, 2 of them declined, and 4 at 200, with limit word 7 and a factor cached at 200
 abbrev two : List Bucket
@@ -47,6 +49,9 @@ pub record Cases : Type 0 where
   pub used-99 : usable defaults 299 held ≡ true
   pub fresh-100 : usable defaults 300 held ≡ false
   pub forgotten : stays defaults 10001 held ≡ false
+  -- the fresh factor of a slow key, S = 0 and H = 2: 0 where an empty call is all that counted; 1 where something did, though not in the last second
+  pub empty-call : freshOn 0 2 10 1 (bucket 0 0 0 ∷ []) .factor ≡ nil
+  pub quiet-second : freshOn 0 2 10 1001 (bucket 1 0 0 ∷ []) .factor ≡ one
   -- a forecast equal to H is allowed, even when it is also at most S
   pub at-hard : reachOf 10 10 10 ≡ Hard
   -- delete gives what is live less what is declined of it
@@ -61,7 +66,8 @@ pub record Cases : Type 0 where
   pub factor-500 : factorStays 200 700 500 ≡ false
 
 pub cases : Cases
-unfolding older ahead joins joined raised partial cutOldest cutNewest preserved ringFull stays reachOf
+unfolding freshFactor Ieee.sub Ieee.div Ieee.lt Ieee.eq Ieee.ofInt Ieee.round older recent ahead joins joined raised partial cutOldest cutNewest preserved
+    ringFull stays reachOf
     sets.deleted sets.already sets.idle seriesStays factorStays sumOf mulDiv
 cases = record {
   live-10000 = refl;
@@ -75,6 +81,8 @@ cases = record {
   used-99 = refl;
   fresh-100 = refl;
   forgotten = refl;
+  empty-call = refl;
+  quiet-second = refl;
   at-hard = refl;
   deletes = refl;
   still = refl;

@@ -1,32 +1,32 @@
--- What follows from the rules alone: what a decision admits by its forecast, where 13 is met, and that 10 and 12 speak of live buckets.
+-- What follows from the rules alone: what a decision admits by its forecast, that a key which counted nothing is admitted, and that 10 and 12 speak of
+-- live buckets.
 -- Assumes nothing.
 use mathlib.Core.Path.{_≡_, refl, sym, ap, ap₂, _∙_}
 use mathlib.Core.Bool.{Bool, true, false, not, _&&_, _||_, cond, false≢true}
 use mathlib.Core.List.{List, [], _∷_}
-use Prim.Native.Nat.{ℕ, zero, suc, _+_, _-_, _^_, _≤_, _<_}
-use native.Mathlib.Decide.{decLt}
+use Prim.Native.Nat.{ℕ, _+_, _-_, _≤_, _<_}
 use native.Mathlib.Omega.{arith}
 use lib.Dec.{leb, ltb, eqb}
+use lib.Ieee.{Float}
 use lib.ListN.{length, getD, drop, length-drop}
 use lib.Seq.{getD-drop}
-use borrow.Author.Tests.{eq-eqb, ne-eqb, le-leb, lt-leb, lt-ltb, le-ltb, eqb-true, leb-true, leb-false, ltb-true, ltb-false}
+use borrow.Author.Tests.{eq-eqb, le-leb, lt-leb, lt-ltb, le-ltb, eqb-true, leb-true, leb-false, ltb-true, ltb-false}
 use Rattle.base.specs.Decides.{and-true}
-use Rattle.suppression.specs.Factor.{perceivesNothing}
-use Rattle.common_laws.specs.FactorLaws.{nothing-is}
+use Rattle.suppression.specs.Factor.{freshFactor, admitted}
+use Rattle.common_laws.specs.FactorLaws.{fresh-none, nil-admits}
 use Rattle.common.specs.Limits.{cutWord, softWord}
-use Rattle.common.specs.Ranges.{one, and-no}
-use Rattle.settings.specs.Settings.{windowIn, bucketIn, factorIn, cacheIn}
+use Rattle.common.specs.Ranges.{nil, one}
+use Rattle.settings.specs.Settings.{windowIn, bucketIn, factorIn}
 use Rattle.settings.specs.declared.Settings.{Settings}
 use Rattle.answers.specs.declared.HistoryUpdateMode.{HistoryUpdateMode}
 use Rattle.common.specs.declared.units.RateLimit.{RateLimit}
 use Rattle.answers.specs.declared.RateLimitDecision.the-variants.{Allowed, Suppressed}
-use Rattle.rules.specs.Buckets.{gone, live, newest, joins, lastSecond}
+use Rattle.rules.specs.Buckets.{older, recent, gone, newest, joins, lastSecond}
 use Rattle.ring.specs.declared.Bucket.{Bucket}
 use Rattle.layout.specs.Layout.{mostTotal}
-use Rattle.ring.specs.Ring.{noBucket, counts, declineds}
+use Rattle.ring.specs.Ring.{noBucket, sumOf, counts, declineds}
 use Rattle.ring.specs.Sums.{sum-split}
 use Rattle.rules.specs.declared.Asked.{Asked}
-use Rattle.rules.specs.declared.FactorRule.{FactorRule}
 use Rattle.rules.specs.declared.FactorRule.the-variants.{Nil, One, Worked}
 use Rattle.rules.specs.declared.Reach.{Reach}
 use Rattle.rules.specs.declared.Reach.the-variants.{Hard, Soft, Over, Between}
@@ -35,7 +35,7 @@ use Rattle.rules.specs.Both.{liveOf, passes, ringFull}
 use Rattle.rules.specs.Absolute as absolute
 use Rattle.rules.specs.Sets as sets
 use Rattle.rules.specs.Suppressed as suppressed
-use Rattle.rules.specs.Suppressed.{admits, clauses, blindBy, ruleOn, freshOn, asCached, usable, asked, reachOf, declinedBy, drawn, outcomeOf}
+use Rattle.rules.specs.Suppressed.{admits, clauses, freshBy, freshOn, asCached, usable, asked, forecast, reachOf, declinedBy, drawn, outcomeOf, outcome}
 
 -- ---- a decision by its forecast n
 
@@ -79,72 +79,60 @@ declined-all Soft a t c draw = refl
 declined-all Over a t c draw = refl
 declined-all Between a t c draw = refl
 
--- ---- "Refusal 13 is met exactly at S = 0, H at least 1, some bucket, total 0"
+-- ---- a slow key after an empty call (document 02, ticket 2): where nothing was counted, the fresh factor is 0 and "the shot is admitted"
 
-not-blind : (r : FactorRule) → blindBy r false ≡ false
-not-blind Nil = refl
-not-blind One = refl
-not-blind Worked = refl
-
-blind-some : (S H : ℕ) (some : Bool) (total : ℕ) → some && (eqb S 0 && (leb 1 H && eqb (suc total) 0)) ≡ false
-blind-some S H some total =
-    ap (λ (z : Bool). some && (eqb S 0 && (leb 1 H && z))) (ne-eqb (suc total) 0 (λ z. omega arith)) ∙
-    ap (λ (z : Bool). some && (eqb S 0 && z)) (and-no (leb 1 H)) ∙
-    ap (λ (z : Bool). some && z) (and-no (eqb S 0)) ∙ and-no some
-
--- nothing was counted, in some bucket
-blind-found : (S H : ℕ) → blindBy (clauses S H false 0 0) true ≡ eqb S 0 && (leb 1 H && true)
-blind-found S H = go (decLt 0 H) (decLt 0 S)
+-- the counts of the last second are among all
+pub recent-among : (w t : ℕ) (xs : List Bucket) → counts (recent w t xs) ≤ counts xs
+unfolding recent sumOf
+recent-among w t [] = omega arith
+recent-among w t (x ∷ xs) = go (older w t x) (recent-among w t xs)
   where
-    go : Dec (0 < H) → Dec (0 < S) → blindBy (cond (leb H 0) One (cond (ltb 0 S) Nil (cond (eqb 0 S && eqb S H) One Worked))) true ≡ eqb S 0 &&
-        (leb 1 H && true)
-    go (no h) l =
-        ap (λ (z : Bool). blindBy (cond z One (cond (ltb 0 S) Nil (cond (eqb 0 S && eqb S H) One Worked))) true) (le-leb H 0 (omega arith)) ∙
-        sym (ap (λ (z : Bool). eqb S 0 && (z && true)) (lt-leb 1 H (omega arith)) ∙ and-no (eqb S 0))
-    go (yes h) (yes l) =
-        ap₂ (λ (y z : Bool). blindBy (cond y One (cond z Nil (cond (eqb 0 S && eqb S H) One Worked))) true) (lt-leb H 0 (omega arith)) (lt-ltb 0 S l) ∙
-        sym (ap (λ (z : Bool). z && (leb 1 H && true)) (ne-eqb S 0 (λ z. omega arith)))
-    go (yes h) (no l) =
-        ap₂ (λ (y z : Bool). blindBy (cond y One (cond z Nil (cond (eqb 0 S && eqb S H) One Worked))) true) (lt-leb H 0 (omega arith))
-        (le-ltb 0 S (omega arith)) ∙
-        ap₂ (λ (y z : Bool). blindBy (cond (y && z) One Worked) true) (eq-eqb 0 S (omega arith)) (ne-eqb S H (λ z. omega arith)) ∙
-        sym (ap₂ (λ (y z : Bool). y && (z && true)) (eq-eqb S 0 (omega arith)) (le-leb 1 H (omega arith)))
+    go : (o : Bool) → counts (recent w t xs) ≤ counts xs → counts (cond o (recent w t xs) (x ∷ recent w t xs)) ≤ x .count + counts xs
+    go true h = omega arith
+    go false h = omega arith
 
-blind-none : (S H : ℕ) (none : Bool) → blindBy (clauses S H none 0 0) true ≡ not none && (eqb S 0 && (leb 1 H && true))
-blind-none S H true = refl
-blind-none S H false = blind-found S H
-
-blind-clauses : (S H : ℕ) (none : Bool) (total declined : ℕ) → declined ≤ total →
-    blindBy (clauses S H none total declined) (eqb total 0) ≡ not none && (eqb S 0 && (leb 1 H && eqb total 0))
-blind-clauses S H none zero zero l = blind-none S H none
-blind-clauses S H none zero (suc declined) l = absurd (omega arith)
-blind-clauses S H none (suc total) declined l =
-    ap (blindBy (clauses S H none (suc total) declined)) (ne-eqb (suc total) 0 (λ z. omega arith)) ∙ not-blind (clauses S H none (suc total) declined) ∙
-    sym (blind-some S H (not none) total)
-
--- the fresh factor of xs is worked out at perceived rate zero
-abbrev pub unseen : ℕ → ℕ → List Bucket → Bool
-unseen S H xs = not (eqb (length xs) 0) && (eqb S 0 && (leb 1 H && eqb (counts xs) 0))
-
--- so 13 is met exactly there, of a key whose live counts are in range
-pub blind-is : (s : Settings) (t limit : ℕ) (h : Held) → 1 ≤ windowIn s → windowIn s ≤ 33554432 →
-    lastSecond t (liveOf s t h) ≤ counts (liveOf s t h) → declineds (liveOf s t h) ≤ counts (liveOf s t h) → counts (liveOf s t h) ≤ 2 ^ 53 →
-    asked s t limit h .blind ≡ not (usable s t h) && unseen (softWord (factorIn s) limit) (cutWord limit) (liveOf s t h)
-unfolding asked
-blind-is s t limit h low high recent declined most = go (usable s t h)
+-- of buckets that counted nothing, below the hard limit: whichever clause it is by
+fresh-by-none : (S H W last declined : ℕ) (none : Bool) → 1 ≤ W → W ≤ 33554432 → 0 < H → last ≡ 0 → freshBy (clauses S H none 0 declined) S 0 W last ≡ nil
+fresh-by-none S H W last declined none low high h e = go none (leb H 0) (ltb (0 - declined) S) (eqb (0 - declined) S && eqb S H) (lt-leb H 0 h) refl
   where
-    fresh : blindBy (ruleOn (softWord (factorIn s) limit) (cutWord limit) (liveOf s t h))
-        (perceivesNothing (counts (liveOf s t h)) (windowIn s) (lastSecond t (liveOf s t h))) ≡
-        unseen (softWord (factorIn s) limit) (cutWord limit) (liveOf s t h)
-    fresh =
-        ap (blindBy (ruleOn (softWord (factorIn s) limit) (cutWord limit) (liveOf s t h)))
-        (nothing-is (counts (liveOf s t h)) (windowIn s) (lastSecond t (liveOf s t h)) recent most low high) ∙
-        blind-clauses (softWord (factorIn s) limit) (cutWord limit) (eqb (length (liveOf s t h)) 0) (counts (liveOf s t h)) (declineds (liveOf s t h)) declined
+    worked : freshFactor S 0 W last ≡ nil
+    worked = ap (freshFactor S 0 W) e ∙ fresh-none S W low high
 
-    go : (z : Bool) → cond z (asCached (h .factor)) (freshOn (softWord (factorIn s) limit) (cutWord limit) (windowIn s) t (liveOf s t h)) .blind ≡
-        not z && unseen (softWord (factorIn s) limit) (cutWord limit) (liveOf s t h)
-    go true = refl
-    go false = fresh
+    -- accepted = S = H is not met: accepted is 0
+    not-both : (m : ℕ) → m ≡ 0 → eqb m S && eqb S H ≡ true → ⊥
+    not-both m z f = let a = and-true (eqb m S) _ f in omega (arith, eqb-true m S (a .0), eqb-true S H (a .1))
+
+    go : (a b c d : Bool) → b ≡ false → eqb (0 - declined) S && eqb S H ≡ d →
+        freshBy (cond a Nil (cond b One (cond c Nil (cond d One Worked)))) S 0 W last ≡ nil
+    go true b c d f g = refl
+    go false true c d f g = absurd (false≢true (sym f))
+    go false false true d f g = refl
+    go false false false true f g = absurd (not-both (0 - declined) (omega arith) g)
+    go false false false false f g = worked
+
+module _ (s : Settings) (t limit : ℕ) (h : Held) (low : 1 ≤ windowIn s) (high : windowIn s ≤ 33554432) (none : counts (liveOf s t h) ≡ 0)
+    (anew : usable s t h ≡ false) where
+  pub empty-factor : 0 < cutWord limit → asked s t limit h .factor ≡ nil
+  unfolding asked
+  empty-factor l =
+      let xs = liveOf s t h in
+      let S = softWord (factorIn s) limit in
+      let H = cutWord limit in
+      ap (λ (z : Bool). cond z (asCached (h .factor)) (freshOn S H (windowIn s) t xs) .factor) anew ∙
+      ap (λ (n : ℕ). freshBy (clauses S H (eqb (length xs) 0) n (declineds xs)) S n (windowIn s) (lastSecond t xs)) none ∙
+      fresh-by-none S H (windowIn s) (lastSecond t xs) (declineds xs) (eqb (length xs) 0) low high l (omega (arith, recent-among 1000 t xs))
+
+  -- a count up to the hard limit, whatever the draw
+  pub empty-admits : (c draw : ℕ) → c ≤ cutWord limit → admits (outcome s t limit c draw h .decision) ≡ true
+  unfolding outcome drawn
+  empty-admits c draw l =
+      let n = forecast (liveOf s t h) c in
+      let S = softWord (factorIn s) limit in
+      let H = cutWord limit in
+      let e : n ≡ c = omega arith in
+      by-tests n S H (asked s t limit h) t c draw (λ (r : Reach). admits (outcomeOf r (asked s t limit h) t c draw .decision) ≡ true)
+      (λ k. refl) (λ k. refl) (λ j k. absurd (omega arith))
+      (λ j k. ap (λ (f : Float). admitted f draw) (empty-factor (omega arith)) ∙ nil-admits draw)
 
 -- ---- "Refusing 12 while an absolute ring is full of expired buckets" is a slip: 12 is met only where live buckets fill the ring, and 10 only where live
 -- counts pass 2^53

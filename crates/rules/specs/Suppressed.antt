@@ -1,13 +1,13 @@
 -- The suppressed limiter's rules, in document 01's words and order. h is the key, xs its live buckets, S and H the soft and the hard limit as whole
 -- numbers, W the window in seconds, t the reading, c the count, r the ring.
 -- Assumes nothing.
-use mathlib.Core.Bool.{Bool, true, false, not, _&&_, cond}
+use mathlib.Core.Bool.{Bool, true, false, _&&_, cond}
 use mathlib.Core.List.{List, [], _∷_}
 use Prim.Native.Nat.{ℕ, _+_, _-_}
 use lib.Dec.{leb, ltb, eqb}
 use lib.Ieee.{Float, binary64, ofBits}
 use lib.ListN.{length}
-use Rattle.suppression.specs.Factor.{freshFactor, perceivesNothing, admitted}
+use Rattle.suppression.specs.Factor.{freshFactor, admitted}
 use Rattle.answers.specs.HistoryMode.{noSnapshot}
 use Rattle.common.specs.Limits.{cutWord, softWord}
 use Rattle.common.specs.Ranges.{nil, one}
@@ -62,22 +62,15 @@ clauses S H none total declined =
     (cond (eqb (total - declined) S && eqb S H) One
     Worked)))
 
--- "else 1 - (S / W / perceived)"; last are the counts at age at most 1000 ms
+-- "else 1 - (S / W / perceived)", and 0 at a zero perceived rate (document 02, ticket 2); last are the counts at age at most 1000 ms
 abbrev pub freshBy : FactorRule → ℕ → ℕ → ℕ → ℕ → Float
 freshBy Nil S total W last = nil
 freshBy One S total W last = one
 freshBy Worked S total W last = freshFactor S total W last
 
--- 13: "a factor is worked out at perceived rate zero"; z says whether the rate is zero
-abbrev pub blindBy : FactorRule → Bool → Bool
-blindBy Nil z = false
-blindBy One z = false
-blindBy Worked z = z
-
 -- "Fresh factor, cached with the reading"
-abbrev pub freshly : FactorRule → Bool → ℕ → ℕ → ℕ → ℕ → ℕ → Asked
-freshly by z S W t total last = record {
-  blind = blindBy by z;
+abbrev pub freshly : FactorRule → ℕ → ℕ → ℕ → ℕ → ℕ → Asked
+freshly by S W t total last = record {
   factor = freshBy by S total W last;
   caching = Cached (cachedAt (freshBy by S total W last) t);
 }
@@ -87,11 +80,11 @@ ruleOn S H xs = clauses S H (eqb (length xs) 0) (counts xs) (declineds xs)
 
 -- the cached factor that is left as it is
 abbrev pub asCached : ℕ → Asked
-asCached factor = record { blind = false; factor = ofBits binary64 factor; caching = Left }
+asCached factor = record { factor = ofBits binary64 factor; caching = Left }
 
 -- of the live buckets
 abbrev pub freshOn : ℕ → ℕ → ℕ → ℕ → List Bucket → Asked
-freshOn S H W t xs = freshly (ruleOn S H xs) (perceivesNothing (counts xs) W (lastSecond t xs)) S W t (counts xs) (lastSecond t xs)
+freshOn S H W t xs = freshly (ruleOn S H xs) S W t (counts xs) (lastSecond t xs)
 
 -- "the cached factor at age below C, else a fresh one", at this limit
 unfoldable pub asked : Settings → ℕ → ℕ → Held → Asked
@@ -119,7 +112,6 @@ declinedBy is c = cond is 0 c
 -- the factor decides with the draw: "Suppressed with its factor and yes or no"
 unfoldable pub drawn : Asked → ℕ → ℕ → Outcome
 drawn a c draw = record {
-  blind = a .blind;
   decision = Suppressed (a .factor) (admitted (a .factor) draw);
   declined = declinedBy (admitted (a .factor) draw) c;
   caching = a .caching;
@@ -127,9 +119,9 @@ drawn a c draw = record {
 
 -- "At most S, or equal to H: Allowed. Equal to H caches factor 1 .. Over H: cache 1, not admitted. Between: the .. factor"
 abbrev pub outcomeOf : Reach → Asked → ℕ → ℕ → ℕ → Outcome
-outcomeOf Hard a t c draw = record { blind = false; decision = Allowed; declined = 0; caching = fullAt t }
-outcomeOf Soft a t c draw = record { blind = false; decision = Allowed; declined = 0; caching = Left }
-outcomeOf Over a t c draw = record { blind = false; decision = Suppressed one false; declined = c; caching = fullAt t }
+outcomeOf Hard a t c draw = record { decision = Allowed; declined = 0; caching = fullAt t }
+outcomeOf Soft a t c draw = record { decision = Allowed; declined = 0; caching = Left }
+outcomeOf Over a t c draw = record { decision = Suppressed one false; declined = c; caching = fullAt t }
 outcomeOf Between a t c draw = drawn a c draw
 
 -- the outcome of a count at this limit
@@ -148,15 +140,14 @@ admits (Refused n) = false
 abbrev pub mostDraw : ℕ
 mostDraw = 9007199254740991
 
--- 8 to 13; 10 and 12 are judged on the live buckets. full says that no slot is free
+-- 8 to 12; 10 and 12 are judged on the live buckets. full says that no slot is free
 abbrev pub incTurns : Settings → ℕ → Bool → ℕ → RateLimit → ℕ → ℕ → Held → List (ℕ × Bool)
 incTurns s r full t rate c draw h =
     (8, unrated rate) ∷
     (9, ltb mostDraw draw) ∷
     (10, passes c (counts (liveOf s t h))) ∷
     (11, lacksSlot full h) ∷
-    (12, ringFull r (bucketIn s) t (liveOf s t h)) ∷
-    (13, outcome s t (limitFor s rate h) c draw h .blind) ∷ []
+    (12, ringFull r (bucketIn s) t (liveOf s t h)) ∷ []
 
 -- ---- `get` and `get_suppression_factor`
 
@@ -171,8 +162,6 @@ snapshotOf s t h f =
 abbrev pub asking : Settings → ℕ → Held → Asked
 asking s t h = asked s t (h .limit) h
 
-abbrev pub getTurns : Settings → ℕ → Held → List (ℕ × Bool)
-getTurns s t h = (13, asking s t h .blind) ∷ []
-
-abbrev pub factorTurns : Settings → Bool → ℕ → Held → List (ℕ × Bool)
-factorTurns s full t h = (11, lacksSlot full h) ∷ (13, asking s t h .blind) ∷ []
+-- 11, of `get_suppression_factor`; `get` has none of its own
+abbrev pub factorTurns : Bool → Held → List (ℕ × Bool)
+factorTurns full h = (11, lacksSlot full h) ∷ []

@@ -22,9 +22,8 @@ pub enum Caching {
     Cached(CachedFactor),
 }
 
-// A factor that is asked for: whether it would be worked out at perceived rate zero, its value, and what is cached.
+// A factor that is asked for, and what is cached.
 pub struct Asked {
-    pub blind: bool,
     pub factor: f64,
     pub caching: Caching,
 }
@@ -37,10 +36,8 @@ pub enum Reach {
     Between,
 }
 
-// What an increment decides: whether it asks for a factor at perceived rate zero, the decision, how much of the count is
-// declined, and what becomes of the cached factor.
+// What an increment decides: the decision, how much of the count is declined, and what becomes of the cached factor.
 pub struct Outcome {
-    pub blind: bool,
     pub decision: RateLimitDecision,
     pub declined: u64,
     pub caching: Caching,

@@ -126,7 +126,7 @@ pub record Computed : Type 0 where
   pub alone-times : times [] 1 (logOf alone oneOne) ≡ 2
 
 pub computed : Computed
-unfolding Decide.decLe Seek.seek Splice.splice Tab.tab Factor.perceivesNothing Factor.factorWordOk Factor.admitted Limits.hardWord Limits.cutWord
+unfolding Decide.decLe Seek.seek Splice.splice Tab.tab Factor.factorWordOk Factor.admitted Limits.hardWord Limits.cutWord
     Limits.softWord Limits.limitOk Ranges.rateOk Ranges.factorOk Refusals.first Settings.faults Order.fine Ring.sumOf Ring.wrap Ring.bucketAt
     Ring.buckets Ring.shaped Ring.pushed Ring.rewritten Ring.without RingSound.soundBuckets Rules.older Rules.recent Rules.ahead Rules.joins
     Sweep.passOf HistoryWords.incremented Room.fits Room.empty Keys.keyOf Keys.sameKey Keys.unusedZero Keys.keyFits Room.keyAt Room.free Room.has

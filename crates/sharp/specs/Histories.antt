@@ -138,7 +138,7 @@ pub record Computed : Type 0 where
   pub between : answerTo doubled [] 0 11 ≡ decided.Suppressed Ranges.nil true
 
 pub computed : Computed
-unfolding Decide.decLe Seek.seek Splice.splice Tab.tab Answers.decisionRow Factor.perceivesNothing Factor.factorWordOk Factor.admitted Limits.hardWord
+unfolding Decide.decLe Seek.seek Splice.splice Tab.tab Answers.decisionRow Factor.factorWordOk Factor.admitted Limits.hardWord
     Limits.cutWord Limits.softWord Limits.limitOk Ranges.rateOk Ranges.factorOk Refusals.first Settings.faults Order.fine Ring.sumOf Ring.wrap
     Ring.bucketAt Ring.buckets Ring.shaped Ring.pushed Ring.rewritten Ring.without RingSound.soundBuckets Rules.older Rules.recent Rules.ahead
     Rules.joins Sweep.passOf HistoryWords.incremented HistoryWords.replacedWords Room.fits Room.empty Keys.keyOf Keys.sameKey Keys.unusedZero

@@ -9,7 +9,7 @@ use native.Mathlib.Omega.{arith}
 use lib.Dec.{eqb}
 use borrow.Author.Tests.{eqb-true, eqb-false, ltb-false, not-false}
 use Rattle.common.specs.Ranges.{rateOk}
-use Rattle.common.specs.Refusals.{first, first-found, first-none, all-false, none-first}
+use Rattle.common.specs.Refusals.{first, first-found, first-none, all-false}
 use Rattle.settings.specs.Settings.{windowIn, faults}
 use Rattle.common.specs.declared.comparator.RateLimitComparator.{RateLimitComparator}
 use Rattle.answers.specs.declared.HistoryUpdateMode.{HistoryUpdateMode}
@@ -64,7 +64,7 @@ use Rattle.factor_opened.specs.Opened.{askedAt}
 use Rattle.forecast_opened.specs.Forecast.{forecastAt}
 use Rattle.suppressed_verdicts.specs.Opened.{limitAt, incOutcome}
 use Rattle.suppressed_verdicts.specs.Seen.{second-is, asking-is, limit-is, decides, late-is}
-use Rattle.suppressed_verdicts.specs.Standing.{unperceived-is, place-inside}
+use Rattle.suppressed_verdicts.specs.Standing.{place-inside}
 use Rattle.suppressed_verdicts.specs.Calls as OnSuppressed
 use Rattle.suppressed_verdicts.specs.Laws as suppressed
 use Rattle.provider.specs.Provider as Provider
@@ -159,12 +159,11 @@ module _ (s : Settings) (w : List ℕ) (t : ℕ) (key : List ℕ) where
     sees : Seen (windowIn s) t (heldIn w key) (slotIn s w t key)
     sees = seen kind.Suppressed s w t key passing
 
-    asked-as : rules.asking s t (heldIn w key) ≡ askedAt s w t (slotIn s w t key) (slotIn s w t key .limit) (eqb (slotIn s w t key .pass .«live_total») 0)
-    asked-as = sym (asking-is s t h x sees w (second-is s w t key passing)) ∙ ap (askedAt s w t x (x .limit)) (unperceived-is s w t key passing x refl)
+    asked-as : rules.asking s t (heldIn w key) ≡ askedAt s w t (slotIn s w t key) (slotIn s w t key .limit)
+    asked-as = sym (asking-is s t h x sees w (second-is s w t key passing))
 
-    caching : asks .blind ≡ false → CachingOk t (asks .caching)
-    caching b =
-        subst (λ (y : Asked). CachingOk t (y .caching)) (sym asked-as) (factor-ok s w t key e x refl (sym (ap (λ (y : Asked). y .blind) asked-as) ∙ b) .caching)
+    caching : CachingOk t (asks .caching)
+    caching = subst (λ (y : Asked). CachingOk t (y .caching)) (sym asked-as) (factor-ok s w t key e x refl .caching)
 
     -- a slot that is not lacking is there
     not-lacking : lacksSlot (noneFree w) (heldIn w key) ≡ false → lacksAt w (placeOf w (slotIn s w t key)) (slotIn s w t key) ≡ false
@@ -173,44 +172,43 @@ module _ (s : Settings) (w : List ℕ) (t : ℕ) (key : List ℕ) where
     inside : lacksSlot (noneFree w) (heldIn w key) ≡ false → placeOf w (slotIn s w t key) < slotsOf w
     inside g = place-inside s w t key passing x refl (not-lacking g)
 
-  pub snapshot-does : early kind.Suppressed s w t key ≡ 0 → first (rules.getTurns s t h) ≡ 0 →
-      Does kind.Suppressed s w t key (x .at) (getChange x (asks .caching))
-  snapshot-does e f =
+  pub snapshot-does : early kind.Suppressed s w t key ≡ 0 → Does kind.Suppressed s w t key (x .at) (getChange x (asks .caching))
+  snapshot-does e =
       let p = passed kind.Suppressed s w t key e in
       let k = asks .caching in
       record {
         passed = p;
         applies = suppressed.get-applies s w t key e x refl k (getChange x k) refl;
         moves = snapshot-moves s w t key p k;
-        stores = snapshot-stores s w t key p k (caching e (all-false (rules.getTurns s t h) (omega arith) f .0));
+        stores = snapshot-stores s w t key p k (caching e);
       }
 
   snapshot-step : Step kind.Suppressed s w t (snapshot key) (OnSuppressed.get s w t key .words)
   unfolding OnSuppressed.get
   snapshot-step =
-      call-step snapshots.Refused kind.Suppressed s w t (snapshot key) key (rules.getTurns s t h) _
-      (λ e f. changed key refl (x .at) (getChange x (asks .caching)) (snapshot-does e f) refl)
+      call-step snapshots.Refused kind.Suppressed s w t (snapshot key) key [] _
+      (λ e f. changed key refl (x .at) (getChange x (asks .caching)) (snapshot-does e) refl)
 
   abbrev lacking : Bool
   lacking = lacksAt w (placeOf w (slotIn s w t key)) (slotIn s w t key)
 
-  pub factor-does : Bytes key → early kind.Suppressed s w t key ≡ 0 → first (rules.factorTurns s (noneFree w) t h) ≡ 0 →
+  pub factor-does : Bytes key → early kind.Suppressed s w t key ≡ 0 → first (rules.factorTurns (noneFree w) h) ≡ 0 →
       Does kind.Suppressed s w t key (placeOf w x) (factorChange x (asks .caching) t)
   factor-does by e f =
       let p = passed kind.Suppressed s w t key e in
       let k = asks .caching in
-      let g = all-false (rules.factorTurns s (noneFree w) t h) (omega arith) f in
+      let g = all-false (rules.factorTurns (noneFree w) h) (omega arith) f in
       record {
         passed = p;
         applies = suppressed.factor-applies s w t key e x refl (placeOf w x) refl lacking refl (not-lacking e (g .0)) k (factorChange x k t) refl;
         moves = factor-moves s w t key p by k (inside e (g .0));
-        stores = factor-stores s w t key p k (caching e (g .1 .0));
+        stores = factor-stores s w t key p k (caching e);
       }
 
   factor-step : Bytes key → Step kind.Suppressed s w t (getFactor key) (OnSuppressed.getFactor s w t key .words)
   unfolding OnSuppressed.getFactor
   factor-step by =
-      call-step factors.Refused kind.Suppressed s w t (getFactor key) key (rules.factorTurns s (noneFree w) t h) _
+      call-step factors.Refused kind.Suppressed s w t (getFactor key) key (rules.factorTurns (noneFree w) h) _
       (λ e f. changed key refl (placeOf w x) (factorChange x (asks .caching) t) (factor-does by e f) refl)
 
   module _ (rate : RateLimit) (c draw : ℕ) where
@@ -230,16 +228,11 @@ module _ (s : Settings) (w : List ℕ) (t : ℕ) (key : List ℕ) where
     adds = incChange x limit c (outcome .declined) (outcome .caching)
 
     late : early kind.Suppressed s w t key ≡ 0 → first own ≡ 0 → first lates ≡ 0
-    late e f =
-        let g = all-false own (omega arith) f in
-        ap first (late-is s w t key rate c draw (passed kind.Suppressed s w t key e)) ∙
-        none-first _ (g .0, (g .1 .0, (g .1 .1 .0, (g .1 .1 .1 .0, (g .1 .1 .1 .1 .0, tt)))))
+    late e f = ap first (late-is s w t key rate c draw (passed kind.Suppressed s w t key e)) ∙ f
 
     -- what the code works out is what the rules decide
-    worked : (e : early kind.Suppressed s w t key ≡ 0) → outcome ≡ incOutcome s w t rate c draw x (eqb (x .pass .«live_total») 0)
-    worked e =
-        let p = passed kind.Suppressed s w t key e in
-        sym (decides s w t key rate c draw p) ∙ ap (incOutcome s w t rate c draw x) (unperceived-is s w t key p x refl)
+    worked : (e : early kind.Suppressed s w t key ≡ 0) → outcome ≡ incOutcome s w t rate c draw x
+    worked e = sym (decides s w t key rate c draw (passed kind.Suppressed s w t key e))
 
     pub draws-does : Bytes key → early kind.Suppressed s w t key ≡ 0 → first own ≡ 0 → Does kind.Suppressed s w t key (placeOf w x) adds
     draws-does by e f =
@@ -255,7 +248,7 @@ module _ (s : Settings) (w : List ℕ) (t : ℕ) (key : List ℕ) where
               (forecastAt x c) refl refl (worked e) u refl;
           moves = draws-moves s w t key p by l c (o .declined) (o .caching) (inside e (g .1 .1 .1 .0));
           stores = draws-stores s w t key p rate c (o .declined) (o .caching)
-              (decision-ok s w t key e x refl rate c draw (late e f) o (worked e) (g .1 .1 .1 .1 .1 .0) .1) (not-false _ (g .0));
+              (decision-ok s w t key e x refl rate c draw (late e f) o (worked e) .1) (not-false _ (g .0));
         })
 
     draws-step : Bytes key → Step kind.Suppressed s w t (draws key rate c draw) (OnSuppressed.inc s w t key rate c draw .words)

@@ -18,9 +18,10 @@ use Rattle.judge.specs.Verdict.{Verdict, unlessRefused}
 
 -- ---- the order of judging
 
--- document 01: "Lowest number first"; document 02, ticket 12: 19, 20, 21 "judged in that order before the limiter is asked"
+-- document 01: "Lowest number first"; document 02, ticket 12: 19, 20, 21 "judged in that order before the limiter is asked"; ticket 2: 13 "is shown never to
+-- occur and its number is not used again"
 abbrev pub order : List ℕ
-order = 19 ∷ 20 ∷ 21 ∷ 1 ∷ 2 ∷ 3 ∷ 4 ∷ 5 ∷ 6 ∷ 7 ∷ 8 ∷ 9 ∷ 10 ∷ 11 ∷ 12 ∷ 13 ∷ 14 ∷ []
+order = 19 ∷ 20 ∷ 21 ∷ 1 ∷ 2 ∷ 3 ∷ 4 ∷ 5 ∷ 6 ∷ 7 ∷ 8 ∷ 9 ∷ 10 ∷ 11 ∷ 12 ∷ 14 ∷ []
 
 -- how many stand before n in a list; all of them where it does not stand there
 abbrev pub before : List ℕ → ℕ → ℕ
@@ -29,6 +30,10 @@ before (m ∷ ms) n = cond (eqb m n) 0 (suc (before ms n))
 
 abbrev pub place : ℕ → ℕ
 place n = before order n
+
+-- n is the number of a refusal
+abbrev pub Numbered : ℕ → Type 0
+Numbered n = place n < length order
 
 -- the condition of number n holds
 unfoldable pub met : List (ℕ × Bool) → ℕ → Bool
@@ -51,6 +56,8 @@ pub record TurnedBy {B : Type 0} (table : List (ℕ × Bool)) (row : List ℕ) (
   pub given : (n : ℕ) → First table n → row ≡ refusedRow n
   -- "Given exactly when"
   pub only : numberOf row ≢ 0 → First table (numberOf row)
+  -- "one of the numbered refusals"
+  pub numbered : numberOf row ≢ 0 → Numbered (numberOf row)
   -- "and the room, last reading included, stays as found"
   pub stays : numberOf row ≢ 0 → after ≡ before
 
@@ -80,7 +87,7 @@ found-in false b c e h = absurd (h e)
 -- a number that is met in a table from place k on stands there, and is one of the order
 pub record Within (k m : ℕ) : Type 0 where
   pub from : k ≤ place m
-  pub listed : place m < length order
+  pub listed : Numbered m
 
 order-in : (k : ℕ) (xs : List (ℕ × Bool)) → InOrder k xs → k < length order
 order-in k [] a = a
@@ -121,7 +128,7 @@ first-foremost k (x ∷ xs) m a e = go (x .1) e (first-foremost (place (x .0)) x
     go false p f = f (rw (and-no (eqb (x .0) m)) at p)
 
 -- a number of the order is above 0
-listed-positive : (n : ℕ) → place n < length order → n ≢ 0
+listed-positive : (n : ℕ) → Numbered n → n ≢ 0
 listed-positive n h z = omega (arith, ap place z, no-zero)
 
 pub first-is : (table : List (ℕ × Bool)) (n : ℕ) → InOrder 0 table → First table n → first table ≡ n
@@ -149,6 +156,7 @@ turned-by table row before after a f g h =
     record {
       given = λ n l. f (λ z. first-positive table n a l (sym (first-is table n a l) ∙ z)) ∙ ap refusedRow (first-is table n a l);
       only = λ z. subst (First table) (sym (ap numberOf (f (some z)))) (is-first table a (some z));
+      numbered = λ z. subst (λ n. Numbered n) (sym (ap numberOf (f (some z)))) (met-within 0 table (first table) a (first-met table (some z)) .listed);
       stays = λ z. h (some z);
     }
 
@@ -185,3 +193,12 @@ module _ {B : Type 0} (table : List (ℕ × Bool)) (a : InOrder 0 table) (row : 
 pub not-given : {B : Type 0} (table : List (ℕ × Bool)) (row : List ℕ) (before after : B) → TurnedBy table row before after →
     (n : ℕ) → n ≢ 0 → met table n ≡ false → numberOf row ≢ n
 not-given table row before after t n z m e = false≢true (sym m ∙ ap (met table) (sym e) ∙ t .only (λ y. z (sym e ∙ y)) .holds)
+
+-- nor one that is no refusal's number
+pub not-numbered : {B : Type 0} (table : List (ℕ × Bool)) (row : List ℕ) (before after : B) → TurnedBy table row before after →
+    (n : ℕ) → n ≢ 0 → (Numbered n → ⊥) → numberOf row ≢ n
+not-numbered table row before after t n z h e = h (subst (λ m. Numbered m) e (t .numbered (λ y. z (sym e ∙ y))))
+
+-- document 02, ticket 2: 13 is none
+pub no-13 : Numbered 13 → ⊥
+no-13 h = omega arith

@@ -64,18 +64,14 @@ absoluteInc s w t key rate count = refusals kind.Absolute s w t key (absolute.in
 abbrev pub plain : RoomKind → Settings → List ℕ → ℕ → List ℕ → List (ℕ × Bool)
 plain kind s w t key = refusals kind s w t key []
 
--- 8 to 13
+-- 8 to 12
 abbrev pub suppressedInc : Settings → List ℕ → ℕ → List ℕ → RateLimit → ℕ → ℕ → List (ℕ × Bool)
 suppressedInc s w t key rate count draw =
     refusals kind.Suppressed s w t key (suppressed.incTurns s (ringOf w) (noneFree w) t rate count draw (heldIn w key))
 
--- 13
-abbrev pub suppressedGet : Settings → List ℕ → ℕ → List ℕ → List (ℕ × Bool)
-suppressedGet s w t key = refusals kind.Suppressed s w t key (suppressed.getTurns s t (heldIn w key))
-
--- 11, 13
+-- 11
 abbrev pub suppressedFactor : Settings → List ℕ → ℕ → List ℕ → List (ℕ × Bool)
-suppressedFactor s w t key = refusals kind.Suppressed s w t key (suppressed.factorTurns s (noneFree w) t (heldIn w key))
+suppressedFactor s w t key = refusals kind.Suppressed s w t key (suppressed.factorTurns (noneFree w) (heldIn w key))
 
 -- 8
 abbrev pub setRate : RoomKind → Settings → List ℕ → ℕ → List ℕ → RateLimit → List (ℕ × Bool)
@@ -167,7 +163,7 @@ tableOf k s w t (Ops.inc key rate count) = absoluteInc s w t key rate count
 tableOf k s w t (Ops.isAllowed key) = plain kind.Absolute s w t key
 tableOf k s w t (Ops.get key) = plain kind.Absolute s w t key
 tableOf k s w t (Ops.draws key rate count draw) = suppressedInc s w t key rate count draw
-tableOf k s w t (Ops.snapshot key) = suppressedGet s w t key
+tableOf k s w t (Ops.snapshot key) = plain kind.Suppressed s w t key
 tableOf k s w t (Ops.getFactor key) = suppressedFactor s w t key
 tableOf k s w t (Ops.setRate key rate) = setRate k s w t key rate
 tableOf k s w t (Ops.set key rate comparator count mode) = sets k s w t key rate comparator count mode
@@ -180,10 +176,10 @@ each-turned : (k : RoomKind) (s : Settings) (w : List ℕ) (t : ℕ) (other : Li
     TurnedBy (bothTable k s w other t) (doneRow (cleanedBoth k s w other t stale .answer)) w (cleanedBoth k s w other t stale .words)
 each-turned kind.Absolute s w t other stale =
     let d = both-turned s w other t stale in
-    record { given = d .given; only = d .only; stays = λ z. ap (λ (p : List ℕ × List ℕ). p .0) (d .stays z) }
+    record { given = d .given; only = d .only; numbered = d .numbered; stays = λ z. ap (λ (p : List ℕ × List ℕ). p .0) (d .stays z) }
 each-turned kind.Suppressed s w t other stale =
     let d = both-turned s other w t stale in
-    record { given = d .given; only = d .only; stays = λ z. ap (λ (p : List ℕ × List ℕ). p .1) (d .stays z) }
+    record { given = d .given; only = d .only; numbered = d .numbered; stays = λ z. ap (λ (p : List ℕ × List ℕ). p .1) (d .stays z) }
 
 pub turned : (k : RoomKind) (s : Settings) (w : List ℕ) (t : ℕ) (op : Op k) → TurnedBy (tableOf k s w t op) (answerRow k s w t op) w (after k s w t op)
 unfolding faults misfits Clear.unclear Cleanup.misfits Cleanup.cleanup shared.rateTurns Absolute.inc Absolute.isAllowed Absolute.get Suppressed.inc
@@ -199,7 +195,7 @@ turned k s w t (Ops.get key) = judge-turned totalRow total.Refused (plain kind.A
 turned k s w t (Ops.draws key rate count draw) =
     judge-turned decisionRow decision.Refused (suppressedInc s w t key rate count draw) _ w _ refl (λ n. refl) (in-order s w t key rate count draw)
     (outcome-0 s t (suppressed.limitFor s rate (heldIn w key)) count draw (heldIn w key))
-turned k s w t (Ops.snapshot key) = judge-turned snapshotRow snapshot.Refused (suppressedGet s w t key) _ w _ refl (λ n. refl) (omega arith) refl
+turned k s w t (Ops.snapshot key) = judge-turned snapshotRow snapshot.Refused (plain kind.Suppressed s w t key) _ w _ refl (λ n. refl) (omega arith) refl
 turned k s w t (Ops.getFactor key) = judge-turned factorRow factor.Refused (suppressedFactor s w t key) _ w _ refl (λ n. refl) (omega arith) refl
 turned k s w t (Ops.setRate key rate) =
     judge-turned oldRateRow oldRate.Refused (setRate k s w t key rate) _ w _ refl (λ n. refl) (omega arith) (old-0 k s (heldIn w key))

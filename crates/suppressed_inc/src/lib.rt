@@ -74,12 +74,8 @@ pub fn inc(
     let limit = limit_for(settings, x, rate);
     let forecast = forecast_opened::forecast(x, count);
     let outcome = forecast_opened::decide(settings, room, x, limit, forecast, reading, count, draw);
-    let blind = outcome.blind;
     let caching = outcome.caching;
     let size = settings.bucket_size;
-    if blind {
-        return RateLimitDecision::Refused(13);
-    }
     let change = suppressed_edits::inc_change(x, limit, count, outcome.declined, caching);
     change::apply(room, at, key, size.0, reading, change);
     outcome.decision

@@ -38,12 +38,8 @@ pub fn get(settings: Settings, room: &mut [u64], reading: u64, key: &[u8]) -> Sn
         return SnapshotAnswer::Refused(code);
     }
     let asked = factor_opened::ask(settings, room, x, x.limit, reading);
-    let blind = asked.blind;
     let caching = asked.caching;
     let size = settings.bucket_size;
-    if blind {
-        return SnapshotAnswer::Refused(13);
-    }
     let snapshot = snapshot_of(x, asked.factor);
     change::apply(
         room,
@@ -76,12 +72,8 @@ pub fn get_suppression_factor(
         return FactorAnswer::Refused(11);
     }
     let asked = factor_opened::ask(settings, room, x, x.limit, reading);
-    let blind = asked.blind;
     let caching = asked.caching;
     let size = settings.bucket_size;
-    if blind {
-        return FactorAnswer::Refused(13);
-    }
     change::apply(
         room,
         at,

@@ -1,7 +1,7 @@
 -- The suppressed limiter's own calls: for every input the answer and the words after. Refusals and answers are document 01's rules on what the key holds; the
 -- words are told by the edits of the key's slot. s are the settings, w the room's words, t the reading.
 -- Assumes nothing.
-use mathlib.Core.List.{List}
+use mathlib.Core.List.{List, []}
 use Prim.Native.Nat.{ℕ}
 use Rattle.settings.specs.Settings.{bucketIn}
 use Rattle.answers.specs.declared.FactorAnswer.{FactorAnswer}
@@ -13,7 +13,7 @@ use Rattle.answers.specs.declared.SnapshotAnswer.the-variants as snapshot
 use Rattle.settings.specs.declared.Settings.{Settings}
 use Rattle.common.specs.declared.units.RateLimit.{RateLimit}
 use Rattle.rules.specs.declared.RoomKind.the-variants.{Suppressed}
-use Rattle.rules.specs.Suppressed.{limitFor, outcome, incTurns, snapshotOf, asking, getTurns, factorTurns}
+use Rattle.rules.specs.Suppressed.{limitFor, outcome, incTurns, snapshotOf, asking, factorTurns}
 use Rattle.room.specs.Room.{ringOf}
 use Rattle.change.specs.Words.{applied}
 use Rattle.judge.specs.Held.{heldIn, noneFree}
@@ -26,7 +26,7 @@ unfoldable pub get : Settings → List ℕ → ℕ → List ℕ → Verdict Snap
 get s w t key =
     let h = heldIn w key in
     let x = slotIn s w t key in
-    call snapshot.Refused Suppressed s w t key (getTurns s t h)
+    call snapshot.Refused Suppressed s w t key []
     (verdict (snapshot.Snapshot (snapshotOf s t h (asking s t h .factor)))
     (applied w (x .at) key (bucketIn s) t (getChange x (asking s t h .caching))))
 
@@ -34,7 +34,7 @@ unfoldable pub getFactor : Settings → List ℕ → ℕ → List ℕ → Verdic
 getFactor s w t key =
     let h = heldIn w key in
     let x = slotIn s w t key in
-    call factor.Refused Suppressed s w t key (factorTurns s (noneFree w) t h)
+    call factor.Refused Suppressed s w t key (factorTurns (noneFree w) h)
     (verdict (factor.Factor (asking s t h .factor)) (applied w (placeOf w x) key (bucketIn s) t (factorChange x (asking s t h .caching) t)))
 
 -- by c at rate

@@ -1,14 +1,13 @@
 -- What the code of the calls has found, turned into what the calls are to answer; and that their changes can be carried out.
 -- Assumes nothing.
 use mathlib.Core.Path.{_≡_, refl, sym, ap, ap₂, subst, _∙_}
-use mathlib.Core.Bool.{Bool, true, false, not, _&&_, _||_, cond, false≢true}
-use mathlib.Core.List.{List, [], _∷_, _++_}
+use mathlib.Core.Bool.{Bool, true, false, _||_, cond}
+use mathlib.Core.List.{List, []}
 use Prim.Native.Nat.{ℕ, _+_, _≤_, _<_}
 use native.Mathlib.Omega.{arith}
-use lib.Dec.{leb, ltb, eqb}
 use lib.ListN.{length, drop}
 use borrow.Author.Tests.{ltb-false, leb-false}
-use Rattle.common.specs.Refusals.{first, Positive, AllFalse, first-found, first-none, all-false}
+use Rattle.common.specs.Refusals.{first, Positive, AllFalse, all-false}
 use Rattle.settings.specs.Settings.{bucketIn}
 use Rattle.answers.specs.declared.FactorAnswer.the-variants as factor
 use Rattle.answers.specs.declared.RateLimitDecision.the-variants as decision
@@ -16,7 +15,6 @@ use Rattle.answers.specs.declared.SnapshotAnswer.the-variants as snapshot
 use Rattle.answers.specs.declared.SuppressedRateLimitSnapshot.{SuppressedRateLimitSnapshot}
 use Rattle.settings.specs.declared.Settings.{Settings}
 use Rattle.common.specs.declared.units.RateLimit.{RateLimit}
-use Rattle.rules.specs.Buckets.{joins}
 use Rattle.layout.specs.Layout.{mostTotal}
 use Rattle.ring.specs.Ring.{countOf, buckets}
 use Rattle.ring.specs.Sums.{sum-none}
@@ -48,30 +46,10 @@ use Rattle.forecast_opened.specs.Forecast.{forecastAt, outcomeAt, outcome-decli
 use Rattle.suppressed_edits.specs.Edits.{factorAfter, timeAfter, useAfter, recached, getChange, loneBy, loneChange, factorChange, incEdit, incChange}
 use Rattle.suppressed_refusals.specs.Refusals.{incLate}
 use Rattle.suppressed_verdicts.specs.Calls as Calls
-use Rattle.suppressed_verdicts.specs.Opened.{unperceived, askingAt, snapshotAt, getOwn, getDoes, getOn, get, factorOwn, factorDoes, factorOn, getFactor}
+use Rattle.suppressed_verdicts.specs.Opened.{askingAt, snapshotAt, getDoes, getOn, get, factorOwn, factorDoes, factorOn, getFactor}
 use Rattle.suppressed_verdicts.specs.Opened.{limitAt, incOwn, incDoes, incOn, incOutcome, inc}
 use Rattle.suppressed_verdicts.specs.Seen.{get-opened, factor-opened, inc-opened}
-use Rattle.suppressed_verdicts.specs.Standing.{known, unperceived-is, place-inside}
-
--- ---- lists of one more refusal
-
-one-more : (z : Bool) → z ≡ true → 13 ≡ first ((13, z) ∷ [])
-unfolding first
-one-more z e = sym (rw e)
-
-no-more : (z : Bool) → z ≡ false → first ((13, z) ∷ []) ≡ 0
-unfolding first
-no-more z e = rw e
-
-module _ (xs : List (ℕ × Bool)) (p : Positive xs) (z : Bool) where
-  found-late : (n : ℕ) → n ≡ first xs → (n ≡ 0 → ⊥) → n ≡ first (xs ++ ((13, z) ∷ []))
-  found-late n e h = e ∙ sym (first-found xs ((13, z) ∷ []) (λ f. h (e ∙ f)))
-
-  found-blind : first xs ≡ 0 → z ≡ true → 13 ≡ first (xs ++ ((13, z) ∷ []))
-  found-blind e h = one-more z h ∙ sym (first-none xs ((13, z) ∷ []) p e)
-
-  found-none : first xs ≡ 0 → z ≡ false → first (xs ++ ((13, z) ∷ [])) ≡ 0
-  found-none e h = first-none xs ((13, z) ∷ []) p e ∙ no-more z h
+use Rattle.suppressed_verdicts.specs.Standing.{known, place-inside}
 
 -- ---- edits that can be carried out
 
@@ -129,30 +107,22 @@ module _ (s : Settings) (w : List ℕ) (t : ℕ) (key : List ℕ) (e : early kin
   known-place h = subst (λ (n : ℕ). Known kind.Suppressed s w t n x) (sym (place-used (with-series h))) (known s w t key passing x p h)
 
   -- the factor that the code has worked out is the one that is asked for
-  asked-is : (a : Asked) → a ≡ askedAt s w t x (x .limit) (eqb (x .pass .«live_total») 0) → a ≡ askingAt s w t (slotIn s w t key)
-  asked-is a h =
-      h ∙ ap (askedAt s w t x (x .limit)) (sym (unperceived-is s w t key passing x p)) ∙ ap (λ (y : Slot). askingAt s w t y) p
+  asked-is : (a : Asked) → a ≡ askedAt s w t x (x .limit) → a ≡ askingAt s w t (slotIn s w t key)
+  asked-is a h = h ∙ ap (λ (y : Slot). askingAt s w t y) p
 
   -- ---- get
-  get-is : (a : Asked) → a ≡ askedAt s w t x (x .limit) (eqb (x .pass .«live_total») 0) → get s w t key ≡ getOn s w t key x a
+  get-is : (a : Asked) → a ≡ askedAt s w t x (x .limit) → get s w t key ≡ getOn s w t key x a
   unfolding get
   get-is a h = sym (ap₂ (λ (y : Slot) (b : Asked). getOn s w t key y b) p (asked-is a h))
 
-  pub get-blind : (a : Asked) → a ≡ askedAt s w t x (x .limit) (eqb (x .pass .«live_total») 0) → a .blind ≡ true →
-      Told (Calls.get s w t key) (snapshot.Refused 13) w
-  unfolding getOn
-  get-blind a h b =
-      rw (← get-opened s w t key, get-is a h)
-      (call-own snapshot.Refused kind.Suppressed s w t key (getOwn a) (getDoes s w t key x a) 13 e (one-more (a .blind) b) (λ z. omega arith))
-
   -- y are the words after, u the snapshot
-  pub get-done : (a : Asked) → a ≡ askedAt s w t x (x .limit) (eqb (x .pass .«live_total») 0) → a .blind ≡ false →
+  pub get-done : (a : Asked) → a ≡ askedAt s w t x (x .limit) →
       (u : SuppressedRateLimitSnapshot) (ch : Change) (y : List ℕ) → u ≡ snapshotAt x (a .factor) → ch ≡ getChange x (a .caching) →
       y ≡ applied w (x .at) key (bucketIn s) t ch → Told (Calls.get s w t key) (snapshot.Snapshot u) y
-  unfolding getOn
-  get-done a h b u ch y g k q =
+  unfolding getOn first
+  get-done a h u ch y g k q =
       rw (← get-opened s w t key, get-is a h)
-      (call-done snapshot.Refused kind.Suppressed s w t key (getOwn a) (getDoes s w t key x a) (snapshot.Snapshot u) y e (no-more (a .blind) b)
+      (call-done snapshot.Refused kind.Suppressed s w t key [] (getDoes s w t key x a) (snapshot.Snapshot u) y e refl
       (record { answer = ap (λ (z : SuppressedRateLimitSnapshot). snapshot.Snapshot z) g; words = q ∙ ap (applied w (x .at) key (bucketIn s) t) k }))
 
   get-by : (k : Caching) (z : Bool) → x .series ≡ z → Applies w (x .at) (bucketIn s) t (cond z (Update (recached x k (evicting x Nothing))) Keep)
@@ -167,7 +137,7 @@ module _ (s : Settings) (w : List ℕ) (t : ℕ) (key : List ℕ) (e : early kin
   get-applies k ch h = subst (λ (d : Change). Applies w (x .at) (bucketIn s) t d) (sym h) (get-carries k)
 
   -- ---- get_suppression_factor
-  factor-is : (a : Asked) → a ≡ askedAt s w t x (x .limit) (eqb (x .pass .«live_total») 0) → getFactor s w t key ≡ factorOn s w t key x a
+  factor-is : (a : Asked) → a ≡ askedAt s w t x (x .limit) → getFactor s w t key ≡ factorOn s w t key x a
   unfolding getFactor
   factor-is a h = sym (ap₂ (λ (y : Slot) (b : Asked). factorOn s w t key y b) p (asked-is a h))
 
@@ -179,24 +149,17 @@ module _ (s : Settings) (w : List ℕ) (t : ℕ) (key : List ℕ) (e : early kin
     pub factor-full : full ≡ true → Told (Calls.getFactor s w t key) (factor.Refused 11) w
     unfolding factorOn first
     factor-full f =
-        let a : Asked = askedAt s w t x (x .limit) (eqb (x .pass .«live_total») 0) in
+        let a : Asked = askedAt s w t x (x .limit) in
         rw (← factor-opened s w t key, factor-is a refl)
-        (call-own factor.Refused kind.Suppressed s w t key (factorOwn w x a) (factorDoes s w t key x a) 11 e (sym (rw (full-is, f))) (λ z. omega arith))
+        (call-own factor.Refused kind.Suppressed s w t key (factorOwn w x) (factorDoes s w t key x a) 11 e (sym (rw (full-is, f))) (λ z. omega arith))
 
-    pub factor-blind : full ≡ false → (a : Asked) → a ≡ askedAt s w t x (x .limit) (eqb (x .pass .«live_total») 0) → a .blind ≡ true →
-        Told (Calls.getFactor s w t key) (factor.Refused 13) w
-    unfolding factorOn first
-    factor-blind f a h b =
-        rw (← factor-opened s w t key, factor-is a h)
-        (call-own factor.Refused kind.Suppressed s w t key (factorOwn w x a) (factorDoes s w t key x a) 13 e (sym (rw (full-is, f, b))) (λ z. omega arith))
-
-    pub factor-done : full ≡ false → (a : Asked) → a ≡ askedAt s w t x (x .limit) (eqb (x .pass .«live_total») 0) → a .blind ≡ false →
+    pub factor-done : full ≡ false → (a : Asked) → a ≡ askedAt s w t x (x .limit) →
         (ch : Change) (y : List ℕ) → ch ≡ factorChange x (a .caching) t → y ≡ applied w at key (bucketIn s) t ch →
         Told (Calls.getFactor s w t key) (factor.Factor (a .factor)) y
     unfolding factorOn first
-    factor-done f a h b ch y k q =
+    factor-done f a h ch y k q =
         rw (← factor-opened s w t key, factor-is a h)
-        (call-done factor.Refused kind.Suppressed s w t key (factorOwn w x a) (factorDoes s w t key x a) (factor.Factor (a .factor)) y e (rw (full-is, f, b))
+        (call-done factor.Refused kind.Suppressed s w t key (factorOwn w x) (factorDoes s w t key x a) (factor.Factor (a .factor)) y e (rw (full-is, f))
         (record { answer = refl; words = q ∙ ap₂ (λ (i : ℕ) (d : Change). applied w i key (bucketIn s) t d) m k }))
 
     inside : full ≡ false → placeOf w x < slotsOf w
@@ -232,20 +195,17 @@ module _ (s : Settings) (w : List ℕ) (t : ℕ) (key : List ℕ) (e : early kin
       late-is : late ≡ first (incLate s x (lacksAt w (placeOf w x) x) (ringOf w) t rate c draw)
       late-is = l ∙ ap₂ (λ (b : Bool) (j : ℕ). first (incLate s x b j t rate c draw)) (sym full-is) i
 
-      inc-is : (o : Outcome) → o ≡ incOutcome s w t rate c draw x (eqb (x .pass .«live_total») 0) → inc s w t key rate c draw ≡ incOn s w t key rate c draw x o
+      inc-is : (o : Outcome) → o ≡ incOutcome s w t rate c draw x → inc s w t key rate c draw ≡ incOn s w t key rate c draw x o
       unfolding inc
       inc-is o h =
-          sym (ap₂ (λ (y : Slot) (b : Outcome). incOn s w t key rate c draw y b) p
-          (h ∙ ap (incOutcome s w t rate c draw x) (sym (unperceived-is s w t key passing x p)) ∙
-          ap (λ (y : Slot). incOutcome s w t rate c draw y (unperceived s w t y)) p))
+          sym (ap₂ (λ (y : Slot) (b : Outcome). incOn s w t key rate c draw y b) p (h ∙ ap (λ (y : Slot). incOutcome s w t rate c draw y) p))
 
       pub inc-late : (late ≡ 0 → ⊥) → Told (Calls.inc s w t key rate c draw) (decision.Refused late) w
       unfolding incOn
       inc-late z =
-          let o : Outcome = incOutcome s w t rate c draw x (eqb (x .pass .«live_total») 0) in
+          let o : Outcome = incOutcome s w t rate c draw x in
           rw (← inc-opened s w t key rate c draw, inc-is o refl)
-          (call-own decision.Refused kind.Suppressed s w t key (incOwn s w t rate c draw x o) (incDoes s w t key rate c x o) late e
-          (found-late (incLate s x (lacksAt w (placeOf w x) x) (ringOf w) t rate c draw) late-positive (o .blind) late late-is z) z)
+          (call-own decision.Refused kind.Suppressed s w t key (incOwn s w t rate c draw x) (incDoes s w t key rate c x o) late e late-is z)
 
       module _ (f : late ≡ 0) where
         none-late : AllFalse (incLate s x (lacksAt w (placeOf w x) x) (ringOf w) t rate c draw)
@@ -274,27 +234,20 @@ module _ (s : Settings) (w : List ℕ) (t : ℕ) (key : List ℕ) (e : early kin
 
         -- o is the outcome that the code has found, at the limit and the forecast that it has worked out
         module _ (o : Outcome) (limit ahead : ℕ) (a : limit ≡ limitAt s x rate) (b : ahead ≡ forecastAt x c)
-            (h : o ≡ outcomeAt s w t x limit (eqb (x .pass .«live_total») 0) ahead c draw) where
-          outcome-is : o ≡ incOutcome s w t rate c draw x (eqb (x .pass .«live_total») 0)
-          outcome-is = h ∙ ap₂ (λ (y z : ℕ). outcomeAt s w t x y (eqb (x .pass .«live_total») 0) z c draw) a b
+            (h : o ≡ outcomeAt s w t x limit ahead c draw) where
+          outcome-is : o ≡ incOutcome s w t rate c draw x
+          outcome-is = h ∙ ap₂ (λ (y z : ℕ). outcomeAt s w t x y z c draw) a b
 
           declined-le : o .declined ≤ c
-          declined-le = subst (λ (y : Outcome). y .declined ≤ c) (sym h) (outcome-declined s w t x limit (eqb (x .pass .«live_total») 0) ahead c draw)
+          declined-le = subst (λ (y : Outcome). y .declined ≤ c) (sym h) (outcome-declined s w t x limit ahead c draw)
 
-          pub inc-blind : o .blind ≡ true → Told (Calls.inc s w t key rate c draw) (decision.Refused 13) w
-          unfolding incOn
-          inc-blind z =
-              rw (← inc-opened s w t key rate c draw, inc-is o outcome-is)
-              (call-own decision.Refused kind.Suppressed s w t key (incOwn s w t rate c draw x o) (incDoes s w t key rate c x o) 13 e
-              (found-blind (incLate s x (lacksAt w (placeOf w x) x) (ringOf w) t rate c draw) late-positive (o .blind) (sym late-is ∙ f) z) (λ j. omega arith))
-
-          pub inc-done : o .blind ≡ false → (ch : Change) (y : List ℕ) → ch ≡ incChange x limit c (o .declined) (o .caching) →
+          pub inc-done : (ch : Change) (y : List ℕ) → ch ≡ incChange x limit c (o .declined) (o .caching) →
               y ≡ applied w at key (bucketIn s) t ch → Told (Calls.inc s w t key rate c draw) (o .decision) y
           unfolding incOn
-          inc-done z ch y k q =
+          inc-done ch y k q =
               rw (← inc-opened s w t key rate c draw, inc-is o outcome-is)
-              (call-done decision.Refused kind.Suppressed s w t key (incOwn s w t rate c draw x o) (incDoes s w t key rate c x o) (o .decision) y e
-              (found-none (incLate s x (lacksAt w (placeOf w x) x) (ringOf w) t rate c draw) late-positive (o .blind) (sym late-is ∙ f) z)
+              (call-done decision.Refused kind.Suppressed s w t key (incOwn s w t rate c draw x) (incDoes s w t key rate c x o) (o .decision) y e
+              (sym late-is ∙ f)
               (record {
                 answer = refl;
                 words = q ∙ ap₂ (λ (j : ℕ) (d : Change). applied w j key (bucketIn s) t d) m

@@ -2,10 +2,9 @@
 -- `factor-opened`, `inc-opened` in `Seen.antt`), and no contract names them.
 -- Assumes nothing.
 use mathlib.Core.Bool.{Bool, cond}
-use mathlib.Core.List.{List, [], _∷_, _++_}
+use mathlib.Core.List.{List, [], _∷_}
 use Prim.Native.Nat.{ℕ}
 use lib.Ieee.{Float}
-use Rattle.suppression.specs.Factor.{perceivesNothing}
 use Rattle.answers.specs.HistoryMode.{noSnapshot}
 use Rattle.common.specs.Limits.{hardWord}
 use Rattle.settings.specs.Settings.{windowIn, bucketIn, factorIn}
@@ -26,19 +25,15 @@ use Rattle.judge.specs.Judge.{slotIn}
 use Rattle.change.specs.Words.{applied}
 use Rattle.rules.specs.declared.Asked.{Asked}
 use Rattle.rules.specs.declared.Outcome.{Outcome}
-use Rattle.factor_opened.specs.Opened.{secondAt, askedAt}
+use Rattle.factor_opened.specs.Opened.{askedAt}
 use Rattle.forecast_opened.specs.Forecast.{forecastAt, outcomeAt}
 use Rattle.suppressed_edits.specs.Edits.{getChange, factorChange, incChange}
 use Rattle.plan.specs.Plan.{placeOf, lacksAt}
 use Rattle.suppressed_refusals.specs.Refusals.{incLate}
 
--- whether the perceived rate is zero
-abbrev pub unperceived : Settings → List ℕ → ℕ → Slot → Bool
-unperceived s w t x = perceivesNothing (x .pass .«live_total») (windowIn s) (secondAt w t x)
-
 -- the factor of the slot as it stands
 abbrev pub askingAt : Settings → List ℕ → ℕ → Slot → Asked
-askingAt s w t x = askedAt s w t x (x .limit) (unperceived s w t x)
+askingAt s w t x = askedAt s w t x (x .limit)
 
 -- ---- get
 
@@ -47,30 +42,26 @@ abbrev pub snapshotAt : Slot → Float → SuppressedRateLimitSnapshot
 snapshotAt x f =
     cond (x .series) (record { total = x .pass .«live_total»; «total_declined» = x .pass .«live_declined»; «suppression_factor» = f }) noSnapshot
 
--- 13: "a factor is worked out at perceived rate zero"
-abbrev pub getOwn : Asked → List (ℕ × Bool)
-getOwn a = (13, a .blind) ∷ []
-
 abbrev pub getDoes : Settings → List ℕ → ℕ → List ℕ → Slot → Asked → Verdict SnapshotAnswer
 getDoes s w t key x a = verdict (snapshot.Snapshot (snapshotAt x (a .factor))) (applied w (x .at) key (bucketIn s) t (getChange x (a .caching)))
 
 unfoldable pub getOn : Settings → List ℕ → ℕ → List ℕ → Slot → Asked → Verdict SnapshotAnswer
-getOn s w t key x a = call snapshot.Refused kind.Suppressed s w t key (getOwn a) (getDoes s w t key x a)
+getOn s w t key x a = call snapshot.Refused kind.Suppressed s w t key [] (getDoes s w t key x a)
 
 unfoldable pub get : Settings → List ℕ → ℕ → List ℕ → Verdict SnapshotAnswer
 get s w t key = getOn s w t key (slotIn s w t key) (askingAt s w t (slotIn s w t key))
 
 -- ---- get_suppression_factor
 
--- 11: "a slot is needed and none is free"; 13
-abbrev pub factorOwn : List ℕ → Slot → Asked → List (ℕ × Bool)
-factorOwn w x a = (11, lacksAt w (placeOf w x) x) ∷ (13, a .blind) ∷ []
+-- 11: "a slot is needed and none is free"
+abbrev pub factorOwn : List ℕ → Slot → List (ℕ × Bool)
+factorOwn w x = (11, lacksAt w (placeOf w x) x) ∷ []
 
 abbrev pub factorDoes : Settings → List ℕ → ℕ → List ℕ → Slot → Asked → Verdict FactorAnswer
 factorDoes s w t key x a = verdict (factor.Factor (a .factor)) (applied w (placeOf w x) key (bucketIn s) t (factorChange x (a .caching) t))
 
 unfoldable pub factorOn : Settings → List ℕ → ℕ → List ℕ → Slot → Asked → Verdict FactorAnswer
-factorOn s w t key x a = call factor.Refused kind.Suppressed s w t key (factorOwn w x a) (factorDoes s w t key x a)
+factorOn s w t key x a = call factor.Refused kind.Suppressed s w t key (factorOwn w x) (factorDoes s w t key x a)
 
 unfoldable pub getFactor : Settings → List ℕ → ℕ → List ℕ → Verdict FactorAnswer
 getFactor s w t key = factorOn s w t key (slotIn s w t key) (askingAt s w t (slotIn s w t key))
@@ -81,21 +72,20 @@ getFactor s w t key = factorOn s w t key (slotIn s w t key) (askingAt s w t (slo
 unfoldable pub limitAt : Settings → Slot → RateLimit → ℕ
 limitAt s x rate = cond (x .series) (x .limit) (hardWord (rate .0) (factorIn s) (windowIn s))
 
--- what an increment decides; z says whether the perceived rate is zero
-abbrev pub incOutcome : Settings → List ℕ → ℕ → RateLimit → ℕ → ℕ → Slot → Bool → Outcome
-incOutcome s w t rate c draw x z = outcomeAt s w t x (limitAt s x rate) z (forecastAt x c) c draw
+-- what an increment decides
+abbrev pub incOutcome : Settings → List ℕ → ℕ → RateLimit → ℕ → ℕ → Slot → Outcome
+incOutcome s w t rate c draw x = outcomeAt s w t x (limitAt s x rate) (forecastAt x c) c draw
 
--- 8 to 12, then 13
-abbrev pub incOwn : Settings → List ℕ → ℕ → RateLimit → ℕ → ℕ → Slot → Outcome → List (ℕ × Bool)
-incOwn s w t rate c draw x o = incLate s x (lacksAt w (placeOf w x) x) (ringOf w) t rate c draw ++ ((13, o .blind) ∷ [])
+-- 8 to 12
+abbrev pub incOwn : Settings → List ℕ → ℕ → RateLimit → ℕ → ℕ → Slot → List (ℕ × Bool)
+incOwn s w t rate c draw x = incLate s x (lacksAt w (placeOf w x) x) (ringOf w) t rate c draw
 
 abbrev pub incDoes : Settings → List ℕ → ℕ → List ℕ → RateLimit → ℕ → Slot → Outcome → Verdict RateLimitDecision
 incDoes s w t key rate c x o =
     verdict (o .decision) (applied w (placeOf w x) key (bucketIn s) t (incChange x (limitAt s x rate) c (o .declined) (o .caching)))
 
 unfoldable pub incOn : Settings → List ℕ → ℕ → List ℕ → RateLimit → ℕ → ℕ → Slot → Outcome → Verdict RateLimitDecision
-incOn s w t key rate c draw x o = call decision.Refused kind.Suppressed s w t key (incOwn s w t rate c draw x o) (incDoes s w t key rate c x o)
+incOn s w t key rate c draw x o = call decision.Refused kind.Suppressed s w t key (incOwn s w t rate c draw x) (incDoes s w t key rate c x o)
 
 unfoldable pub inc : Settings → List ℕ → ℕ → List ℕ → RateLimit → ℕ → ℕ → Verdict RateLimitDecision
-inc s w t key rate c draw = incOn s w t key rate c draw (slotIn s w t key)
-    (incOutcome s w t rate c draw (slotIn s w t key) (unperceived s w t (slotIn s w t key)))
+inc s w t key rate c draw = incOn s w t key rate c draw (slotIn s w t key) (incOutcome s w t rate c draw (slotIn s w t key))

@@ -2,14 +2,13 @@
 -- Assumes nothing.
 use mathlib.Core.Path.{_≡_, refl, sym, ap, ap₂, _∙_}
 use mathlib.Core.Bool.{Bool, true, false, not, _&&_, _||_, cond, false≢true}
-use mathlib.Core.List.{List, [], _∷_, _++_}
+use mathlib.Core.List.{List, [], _∷_}
 use Prim.Native.Nat.{ℕ, _+_, _-_}
 use native.Mathlib.Omega.{arith}
 use lib.Dec.{ltb, eqb}
 use lib.Ieee.{Float}
 use lib.ListN.{length, drop, length-drop}
 use borrow.Author.Tests.{eq-eqb}
-use Rattle.suppression.specs.Factor.{perceivesNothing}
 use Rattle.answers.specs.HistoryMode.{noSnapshot}
 use Rattle.common.specs.Limits.{cutWord, softWord}
 use Rattle.common.specs.Ranges.{nil}
@@ -45,18 +44,18 @@ use Rattle.forecast_opened.specs.Forecast.{forecastAt, outcomeAt}
 use Rattle.suppressed_edits.specs.Edits.{getChange, factorChange, incChange}
 use Rattle.suppressed_refusals.specs.Refusals.{incNumbers, incLate}
 use Rattle.suppressed_verdicts.specs.Calls as Calls
-use Rattle.suppressed_verdicts.specs.Opened.{unperceived, askingAt, snapshotAt, getOwn, getDoes, getOn, get, factorOwn, factorDoes, factorOn, getFactor}
-use Rattle.suppressed_verdicts.specs.Opened.{limitAt, incOutcome, incOwn, incDoes, incOn, inc}
+use Rattle.suppressed_verdicts.specs.Opened.{askingAt, snapshotAt, getOn, get, factorOn, getFactor}
+use Rattle.suppressed_verdicts.specs.Opened.{limitAt, incOutcome, incOn, inc}
 
 -- ---- "no series or no bucket 0", whatever the limits
 
 abbrev nilAsked : ℕ → Asked
-nilAsked t = record { blind = false; factor = nil; caching = Cached (rules.cachedAt nil t) }
+nilAsked t = record { factor = nil; caching = Cached (rules.cachedAt nil t) }
 
 fresh-none : (S H W t : ℕ) (xs : List Bucket) → length xs ≡ 0 → rules.freshOn S H W t xs ≡ nilAsked t
 fresh-none S H W t xs e =
     let worked = rules.clauses S H false (counts xs) (declineds xs) in
-    ap (λ (b : Bool). rules.freshly (cond b Nil worked) (perceivesNothing (counts xs) W (lastSecond t xs)) S W t (counts xs) (lastSecond t xs))
+    ap (λ (b : Bool). rules.freshly (cond b Nil worked) S W t (counts xs) (lastSecond t xs))
     (eq-eqb (length xs) 0 e)
 
 none-counted : (t : ℕ) (xs : List Bucket) → length xs ≡ 0 → lastSecond t xs ≡ 0
@@ -145,32 +144,27 @@ module _ (s : Settings) (t : ℕ) (h : Held) (x : Slot) (o : Seen (windowIn s) t
 
   -- of a room w whose last second is that of the live buckets
   module _ (w : List ℕ) (second : secondAt w t x ≡ lastSecond t (liveOf s t h)) where
-    nothing-seen : unperceived s w t x ≡ perceivesNothing (counts (liveOf s t h)) (windowIn s) (lastSecond t (liveOf s t h))
-    nothing-seen = ap₂ (λ (m n : ℕ). perceivesNothing m (windowIn s) n) (o .live-is) second
-
     worked-is : (limit : ℕ) →
-        workedAt (factorIn s) (windowIn s) w t x limit (unperceived s w t x) ≡
-        rules.freshOn (softWord (factorIn s) limit) (cutWord limit) (windowIn s) t (liveOf s t h)
+        workedAt (factorIn s) (windowIn s) w t x limit ≡ rules.freshOn (softWord (factorIn s) limit) (cutWord limit) (windowIn s) t (liveOf s t h)
     unfolding workedAt
     worked-is limit =
         let S = softWord (factorIn s) limit in
         let H = cutWord limit in
-        ap₂ (λ (r : FactorRule) (z : Bool). rules.freshly r z S (windowIn s) t (x .pass .«live_total») (secondAt w t x)) (rule-is S H) nothing-seen ∙
-        ap₂ (λ (m n : ℕ). rules.freshly (rules.ruleOn S H xs) (perceivesNothing (counts xs) (windowIn s) (lastSecond t xs)) S (windowIn s) t m n) (o .live-is)
-        second
+        ap (λ (r : FactorRule). rules.freshly r S (windowIn s) t (x .pass .«live_total») (secondAt w t x)) (rule-is S H) ∙
+        ap₂ (λ (m n : ℕ). rules.freshly (rules.ruleOn S H xs) S (windowIn s) t m n) (o .live-is) second
 
-    pub asked-is : (limit : ℕ) → askedAt s w t x limit (unperceived s w t x) ≡ rules.asked s t limit h
+    pub asked-is : (limit : ℕ) → askedAt s w t x limit ≡ rules.asked s t limit h
     unfolding askedAt rules.asked
     asked-is limit =
         let fresh = rules.freshOn (softWord (factorIn s) limit) (cutWord limit) (windowIn s) t xs in
         ap₂ (λ (u : Bool) (a : Asked). cond u (rules.asCached (x .factor)) a) usable-is (worked-is limit) ∙ asked-by (rules.usable s t h) refl fresh
 
-    pub outcome-is : (limit c draw : ℕ) → outcomeAt s w t x limit (unperceived s w t x) (forecastAt x c) c draw ≡ rules.outcome s t limit c draw h
+    pub outcome-is : (limit c draw : ℕ) → outcomeAt s w t x limit (forecastAt x c) c draw ≡ rules.outcome s t limit c draw h
     unfolding outcomeAt rules.outcome
     outcome-is limit c draw =
         let S = softWord (factorIn s) limit in
         let H = cutWord limit in
-        ap₂ (λ (m n : ℕ). rules.outcomeOf (rules.reachOf (m - n + c) S H) (askedAt s w t x limit (unperceived s w t x)) t c draw) (o .live-is)
+        ap₂ (λ (m n : ℕ). rules.outcomeOf (rules.reachOf (m - n + c) S H) (askedAt s w t x limit) t c draw) (o .live-is)
         (o .declined-is) ∙
         ap (λ (a : Asked). rules.outcomeOf (rules.reachOf (rules.forecast xs c) S H) a t c draw) (asked-is limit)
 
@@ -180,7 +174,7 @@ module _ (s : Settings) (t : ℕ) (h : Held) (x : Slot) (o : Seen (windowIn s) t
     asking-is = go (h .known) refl
       where
         go : (z : Bool) → h .known ≡ z → askingAt s w t x ≡ rules.asking s t h
-        go true e = ap (λ (n : ℕ). askedAt s w t x n (unperceived s w t x)) (o .limit-is e) ∙ asked-is (h .limit)
+        go true e = ap (λ (n : ℕ). askedAt s w t x n) (o .limit-is e) ∙ asked-is (h .limit)
         go false e = asked-is (x .limit) ∙ any-limit (x .limit) ∙ sym (any-limit (h .limit))
           where
             any-limit : (n : ℕ) → rules.asked s t n h ≡ cond (rules.usable s t h) (rules.asCached (h .factor)) (nilAsked t)
@@ -222,7 +216,7 @@ module _ (s : Settings) (w : List ℕ) (t : ℕ) (key : List ℕ) where
       (λ p.
       let a = asking-is s t h x (sees p) w (second-is p) in
       record {
-        owns = ap (λ (y : Asked). getOwn y) a;
+        owns = refl;
         answers =
             ap (λ (y : Asked). snapshot.Snapshot (snapshotAt x (y .factor))) a ∙
             ap (λ (y : SuppressedRateLimitSnapshot). snapshot.Snapshot y) (snapshot-is s t h x (sees p) (rules.asking s t h .factor));
@@ -236,16 +230,16 @@ module _ (s : Settings) (w : List ℕ) (t : ℕ) (key : List ℕ) where
       (λ p.
       let a = asking-is s t h x (sees p) w (second-is p) in
       record {
-        owns = ap₂ (λ (z : Bool) (y : Asked). (11, z) ∷ (13, y .blind) ∷ []) (lacks-is (windowIn s) t h x (sees p) w) a;
+        owns = ap (λ (z : Bool). (11, z) ∷ []) (lacks-is (windowIn s) t h x (sees p) w);
         answers = ap (λ (y : Asked). factor.Factor (y .factor)) a;
         wordings = ap (λ (y : Asked). applied w (placeOf w x) key (bucketIn s) t (factorChange x (y .caching) t)) a;
       })
 
   module _ (rate : RateLimit) (c draw : ℕ) where
-    pub decides : (p : Passed Suppressed s w t key) → incOutcome s w t rate c draw (slotIn s w t key) (unperceived s w t (slotIn s w t key)) ≡
+    pub decides : (p : Passed Suppressed s w t key) → incOutcome s w t rate c draw (slotIn s w t key) ≡
         rules.outcome s t (rules.limitFor s rate (heldIn w key)) c draw (heldIn w key)
     decides p =
-        ap (λ (l : ℕ). outcomeAt s w t x l (unperceived s w t x) (forecastAt x c) c draw) (limit-is s t h x (sees p) rate) ∙
+        ap (λ (l : ℕ). outcomeAt s w t x l (forecastAt x c) c draw) (limit-is s t h x (sees p) rate) ∙
         outcome-is s t h x (sees p) w (second-is p) (rules.limitFor s rate h) c draw
 
     -- 8 to 12, as the code judges them
@@ -261,17 +255,12 @@ module _ (s : Settings) (w : List ℕ) (t : ℕ) (key : List ℕ) where
         (ap (passes c) (o .live-is)) (lacks-is (windowIn s) t h x o w) ∙
         ap (incNumbers (unrated rate) (ltb rules.mostDraw draw) (passes c (counts (liveOf s t h))) (lacksSlot (noneFree w) h)) full
 
-    owns-is : (p : Passed Suppressed s w t key) → incOwn s w t rate c draw (slotIn s w t key)
-        (incOutcome s w t rate c draw (slotIn s w t key) (unperceived s w t (slotIn s w t key))) ≡
-        rules.incTurns s (ringOf w) (noneFree w) t rate c draw (heldIn w key)
-    owns-is p = ap₂ (λ (l : List (ℕ × Bool)) (z : Bool). l ++ ((13, z) ∷ [])) (late-is p) (ap (λ (y : Outcome). y .blind) (decides p))
-
     pub inc-opened : inc s w t key rate c draw ≡ Calls.inc s w t key rate c draw
     unfolding inc incOn Calls.inc
     inc-opened =
         call-alike decision.Refused Suppressed s w t key _ _ _ _
         (λ p. record {
-          owns = owns-is p;
+          owns = late-is p;
           answers = ap (λ (y : Outcome). y .decision) (decides p);
           wordings =
               ap₂ (λ (l : ℕ) (y : Outcome). applied w (placeOf w x) key (bucketIn s) t (incChange x l c (y .declined) (y .caching)))

@@ -2,24 +2,23 @@
 -- Assumes nothing.
 use mathlib.Core.Path.{_≡_, refl, sym, ap, ap₂, subst, _∙_}
 use mathlib.Core.Bool.{Bool, true, false, not, _&&_, _||_, cond, false≢true}
-use mathlib.Core.List.{List, [], _∷_}
-use Prim.Native.Nat.{ℕ, suc, _+_, _-_, _^_, _≤_, _<_}
+use mathlib.Core.List.{List}
+use Prim.Native.Nat.{ℕ, _-_, _^_, _≤_, _<_}
 use native.Mathlib.Decide.{decLt}
 use native.Mathlib.Omega.{arith}
-use lib.Dec.{ltb, leb, eqb}
-use lib.ListN.{length, drop, length-drop}
+use lib.Dec.{leb}
+use lib.ListN.{drop}
 use borrow.Author.Tests.{leb-false}
-use Rattle.common_laws.specs.FactorLaws.{nothing-is}
+use Rattle.rules.specs.Laws.{recent-among}
 use Rattle.settings.specs.Settings.{windowIn}
 use Rattle.settings.specs.declared.Settings.{Settings}
-use Rattle.rules.specs.Buckets.{windowTicks, older, recent, ahead, lastSecond, newest, joins}
+use Rattle.rules.specs.Buckets.{windowTicks, recent, ahead, lastSecond}
 use Rattle.sweep.specs.Sweep.{passOf, unsound}
 use Rattle.sweep.specs.declared.tally.Pass.{Pass}
 use Rattle.ring.specs.declared.Bucket.{Bucket}
 use Rattle.ring.specs.Order.{fine-sums, fine-drop}
-use Rattle.ring.specs.Ring.{sumOf, countOf, counts, declineds, buckets}
+use Rattle.ring.specs.Ring.{countOf, counts, declineds, buckets}
 use Rattle.ring.specs.Sums.{sum-split}
-use Rattle.ring.specs.View.{view-length}
 use Rattle.room.specs.Room.{slotsOf, ringOf, lastOf, bodyOf, vacant}
 use Rattle.rules.specs.declared.RoomKind.the-variants as kind
 use Rattle.opened.specs.declared.Slot.{Slot}
@@ -27,21 +26,11 @@ use Rattle.judge.specs.Judge.{Passed, slotIn}
 use Rattle.opened.specs.Slot.{hasSlot, noSlot, pickPass, opened}
 use Rattle.opened.specs.Sound.{addressed}
 use Rattle.plan.specs.Known.{Found, Known, found, none, series-known, series-is, at-as}
-use Rattle.suppressed_verdicts.specs.Opened.{unperceived}
-use Rattle.factor_opened.specs.Opened.{left, secondAt}
+use Rattle.factor_opened.specs.Opened.{secondAt}
 use Rattle.plan.specs.Plan.{placeOf, lacksAt}
 use Rattle.plan.specs.Seen.{recent-live}
 
 -- ---- the counts of the last second are among the live ones
-
-recent-among : (w t : ℕ) (xs : List Bucket) → counts (recent w t xs) ≤ counts xs
-unfolding recent sumOf
-recent-among w t [] = omega arith
-recent-among w t (x ∷ xs) = go (older w t x) (recent-among w t xs)
-  where
-    go : (o : Bool) → counts (recent w t xs) ≤ counts xs → counts (cond o (recent w t xs) (x ∷ recent w t xs)) ≤ x .count + counts xs
-    go true h = omega arith
-    go false h = omega arith
 
 pub recent-le : (v w t : ℕ) (xs : List Bucket) → v ≤ w → counts (recent v t xs) ≤ counts (drop (ahead w t xs) xs)
 recent-le v w t xs h = rw (recent-live v w t h xs) (recent-among v t (drop (ahead w t xs) xs))
@@ -126,8 +115,3 @@ module _ (s : Settings) (w : List ℕ) (t : ℕ) (key : List ℕ) (q : Passed ki
       go : (z : Bool) → x .series ≡ z → Sums w t x
       go true e = known-sums s w t (x .at) x (known e) (q .settings .window-low) e
       go false e = no-sums w t x e (unknown e)
-
-  -- the perceived rate is zero exactly where nothing was counted
-  pub unperceived-is : unperceived s w t x ≡ eqb (x .pass .«live_total») 0
-  unperceived-is = nothing-is (x .pass .«live_total») (windowIn s) (secondAt w t x) (sums .recent) (sums .most) (q .settings .window-low)
-      (q .settings .window-high)

@@ -4,7 +4,7 @@ use mathlib.Core.Bool.{Bool, true, false, _&&_, cond}
 use Prim.Native.Nat.{ℕ, _^_}
 use lib.IntN.{pos}
 use lib.Dec.{T, ltb}
-use lib.Ieee.{Float, fin, binary64, sub, mul, div, le, lt, eq, ofInt, ofBits, toBits, toUnsigned}
+use lib.Ieee.{Float, fin, binary64, sub, mul, div, le, lt, eq, ofInt, ofBits, toUnsigned}
 use Rattle.common.specs.Ranges.{nil, one}
 
 -- Rust's `f64::max` of two numbers
@@ -19,13 +19,11 @@ average n W = div binary64 (ofInt binary64 (pos n)) (ofInt binary64 (pos W))
 abbrev pub perceived : ℕ → ℕ → ℕ → Float
 perceived total W last = larger (average total W) (ofInt binary64 (pos last))
 
--- "1 - (S / W / perceived)"
+-- document 02, ticket 2: "The factor at a zero perceived rate should be 0"; document 01: "else 1 - (S / W / perceived)"
 unfoldable pub freshFactor : ℕ → ℕ → ℕ → ℕ → Float
-freshFactor S total W last = sub binary64 one (div binary64 (average S W) (perceived total W last))
-
--- refusal 13: "a factor is worked out at perceived rate zero"
-unfoldable pub perceivesNothing : ℕ → ℕ → ℕ → Bool
-perceivesNothing total W last = eq (perceived total W last) nil
+freshFactor S total W last =
+    cond (eq (perceived total W last) nil) nil
+    (sub binary64 one (div binary64 (average S W) (perceived total W last)))
 
 -- "0 to 1"
 abbrev pub Unit01 : Float → Type 0

@@ -1,13 +1,13 @@
 -- What the code of the factor and the draw has tested, as the definitions say it.
 -- Assumes nothing.
 use mathlib.Core.Path.{_≡_, sym, ap, _∙_}
-use mathlib.Core.Bool.{Bool, true, false, cond}
+use mathlib.Core.Bool.{Bool, true, false}
 use Prim.Native.Nat.{ℕ, _^_, _<_}
 use lib.IntN.{pos}
 use lib.Ieee.{Float, binary64, sub, div, le, lt, eq, ofInt, ofBits}
 use borrow.Author.Tests.{lt-ltb}
 use Rattle.common.specs.Ranges.{nil, one}
-use Rattle.suppression.specs.Factor.{freshFactor, factorWordOk, chance, admitted}
+use Rattle.suppression.specs.Factor.{larger, perceived, freshFactor, factorWordOk, chance, admitted}
 
 -- with x the word's number
 module _ (n : ℕ) (x : Float) (e : x ≡ ofBits binary64 n) where
@@ -31,16 +31,17 @@ pub tested-draw : (x : Float) (draw : ℕ) (d : Float) → d ≡ ofInt binary64 
 unfolding admitted
 tested-draw x draw d i h k = ap (λ (z : Float). lt z (chance x)) i ∙ sym (rw (h, k))
 
--- the fresh factor from the counts as doubles, by the larger of the two rates
-module _ (S total W last : ℕ) (s t w l : Float) (p : s ≡ ofInt binary64 (pos S)) (q : t ≡ ofInt binary64 (pos total)) (u : w ≡ ofInt binary64 (pos W))
-    (v : l ≡ ofInt binary64 (pos last)) where
-  fresh-at : (b : Bool) → lt (div binary64 t w) l ≡ b →
-      sub binary64 one (div binary64 (div binary64 s w) (cond b l (div binary64 t w))) ≡ freshFactor S total W last
+-- the fresh factor from the counts as doubles and the perceived rate r
+module _ (S total W last : ℕ) (w t l r : Float) (p : w ≡ ofInt binary64 (pos W)) (q : t ≡ ofInt binary64 (pos total)) (u : l ≡ ofInt binary64 (pos last))
+    (v : r ≡ larger (div binary64 t w) l) where
+  rate-is : r ≡ perceived total W last
+  rate-is = v ∙ rw (p, q, u)
+
+  pub fresh-nil : eq r nil ≡ true → nil ≡ freshFactor S total W last
   unfolding freshFactor
-  fresh-at b e = sym (rw (← p, ← q, ← u, ← v, e))
+  fresh-nil e = sym (rw (← rate-is, e))
 
-  pub fresh-last : lt (div binary64 t w) l ≡ true → sub binary64 one (div binary64 (div binary64 s w) l) ≡ freshFactor S total W last
-  fresh-last e = fresh-at true e
-
-  pub fresh-average : lt (div binary64 t w) l ≡ false → sub binary64 one (div binary64 (div binary64 s w) (div binary64 t w)) ≡ freshFactor S total W last
-  fresh-average e = fresh-at false e
+  pub fresh-rate : (s : Float) → s ≡ ofInt binary64 (pos S) → eq r nil ≡ false →
+      sub binary64 one (div binary64 (div binary64 s w) r) ≡ freshFactor S total W last
+  unfolding freshFactor
+  fresh-rate s k e = sym (rw (← rate-is, ← k, ← p, e))

@@ -1,6 +1,6 @@
 // The suppression factor: worked out, judged as a word of the room, and held against a draw.
 ghost use mathlib.Core.Path.{_≡_};
-ghost use Rattle.suppression.specs.Factor.{freshFactor, factorWordOk, admitted};
+ghost use Rattle.suppression.specs.Factor.{larger, freshFactor, factorWordOk, admitted};
 use common::WindowSize;
 use common::double_of;
 
@@ -10,18 +10,28 @@ pub struct CachedFactor {
     pub time: u64,
 }
 
-// 1 - (S / W / perceived), where the perceived rate is the larger of total / W and the counts of the last second.
+// The larger of two rates, as Rust's `f64::max` of two numbers.
+fn larger(a: f64, b: f64) -> f64
+    ensures { λ r. ⌜ r ≡ larger a b ⌝ }
+{
+    if a < b {
+        return b;
+    }
+    a
+}
+
+// 0 at a zero perceived rate, else 1 - (S / W / perceived), where the perceived rate is the larger of total / W and the counts of the last second.
 pub fn fresh_factor(soft: u64, total: u64, window: WindowSize, last_second: u64) -> f64
     ensures { λ r. ⌜ r ≡ freshFactor soft total (window .0) «last_second» ⌝ }
 {
     let seconds = std::num::nearest_u64_to_f64(window.0);
     let average = std::num::nearest_u64_to_f64(total) / seconds;
     let last = std::num::nearest_u64_to_f64(last_second);
-    let share = std::num::nearest_u64_to_f64(soft) / seconds;
-    if average < last {
-        return 1.0 - share / last;
+    let perceived = larger(average, last);
+    if perceived == 0.0 {
+        return 0.0;
     }
-    1.0 - share / average
+    1.0 - std::num::nearest_u64_to_f64(soft) / seconds / perceived
 }
 
 // Whether a word is a factor: from 0 to 1, with its sign clear.

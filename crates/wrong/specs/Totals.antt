@@ -16,7 +16,7 @@ use Rattle.rules.specs.declared.RoomKind.the-variants.{Absolute, Suppressed}
 use Rattle.judge.specs.Judge.{misfits}
 use Rattle.judge.specs.Verdict.{Verdict}
 use Rattle.steps.specs.Ops.{get, snapshot}
-use Rattle.steps.specs.Table.{plain, suppressedGet}
+use Rattle.steps.specs.Table.{plain}
 use Rattle.promises.specs.Refusals.{demand1}
 use Rattle.promises.specs.Rules.{TotalByRules, SnapshotByRules, demand2}
 use Rattle.promises.specs.Cases.{hardBy, key, aget, ten, sget, twenty}
@@ -41,10 +41,10 @@ telling-breaks-the-absolute-sums g h p =
     sym (demand2 .absolute-get defaults ten 10000 key ten-passes .answer) ∙ boundary .live-10000))
 
 -- of the 20 at reading 0, at the same reading
-twenty-passes : first (suppressedGet (hardBy 2) twenty 0 key) ≡ 0
+twenty-passes : first (plain Suppressed (hardBy 2) twenty 0 key) ≡ 0
 unfolding faults misfits snapshotRow
 twenty-passes =
-    taken (suppressedGet (hardBy 2) twenty 0 key) (omega arith) _ _ _ (demand1 .calls Suppressed (hardBy 2) twenty 0 (snapshot key))
+    taken (plain Suppressed (hardBy 2) twenty 0 key) (omega arith) _ _ _ (demand1 .calls Suppressed (hardBy 2) twenty 0 (snapshot key))
     (ap (λ (a : SnapshotAnswer). getD (snapshotRow a) 0 0) (further .twenty-given))
 
 pub telling-breaks-the-sums : (g : Settings → List ℕ → ℕ → List ℕ → Verdict SnapshotAnswer) →

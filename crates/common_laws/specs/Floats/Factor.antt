@@ -1,5 +1,5 @@
 -- The suppression factor 1 - (S / W) / p, with p the larger of T / W and L, lies from 0 to 1, so it is no NaN. S, T and L are counts up to 2 ^ prec, S ≤ T
--- and L ≤ T, W is a window, and p is above 0.
+-- and L ≤ T, W is a window, and p is above 0; where p is 0 the factor is 0.
 -- `share-in` and `rest-in` say it of any floats a ≤ p. Assumes nothing.
 use mathlib.Core.Path.{_≡_, refl, sym, ap, _∙_, subst}
 use Prim.Native.Nat.{ℕ, _+_, _-_, _*_, _^_, _≤_, _<_, zero-le}
@@ -240,8 +240,17 @@ perceived-any S N W L h N+ n w v k =
     (le (div binary64 x z) (larger (div binary64 y z) l))) (sym (s .2))
     (A, r .0, r .1, r .2)
 
+pub nil-upp : Upp nil 1 1
+nil-upp = (tt, zero-le)
+
+either-upp : (b : Bool) (x : Float) → Upp x 1 1 → Upp (cond b nil x) 1 1
+either-upp true x u = nil-upp
+either-upp false x u = u
+
 pub fresh-upp : (S N W L : ℕ) → S ≤ N → 0 < N → N ≤ 2 ^ 64 → 0 < W → W ≤ 2 ^ 64 → L ≤ 2 ^ 64 → Upp (freshFactor S N W L) 1 1
 unfolding freshFactor
 fresh-upp S N W L h N+ n w v k =
     let r = perceived-any S N W L h N+ n w v k in
-    rest-in binary64 (div binary64 (average S W) (perceived N W L)) (share-in binary64 (average S W) (perceived N W L) (r .0) (r .1) (r .2) (r .3))
+    let share = div binary64 (average S W) (perceived N W L) in
+    either-upp (eq (perceived N W L) nil) (sub binary64 one share)
+    (rest-in binary64 share (share-in binary64 (average S W) (perceived N W L) (r .0) (r .1) (r .2) (r .3)))

@@ -1,4 +1,4 @@
--- Refusals 1 to 7, then 8 to 12, then 13; then the change is carried out.
+-- Refusals 1 to 7, then 8 to 12; then the change is carried out.
 -- Assumes nothing.
 use mathlib.Core.Path.{refl, sym, ap, _∙_}
 use Rattle.settings.specs.Settings.{windowIn}
@@ -7,8 +7,7 @@ use Rattle.rules.specs.declared.RoomKind.the-variants.{Suppressed}
 use Rattle.opened.specs.Slot.{noSlot, slotOf}
 use Rattle.judge.specs.Laws.{refused-is, passed-is, fault-early, no-fault}
 use Rattle.plan.specs.Plan.{lacksAt}
-use Rattle.suppressed_verdicts.specs.Laws.{in-room, inc-early, inc-late, inc-total, inc-blind, inc-applies, inc-done}
-use native.Mathlib.Omega.{arith}
+use Rattle.suppressed_verdicts.specs.Laws.{in-room, inc-early, inc-late, inc-total, inc-applies, inc-done}
 use borrow.Author.Needs.{needs}
 use Rattle.suppressed_inc.proofs.inc.Statement.{statement}
 use Rattle.suppressed_inc.proofs.inc.Tie as tie
@@ -115,79 +114,48 @@ decide-requires c κs =
     in-room (a .settings) (a .room .now) (a .reading) (a .key .now) (record { code = 0; slot = x .result })
     (passed-is Suppressed (a .settings) (a .room .now) (a .reading) (a .key .now) (x .result) e k) refl
 
-same-length-4 : tie.Need-same-length-4
-same-length-4 c = search needs
-
-returns-4 : tie.Need-returns-4
-returns-4 c =
-    let a = c .before .before .before .before .before .before .before .before .before .before .before .before .before .before .before .before
-    .before .before .before .before .before .before .before .args in
-    let x = c .before .before .before .before .before .before .before .before .before .before .before .before .before .before .open-at in
-    let k = x .ensures ∙ ap (slotOf (windowIn (a .settings)) (a .room .now) (a .reading))
-    (c .before .before .before .before .before .before .before .before .before .before .before .before .before .before .before .address .ensures) in
-    let e = sym (c .before .before .before .before .before .before .before .before .before .before .before .before .misfit .ensures) ∙
-    c .before .before .before .before .before .before .before .before .before .before .before .if2 .left in
-    let p = c .before .before .before .before .before .before .before .before .before .place in
-    let l = c .before .before .before .before .before .before .before .late in
-    let i = c .before .before .before .before .before .limit-for in
-    let n = c .before .before .before .before .forecast in
-    let o = c .before .before .decide in
-    inc-blind (a .settings) (a .room .now) (a .reading) (a .key .now) e (x .result) k (p .result) (p .ensures) (lacksAt (a .room .now) (p .result) (x .result))
-    refl (a .rate) (a .count) (a .draw) (ringOf (a .room .now)) (l .result) refl (l .ensures)
-    (c .before .before .before .before .before .before .if3 .left) (o .result) (i .result)
-    (n .result) (i .ensures) (n .ensures) (o .ensures) (c .if4 .taken)
-
 inc-change-requires : tie.Need-inc-change-requires
 inc-change-requires c κs = search needs
 
 apply-requires : tie.Need-apply-requires
 apply-requires c κs =
-    let a = c .before .before .before .before .before .before .before .before .before .before .before .before .before .before .before .before
-    .before .before .before .before .before .before .before .before .before .args in
-    let x = c .before .before .before .before .before .before .before .before .before .before .before .before .before .before .before .before .open-at in
-    let k = x .ensures ∙ ap (slotOf (windowIn (a .settings)) (a .room .now) (a .reading))
-    (c .before .before .before .before .before .before .before .before .before .before .before .before .before .before .before .before
-    .before .address .ensures) in
-    let e = sym (c .before .before .before .before .before .before .before .before .before .before .before .before .before .before .misfit .ensures) ∙
-    c .before .before .before .before .before .before .before .before .before .before .before .before .before .if2 .left in
-    let p = c .before .before .before .before .before .before .before .before .before .before .before .place in
-    let l = c .before .before .before .before .before .before .before .before .before .late in
-    let i = c .before .before .before .before .before .before .before .limit-for in
-    let n = c .before .before .before .before .before .before .forecast in
-    let o = c .before .before .before .before .decide in
     let h = c .before .inc-change in
-    inc-applies (a .settings) (a .room .now) (a .reading) (a .key .now) e (x .result) k (p .result) (p .ensures)
-    (lacksAt (a .room .now) (p .result) (x .result))
-    refl (a .rate) (a .count) (a .draw) (ringOf (a .room .now)) (l .result) refl (l .ensures)
-    (c .before .before .before .before .before .before .before .before .if3 .left) (o .result) (i .result)
-    (n .result) (i .ensures) (n .ensures) (o .ensures) (h .result) (h .ensures)
+    let d = c .before .before .before in
+    let f = d .before .before in
+    let l = f .before .before .before in
+    let p = l .before .before in
+    let m = p .before .before .before in
+    let x = m .before .before in
+    let a = x .before .before .before .before .before .before .before .before .before .args in
+    let k = x .open-at .ensures ∙ ap (slotOf (windowIn (a .settings)) (a .room .now) (a .reading)) (x .before .address .ensures) in
+    let e = sym (m .misfit .ensures) ∙ p .before .before .if2 .left in
+    let lacks = lacksAt (a .room .now) (p .place .result) (x .open-at .result) in
+    inc-applies (a .settings) (a .room .now) (a .reading) (a .key .now) e (x .open-at .result) k (p .place .result) (p .place .ensures) lacks refl (a .rate)
+    (a .count) (a .draw) (ringOf (a .room .now)) (l .late .result) refl (l .late .ensures) (f .before .before .if3 .left) (d .decide .result)
+    (f .before .limit-for .result) (f .forecast .result) (f .before .limit-for .ensures) (f .forecast .ensures) (d .decide .ensures) (h .result)
+    (h .ensures)
 
-same-length-5 : tie.Need-same-length-5
-same-length-5 c = search needs
+same-length-4 : tie.Need-same-length-4
+same-length-4 c = search needs
 
-returns-5 : tie.Need-returns-5
-returns-5 c =
-    let a = c .before .before .before .before .before .before .before .before .before .before .before .before .before .before .before .before
-    .before .before .before .before .before .before .before .before .before .before .before .before .args in
-    let x = c .before .before .before .before .before .before .before .before .before .before .before .before .before .before .before .before
-    .before .before .before .open-at in
-    let k = x .ensures ∙ ap (slotOf (windowIn (a .settings)) (a .room .now) (a .reading))
-    (c .before .before .before .before .before .before .before .before .before .before .before .before .before .before .before .before .before
-    .before .before .before .address .ensures) in
-    let e = sym (c .before .before .before .before .before .before .before .before .before .before .before .before .before .before .before .before
-    .before .misfit .ensures) ∙ c .before .before .before .before .before .before .before .before .before .before .before .before .before .before
-    .before .before .if2 .left in
-    let p = c .before .before .before .before .before .before .before .before .before .before .before .before .before .before .place in
-    let l = c .before .before .before .before .before .before .before .before .before .before .before .before .late in
-    let i = c .before .before .before .before .before .before .before .before .before .before .limit-for in
-    let n = c .before .before .before .before .before .before .before .before .before .forecast in
-    let o = c .before .before .before .before .before .before .before .decide in
-    let h = c .before .before .before .before .inc-change in
+returns-4 : tie.Need-returns-4
+returns-4 c =
     let y = c .before .before .apply in
-    inc-done (a .settings) (a .room .now) (a .reading) (a .key .now) e (x .result) k (p .result) (p .ensures) (lacksAt (a .room .now) (p .result) (x .result))
-    refl (a .rate) (a .count) (a .draw) (ringOf (a .room .now)) (l .result) refl (l .ensures)
-    (c .before .before .before .before .before .before .before .before .before .before .before .if3 .left) (o .result) (i .result)
-    (n .result) (i .ensures) (n .ensures) (o .ensures) (c .before .before .before .before .before .if4 .left) (h .result) (y .last .0) (h .ensures) (y .ensures)
+    let h = c .before .before .before .before .inc-change in
+    let d = c .before .before .before .before .before .before in
+    let f = d .before .before in
+    let l = f .before .before .before in
+    let p = l .before .before in
+    let m = p .before .before .before in
+    let x = m .before .before in
+    let a = x .before .before .before .before .before .before .before .before .before .args in
+    let k = x .open-at .ensures ∙ ap (slotOf (windowIn (a .settings)) (a .room .now) (a .reading)) (x .before .address .ensures) in
+    let e = sym (m .misfit .ensures) ∙ p .before .before .if2 .left in
+    let lacks = lacksAt (a .room .now) (p .place .result) (x .open-at .result) in
+    inc-done (a .settings) (a .room .now) (a .reading) (a .key .now) e (x .open-at .result) k (p .place .result) (p .place .ensures) lacks refl (a .rate)
+    (a .count) (a .draw) (ringOf (a .room .now)) (l .late .result) refl (l .late .ensures) (f .before .before .if3 .left) (d .decide .result)
+    (f .before .limit-for .result) (f .forecast .result) (f .before .limit-for .ensures) (f .forecast .ensures) (d .decide .ensures) (h .result)
+    (y .last .0) (h .ensures) (y .ensures)
 
 pub inc-spec : {M : Type 1} → statement M
 inc-spec =
@@ -208,9 +176,7 @@ inc-spec =
     limit-for-requires
     forecast-requires
     decide-requires
-    same-length-4
-    returns-4
     inc-change-requires
     apply-requires
-    same-length-5
-    returns-5)
+    same-length-4
+    returns-4)

@@ -1,5 +1,5 @@
--- Refusals 1 to 7, then 13; then the change is carried out.
-use Rattle.suppressed_verdicts.specs.Laws.{not-early, slot-found, in-room, get-early, get-blind, get-applies, get-done}
+-- Refusals 1 to 7; then the change is carried out.
+use Rattle.suppressed_verdicts.specs.Laws.{not-early, slot-found, in-room, get-early, get-applies, get-done}
 use borrow.Author.Needs.{needs}
 use Rattle.suppressed_reads.proofs.get.Statement.{statement}
 use Rattle.suppressed_reads.proofs.get.Tie as tie
@@ -23,19 +23,6 @@ ask-requires c κs =
     let z = c .before .if1 .left in
     in-room (a .settings) (a .room .now) (a .reading) (a .key .now) (j .result) (j .ensures) z
 
-same-length-2 : tie.Need-same-length-2
-same-length-2 c = search needs
-
-returns-2 : tie.Need-returns-2
-returns-2 c =
-    let a = c .before .before .before .before .before .before .before .before .before .before .args in
-    let j = c .before .before .before .before .before .before .judge in
-    let z = c .before .before .before .before .if1 .left in
-    get-blind (a .settings) (a .room .now) (a .reading) (a .key .now)
-    (not-early (a .settings) (a .room .now) (a .reading) (a .key .now) (j .result) (j .ensures) z) (j .result .slot)
-    (slot-found (a .settings) (a .room .now) (a .reading) (a .key .now) (j .result) (j .ensures) z) (c .before .before .ask .result)
-    (c .before .before .ask .ensures) (c .if2 .taken)
-
 snapshot-of-requires : tie.Need-snapshot-of-requires
 snapshot-of-requires c κs = search needs
 
@@ -44,27 +31,27 @@ get-change-requires c κs = search needs
 
 apply-requires : tie.Need-apply-requires
 apply-requires c κs =
-    let a = c .before .before .before .before .before .before .before .before .before .before .before .before .before .args in
-    let j = c .before .before .before .before .before .before .before .before .before .judge in
-    let z = c .before .before .before .before .before .before .before .if1 .left in
+    let a = c .before .before .before .before .before .before .before .before .before .before .before .before .args in
+    let j = c .before .before .before .before .before .before .before .before .judge in
+    let z = c .before .before .before .before .before .before .if1 .left in
     get-applies (a .settings) (a .room .now) (a .reading) (a .key .now)
     (not-early (a .settings) (a .room .now) (a .reading) (a .key .now) (j .result) (j .ensures) z) (j .result .slot)
     (slot-found (a .settings) (a .room .now) (a .reading) (a .key .now) (j .result) (j .ensures) z)
-    (c .before .before .before .before .before .ask .result .caching) (c .get-change .result) (c .get-change .ensures)
+    (c .before .before .before .before .ask .result .caching) (c .get-change .result) (c .get-change .ensures)
 
-same-length-3 : tie.Need-same-length-3
-same-length-3 c = search needs
+same-length-2 : tie.Need-same-length-2
+same-length-2 c = search needs
 
-returns-3 : tie.Need-returns-3
-returns-3 c =
-    let a = c .before .before .before .before .before .before .before .before .before .before .before .before .before .before .before .before .args in
-    let j = c .before .before .before .before .before .before .before .before .before .before .before .before .judge in
-    let z = c .before .before .before .before .before .before .before .before .before .before .if1 .left in
+returns-2 : tie.Need-returns-2
+returns-2 c =
+    let a = c .before .before .before .before .before .before .before .before .before .before .before .before .before .before .before .args in
+    let j = c .before .before .before .before .before .before .before .before .before .before .before .judge in
+    let z = c .before .before .before .before .before .before .before .before .before .if1 .left in
     get-done (a .settings) (a .room .now) (a .reading) (a .key .now)
     (not-early (a .settings) (a .room .now) (a .reading) (a .key .now) (j .result) (j .ensures) z) (j .result .slot)
     (slot-found (a .settings) (a .room .now) (a .reading) (a .key .now) (j .result) (j .ensures) z)
-    (c .before .before .before .before .before .before .before .before .ask .result)
-    (c .before .before .before .before .before .before .before .before .ask .ensures) (c .before .before .before .before .before .before .if2 .left)
+    (c .before .before .before .before .before .before .before .ask .result)
+    (c .before .before .before .before .before .before .before .ask .ensures)
     (c .before .before .before .before .before .snapshot-of .result) (c .before .before .before .get-change .result) (c .before .before .apply .last .0)
     (c .before .before .before .before .before .snapshot-of .ensures) (c .before .before .before .get-change .ensures) (c .before .before .apply .ensures)
 
@@ -76,10 +63,8 @@ get-spec =
     same-length
     returns
     ask-requires
-    same-length-2
-    returns-2
     snapshot-of-requires
     get-change-requires
     apply-requires
-    same-length-3
-    returns-3)
+    same-length-2
+    returns-2)

@@ -1,5 +1,5 @@
--- Refusals 1 to 7, then 11 and 13; then the change is carried out.
-use Rattle.suppressed_verdicts.specs.Laws.{not-early, slot-found, room-found, in-room, factor-early, factor-full, factor-blind, factor-applies, factor-done}
+-- Refusals 1 to 7, then 11; then the change is carried out.
+use Rattle.suppressed_verdicts.specs.Laws.{not-early, slot-found, room-found, in-room, factor-early, factor-full, factor-applies, factor-done}
 use borrow.Author.Needs.{needs}
 use Rattle.suppressed_reads.proofs.get_suppression_factor.Statement.{statement}
 use Rattle.suppressed_reads.proofs.get_suppression_factor.Tie as tie
@@ -52,54 +52,39 @@ ask-requires c κs =
     let z = c .before .before .before .before .before .before .if1 .left in
     in-room (a .settings) (a .room .now) (a .reading) (a .key .now) (j .result) (j .ensures) z
 
-same-length-3 : tie.Need-same-length-3
-same-length-3 c = search needs
-
-returns-3 : tie.Need-returns-3
-returns-3 c =
-    let a = c .before .before .before .before .before .before .before .before .before .before .before .before .before .before .before .args in
-    let j = c .before .before .before .before .before .before .before .before .before .before .before .judge in
-    let z = c .before .before .before .before .before .before .before .before .before .if1 .left in
-    let p = c .before .before .before .before .before .before .before .place in
-    let f = c .before .before .before .before .before .lacks-slot in
-    factor-blind (a .settings) (a .room .now) (a .reading) (a .key .now)
-    (not-early (a .settings) (a .room .now) (a .reading) (a .key .now) (j .result) (j .ensures) z) (j .result .slot)
-    (slot-found (a .settings) (a .room .now) (a .reading) (a .key .now) (j .result) (j .ensures) z) (p .result) (p .ensures) (f .result) (f .ensures)
-    (c .before .before .before .before .if2 .left) (c .before .before .ask .result) (c .before .before .ask .ensures) (c .if3 .taken)
-
 factor-change-requires : tie.Need-factor-change-requires
 factor-change-requires c κs = search needs
 
 apply-requires : tie.Need-apply-requires
 apply-requires c κs =
-    let a = c .before .before .before .before .before .before .before .before .before .before .before .before .before .before .before .before .before .args in
-    let j = c .before .before .before .before .before .before .before .before .before .before .before .before .before .judge in
-    let z = c .before .before .before .before .before .before .before .before .before .before .before .if1 .left in
-    let p = c .before .before .before .before .before .before .before .before .before .place in
-    let f = c .before .before .before .before .before .before .before .lacks-slot in
+    let a = c .before .before .before .before .before .before .before .before .before .before .before .before .before .before .before .before .args in
+    let j = c .before .before .before .before .before .before .before .before .before .before .before .before .judge in
+    let z = c .before .before .before .before .before .before .before .before .before .before .if1 .left in
+    let p = c .before .before .before .before .before .before .before .before .place in
+    let f = c .before .before .before .before .before .before .lacks-slot in
     factor-applies (a .settings) (a .room .now) (a .reading) (a .key .now)
     (not-early (a .settings) (a .room .now) (a .reading) (a .key .now) (j .result) (j .ensures) z) (j .result .slot)
     (slot-found (a .settings) (a .room .now) (a .reading) (a .key .now) (j .result) (j .ensures) z) (p .result) (p .ensures) (f .result) (f .ensures)
-    (c .before .before .before .before .before .before .if2 .left) (c .before .before .before .before .ask .result .caching) (c .factor-change .result)
+    (c .before .before .before .before .before .if2 .left) (c .before .before .before .ask .result .caching) (c .factor-change .result)
     (c .factor-change .ensures)
 
-same-length-4 : tie.Need-same-length-4
-same-length-4 c = search needs
+same-length-3 : tie.Need-same-length-3
+same-length-3 c = search needs
 
-returns-4 : tie.Need-returns-4
-returns-4 c =
+returns-3 : tie.Need-returns-3
+returns-3 c =
     let a = c .before .before .before .before .before .before .before .before .before .before .before .before .before .before .before .before
-    .before .before .before .before .args in
-    let j = c .before .before .before .before .before .before .before .before .before .before .before .before .before .before .before .before .judge in
-    let z = c .before .before .before .before .before .before .before .before .before .before .before .before .before .before .if1 .left in
-    let p = c .before .before .before .before .before .before .before .before .before .before .before .before .place in
-    let f = c .before .before .before .before .before .before .before .before .before .before .lacks-slot in
+    .before .before .before .args in
+    let j = c .before .before .before .before .before .before .before .before .before .before .before .before .before .before .before .judge in
+    let z = c .before .before .before .before .before .before .before .before .before .before .before .before .before .if1 .left in
+    let p = c .before .before .before .before .before .before .before .before .before .before .before .place in
+    let f = c .before .before .before .before .before .before .before .before .before .lacks-slot in
     factor-done (a .settings) (a .room .now) (a .reading) (a .key .now)
     (not-early (a .settings) (a .room .now) (a .reading) (a .key .now) (j .result) (j .ensures) z) (j .result .slot)
     (slot-found (a .settings) (a .room .now) (a .reading) (a .key .now) (j .result) (j .ensures) z) (p .result) (p .ensures) (f .result) (f .ensures)
-    (c .before .before .before .before .before .before .before .before .before .if2 .left)
-    (c .before .before .before .before .before .before .before .ask .result) (c .before .before .before .before .before .before .before .ask .ensures)
-    (c .before .before .before .before .before .if3 .left) (c .before .before .before .factor-change .result) (c .before .before .apply .last .0)
+    (c .before .before .before .before .before .before .before .before .if2 .left)
+    (c .before .before .before .before .before .before .ask .result) (c .before .before .before .before .before .before .ask .ensures)
+    (c .before .before .before .factor-change .result) (c .before .before .apply .last .0)
     (c .before .before .before .factor-change .ensures) (c .before .before .apply .ensures)
 
 pub get-suppression-factor-spec : {M : Type 1} → statement M
@@ -114,9 +99,7 @@ get-suppression-factor-spec =
     same-length-2
     returns-2
     ask-requires
-    same-length-3
-    returns-3
     factor-change-requires
     apply-requires
-    same-length-4
-    returns-4)
+    same-length-3
+    returns-3)
