@@ -1,0 +1,209 @@
+-- Refusal 13 never occurs (document 02, ticket 2): no call of either limiter, the provider, the read-out, the gateway and the faces answers it, and `desk` and
+-- `shots` print it in no line, on any arguments, any lent memory and any input. What is proved is more: a number that has no place in the order of judging is
+-- given by none of them.
+-- Assumes nothing.
+use mathlib.Core.Path.{_≡_, refl, sym, ap, subst, _∙_}
+use mathlib.Core.Bool.{Bool, true, false, cond}
+use mathlib.Core.List.{List, []}
+use mathlib.Core.Logic.{_≢_}
+use Prim.Native.Nat.{ℕ}
+use native.Mathlib.Omega.{arith}
+use lib.Dec.{eqb, ltb}
+use lib.ListN.{length, getD}
+use borrow.Author.Tests.{eq-eqb, ne-eqb}
+use Rattle.answers.specs.Rows.{row, refusedRow, doneRow, readOutRow, shotRow, numberOf}
+use Rattle.common.specs.Refusals.{first}
+use Rattle.common.specs.declared.units.RateLimit.{RateLimit}
+use Rattle.settings.specs.Settings.{faults}
+use Rattle.settings.specs.declared.Settings.{Settings}
+use Rattle.ring.specs.declared.Bucket.{Bucket}
+use Rattle.ring.specs.Ring.{noBucket}
+use Rattle.room.specs.Room.{empty}
+use Rattle.table.specs.Table.{emptyTable}
+use Rattle.rules.specs.declared.RoomKind.{RoomKind}
+use Rattle.rules.specs.declared.RoomKind.the-variants as kind
+use Rattle.provider.specs.Provider as Provider
+use Rattle.readout.specs.ReadOut as ReadOut
+use Rattle.finding.specs.Finding.{bucketsOf}
+use Rattle.gateway.specs.Gateway.{shot, newSeason}
+use Rattle.inputs.specs.declared.Comparison.{Comparison}
+use Rattle.inputs.specs.declared.Mode.{Mode}
+use Rattle.rows.specs.Plain.{Given}
+use Rattle.abi.specs.Faces.{Face, Faced, shown, shownBoth, shownGateway, shownSet, makeNumber}
+use Rattle.abi.specs.ReadOut.{cellRow, bucketRow}
+use Rattle.lines.specs.Laws.{keyIn}
+use Rattle.lines.specs.Reading.{readCall, readSettings}
+use Rattle.lines.specs.declared.CallLine.{CallLine}
+use Rattle.lines.specs.declared.CallLine.the-variants as call
+use Rattle.lines.specs.declared.Op as lineOp
+use Rattle.lines.specs.declared.Op.the-variants.{AbsoluteInc, AbsoluteGet, SuppressedInc, SuppressedGet}
+use Rattle.lines.specs.declared.SettingsLine.{SettingsLine}
+use Rattle.lines.specs.declared.SettingsLine.the-variants as settings
+use Rattle.shot_lines.specs.Reading.{readShot}
+use Rattle.shot_lines.specs.declared.ShotLine.{ShotLine}
+use Rattle.shot_lines.specs.declared.ShotLine.the-variants as shotLine
+use Rattle.desk_lines.specs.Lines.{badLine, perMinute}
+use Rattle.desk_step.specs.Desk as Calls
+use Rattle.desk_step.specs.Desk.{settingsOf, openWith, openingIn, openingOf}
+use Rattle.desk_step.specs.declared.Opening.the-variants as opening
+use Rattle.shots_step.specs.Shots as Shots
+use Rattle.desk_turn.specs.declared.Program.{Program}
+use Rattle.desk_turn.specs.declared.Program.the-variants as program
+use Rattle.desk_turn.specs.declared.Phase.{Phase}
+use Rattle.desk_turn.specs.declared.Phase.the-variants.{Waiting, Open, Ended}
+use Rattle.desk_turn.specs.Lines.{printsIn, steppedBy, turn}
+use Rattle.desk_feed.specs.Feed.{whole, fresh, running}
+use Rattle.desk_laws.specs.Whole.{inputLines, turns, desk-prints, shots-prints}
+use Rattle.steps.specs.Order.{Numbered, TurnedBy, turned-by, not-numbered, no-13}
+use Rattle.steps.specs.Ops as Ops
+use Rattle.steps.specs.Ops.{Op, rowOf, verdictOf, answerNumber}
+use Rattle.promises.specs.Refusals.{reads, reads-number, demand1}
+use Rattle.retired.specs.Lines.{Without, decision-code, shot-code, total-code, snapshot-code, no-line, one-line, all-lines}
+
+-- ---- the statement
+
+-- a face for C or Rust returned m and left the row a: neither tells n
+abbrev pub NotTold : ℕ → ℕ → List ℕ → Type 0
+NotTold n m a = (m ≢ n) × (numberOf a ≢ n)
+
+pub record NeverGiven (n : ℕ) : Type 0 where
+  -- every call of both limiters, and of the provider
+  pub calls : (kind : RoomKind) (s : Settings) (w : List ℕ) (t : ℕ) (op : Op kind) → answerNumber kind s w t op ≢ n
+  pub provider-cleanup : (s : Settings) (a b : List ℕ) (t stale : ℕ) → numberOf (doneRow (Provider.cleanup s a b t stale .answer)) ≢ n
+  pub read-out : (kind : RoomKind) (s : Settings) (w key : List ℕ) (cells : List Bucket) →
+      numberOf (readOutRow (ReadOut.readOut kind s w key cells .answer)) ≢ n
+  -- the gateway
+  pub shots : (s : Settings) (w r : List ℕ) (t : ℕ) (key : List ℕ) (number : ℕ) (rate : RateLimit) (draw : ℕ) →
+      numberOf (shotRow (shot s w r t key number rate draw .answer)) ≢ n
+  pub new-season : (w : List ℕ) → numberOf (doneRow (newSeason w .answer)) ≢ n
+  -- the faces for C and Rust, by what their contracts name
+  pub face-calls : (kind : RoomKind) (s : Settings) (w : List ℕ) (t : ℕ) (op : Op kind) (m : ℕ) (a v : List ℕ) →
+      Faced (shown (rowOf op) (verdictOf kind s w t op)) m a v → NotTold n m a
+  pub face-sets : (kind : RoomKind) (s : Settings) (w : List ℕ) (t : ℕ) (key : List ℕ) (rate : RateLimit) (c : Comparison) (count : ℕ) (mode : Mode)
+      (m : ℕ) (a v : List ℕ) → Faced (shownSet kind s w t key rate c count mode) m a v → NotTold n m a
+  pub face-both : (s : Settings) (a b : List ℕ) (t stale m : ℕ) (r : List ℕ) (v : List ℕ × List ℕ) →
+      Faced (shownBoth (Provider.cleanup s a b t stale)) m r v → NotTold n m r
+  pub face-shot : (s : Settings) (w r : List ℕ) (t : ℕ) (key : List ℕ) (number : ℕ) (rate : RateLimit) (draw m : ℕ) (a : List ℕ) (v : List ℕ × List ℕ) →
+      Faced (shownGateway (shot s w r t key number rate draw)) m a v → NotTold n m a
+  pub face-season : (w : List ℕ) (m : ℕ) (a v : List ℕ) → Faced (shown doneRow (newSeason w)) m a v → NotTold n m a
+  pub face-bucket : (kind : RoomKind) (s : Settings) (w key : List ℕ) (i m : ℕ) (a : List ℕ) → Given (bucketRow kind s w key i) m a → NotTold n m a
+  -- making a room or a table
+  pub face-make : (made : Bool) → makeNumber made ≢ n
+  -- all that the programs print, for any input
+  pub desk : (h xs : List ℕ) → length h ≡ 200 → Without n (running 65536 (whole (fresh program.Desk) (empty 8 128) (empty 8 128) h) xs .prints)
+  pub shots-lines : (h xs : List ℕ) → length h ≡ 200 → Without n (running 65536 (whole (fresh program.Shots) emptyTable (empty 64 128) h) xs .prints)
+
+-- ---- n is no number of the order, and it is not 0
+
+module _ (n : ℕ) (z : n ≢ 0) (h : Numbered n → ⊥) where
+  from : {B : Type 0} (table : List (ℕ × Bool)) (row : List ℕ) (before after : B) → TurnedBy table row before after → numberOf row ≢ n
+  from table row before after t = not-numbered table row before after t n z h
+
+  other : (m : ℕ) → Numbered m → m ≢ n
+  other m k e = h (subst (λ j. Numbered j) e k)
+
+  by-calls : (kind : RoomKind) (s : Settings) (w : List ℕ) (t : ℕ) (op : Op kind) → answerNumber kind s w t op ≢ n
+  by-calls kind s w t op = from _ _ _ _ (demand1 .calls kind s w t op)
+
+  by-shots : (s : Settings) (w r : List ℕ) (t : ℕ) (key : List ℕ) (number : ℕ) (rate : RateLimit) (draw : ℕ) →
+      numberOf (shotRow (shot s w r t key number rate draw .answer)) ≢ n
+  by-shots s w r t key number rate draw = from _ _ _ _ (demand1 .gateway .shots s w r t key number rate draw)
+
+  -- ---- the faces
+
+  faced : {W : Type 0} (f : Face W) (m : ℕ) (a : List ℕ) (v : W) → numberOf (f .row) ≢ n → Faced f m a v → NotTold n m a
+  faced f m a v k g = (λ e. k (sym (g .number) ∙ e), λ e. k (sym (ap numberOf (g .answer)) ∙ e))
+
+  bucket-turned : (kind : RoomKind) (s : Settings) (w key : List ℕ) (i : ℕ) → TurnedBy (reads kind s w key) (bucketRow kind s w key i) w w
+  unfolding bucketRow faults
+  bucket-turned kind s w key i =
+      let e = reads-number kind s w key in
+      turned-by (reads kind s w key) _ w w (omega arith)
+      (λ y. rw (e, ne-eqb (first (reads kind s w key)) 0 y))
+      (λ y. rw (e, eq-eqb (first (reads kind s w key)) 0 y) (placed (ltb i (length (bucketsOf w key)))))
+      (λ y. refl)
+    where
+      placed : (b : Bool) → numberOf (cond b (cellRow (getD (bucketsOf w key) i noBucket)) (row 0 2 0 0 0)) ≡ 0
+      placed true = refl
+      placed false = refl
+
+  make : (made : Bool) → makeNumber made ≢ n
+  make true e = z (sym e)
+  make false e = other 5 (omega arith) e
+
+  -- ---- the lines
+
+  desk-call : (s : Settings) (a b : List ℕ) (t : ℕ) (op : lineOp.Op) (key : List ℕ) (rate c draw : ℕ) →
+      Calls.callOf s a b t op key rate c draw .answer .code ≢ n
+  unfolding Calls.callOf Calls.absoluteInc Calls.absoluteGet Calls.suppressedInc Calls.suppressedGet
+  desk-call s a b t AbsoluteInc key rate c draw e =
+      by-calls kind.Absolute s a t (Ops.inc key (perMinute rate) c) (sym (decision-code t _ _) ∙ e)
+  desk-call s a b t AbsoluteGet key rate c draw e = by-calls kind.Absolute s a t (Ops.get key) (sym (total-code t _) ∙ e)
+  desk-call s a b t SuppressedInc key rate c draw e =
+      by-calls kind.Suppressed s b t (Ops.draws key (perMinute rate) c draw) (sym (decision-code t _ _) ∙ e)
+  desk-call s a b t SuppressedGet key rate c draw e = by-calls kind.Suppressed s b t (Ops.snapshot key) (sym (snapshot-code t _ _) ∙ e)
+
+  desk-step : (s : Settings) (a b line : List ℕ) (c : CallLine) → Calls.stepOf s a b line c .answer .code ≢ n
+  desk-step s a b line call.Bad = other badLine (omega arith)
+  desk-step s a b line (call.Call t op start end rate c draw) = desk-call s a b t op (keyIn line start end) rate c draw
+
+  shot-step : (s : Settings) (w r line : List ℕ) (c : ShotLine) → Shots.stepOf s w r line c .answer .code ≢ n
+  unfolding Shots.shotOf
+  shot-step s w r line shotLine.Bad = other badLine (omega arith)
+  shot-step s w r line (shotLine.Shot t start end number rate draw) = λ e.
+      by-shots s w r t (keyIn line start end) number (perMinute rate) draw (sym (shot-code t _ _) ∙ e)
+
+  stepped : (g : Program) (s : Settings) (a b line : List ℕ) → steppedBy g s a b line .answer .code ≢ n
+  unfolding steppedBy Calls.stepped Shots.stepped
+  stepped program.Desk s a b line = desk-step s a b line (readCall line)
+  stepped program.Shots s a b line = shot-step s a b line (readShot line)
+
+  -- "A bad or missing settings line prints one line, with t 0 and code 14 or 1 to 4"
+  faulty : (s : Settings) → first (faults s) ≢ n
+  unfolding faults
+  faulty s =
+      from (faults s) (refusedRow (first (faults s))) [] [] (turned-by {B = List ℕ} (faults s) _ [] [] (omega arith) (λ k. refl) (λ k. k) (λ k. refl))
+
+  opened : (s : Settings) → Without n (printsIn (openWith s))
+  unfolding openWith
+  opened s = go (eqb (first (faults s)) 0)
+    where
+      go : (b : Bool) → Without n (printsIn (cond b (opening.Open s) (opening.Refused (first (faults s)))))
+      go true = no-line n
+      go false = one-line n _ (faulty s)
+
+  opening-lines : (c : SettingsLine) → Without n (printsIn (openingIn c))
+  opening-lines settings.Bad = one-line n _ (other badLine (omega arith))
+  opening-lines (settings.Settings window bucket factor cache) = opened (settingsOf window bucket factor cache)
+
+  turn-lines : (p : Phase) (a b line : List ℕ) → Without n (turn p a b line .prints)
+  unfolding turn openingOf
+  turn-lines (Waiting g) a b line = opening-lines (readSettings line)
+  turn-lines (Open g s) a b line = one-line n _ (stepped g s a b line)
+  turn-lines Ended a b line = no-line n
+
+  input-lines : (g : Program) (a b xs bytes : List ℕ) → bytes ≡ turns (Waiting g) a b (inputLines [] xs) → Without n bytes
+  input-lines g a b xs bytes e = subst (Without n) (sym e) (all-lines n turn-lines (Waiting g) a b (inputLines [] xs))
+
+  pub unnumbered : NeverGiven n
+  unnumbered = record {
+    calls = by-calls;
+    provider-cleanup = λ s a b t stale. from _ _ _ _ (demand1 .provider-cleanup s a b t stale);
+    read-out = λ kind s w key cells. from _ _ _ _ (demand1 .read-out kind s w key cells);
+    shots = by-shots;
+    new-season = λ w. from _ _ _ _ (demand1 .gateway .new-season w);
+    face-calls = λ kind s w t op m a v. faced _ m a v (by-calls kind s w t op);
+    face-sets = λ kind s w t key rate c count mode m a v. faced _ m a v (from _ _ _ _ (demand1 .set-shown kind s w t key rate c count mode));
+    face-both = λ s a b t stale m r v. faced _ m r v (from _ _ _ _ (demand1 .provider-cleanup s a b t stale));
+    face-shot = λ s w r t key number rate draw m a v. faced _ m a v (by-shots s w r t key number rate draw);
+    face-season = λ w m a v. faced _ m a v (from _ _ _ _ (demand1 .gateway .new-season w));
+    face-bucket = λ kind s w key i m a g.
+        let k = from _ _ _ _ (bucket-turned kind s w key i) in
+        (λ e. k (sym (g .number) ∙ e), λ e. k (sym (ap numberOf (g .answer)) ∙ e));
+    face-make = make;
+    desk = λ hold xs e. input-lines program.Desk (empty 8 128) (empty 8 128) xs _ (desk-prints hold xs e);
+    shots-lines = λ hold xs e. input-lines program.Shots emptyTable (empty 64 128) xs _ (shots-prints hold xs e);
+  }
+
+pub never-13 : NeverGiven 13
+never-13 = unnumbered 13 (λ e. omega arith) no-13
