@@ -7,8 +7,9 @@ use twin::calls::{Answer, Call, Limiters, Op, Rooms, Row, Twin};
 use twin::room::{Bucket, last_reading};
 use twin::rules::{Kind, Settings};
 
-use crate::expected::{Expected, expected, kind};
+use crate::expected::{Expected, UNUSED, expected, kind};
 use crate::original::Original;
+use crate::rate_zero;
 use crate::sample;
 use crate::state::{self, Key, LiveAt};
 use crate::words;
@@ -29,8 +30,9 @@ pub struct Comparison {
     pub with_others: u64,
     /// Refused calls: number and unchanged rooms judged.
     pub refused: u64,
-    /// Histories that ended where 01 ends the comparison.
-    pub ended: u64,
+    /// Histories whose comparison with the original ended before their last call, by the reason.
+    pub taken_out: u64,
+    pub at_rate_zero: u64,
     pub differed: u64,
     /// The random history under way: `judge history SEED` runs it alone.
     pub seed: Option<u64>,
@@ -46,7 +48,7 @@ pub struct Comparison {
 
 impl fmt::Display for Comparison {
     fn fmt(&self, f: &mut fmt::Formatter) -> fmt::Result {
-        let Comparison { histories, calls, refused, ended, differed, .. } = self;
+        let Comparison { histories, calls, refused, taken_out, at_rate_zero, differed, .. } = self;
         let short = match self.short {
             0 => String::new(),
             1 => " (all short ones)".to_string(),
@@ -54,7 +56,8 @@ impl fmt::Display for Comparison {
         };
         write!(
             f,
-            "{histories} histories{short}, {calls} calls compared with the original, {refused} refusals judged, {ended} ended early by 01; {}; {differed} differed",
+            "{histories} histories{short}, {calls} calls compared with the original, {refused} refusals judged, \
+             {taken_out} ended early by 01, {at_rate_zero} left the original at perceived rate zero; {}; {differed} differed",
             who(&self.others, self.with_others)
         )
     }
@@ -67,6 +70,15 @@ pub fn who(others: &[Box<dyn Limiters>], with: u64) -> String {
         [] => "the twin ALONE: no archive of the Rattle code is linked".to_string(),
         _ => format!("the twin and {}, the same {with} calls", names.join(" and ")),
     }
+}
+
+/// Why the comparison of a history with the original ends.
+#[derive(Clone, Copy, PartialEq, Eq)]
+enum End {
+    /// Expired buckets were taken out to avoid 10 or 12, and what follows hangs on them. The history ends.
+    TakenOut,
+    /// A factor is worked out at perceived rate zero, where the original has a NaN. The others go on.
+    RateZero,
 }
 
 /// Why a call differs.
@@ -86,6 +98,8 @@ pub struct History<'a> {
     pub keys: &'a [Key],
     pub rooms: Rooms,
     original: Original,
+    /// After a factor at perceived rate zero: the original is asked no more.
+    is_past_original: bool,
     /// From an absolute increment that took expired buckets out: they are left out of both states.
     leaves_expired_out: bool,
     given: Vec<Given<'a>>,
@@ -104,6 +118,7 @@ impl<'a> History<'a> {
             keys,
             rooms: Rooms::empty(slots, ring),
             original: Original::new(&settings),
+            is_past_original: false,
             leaves_expired_out: false,
             given: Vec::new(),
             before: Rooms::empty(slots, ring),
@@ -158,7 +173,8 @@ impl Comparison {
             calls: 0,
             with_others: 0,
             refused: 0,
-            ended: 0,
+            taken_out: 0,
+            at_rate_zero: 0,
             differed: 0,
             seed: None,
             record: None,
@@ -206,7 +222,11 @@ impl Comparison {
             }
             answer => first_word(format!("{answer:?}")),
         };
-        let added = if wanted.takes_out { ", expired taken out first" } else { "" };
+        let added = match wanted {
+            Expected { takes_out: true, .. } => ", expired taken out first",
+            Expected { at_rate_zero: true, .. } => ", at perceived rate zero",
+            _ => "",
+        };
         *tally.entry(format!("{:?} {call}: {told}{added}", kind(op))).or_default() += 1;
     }
 
@@ -241,6 +261,10 @@ impl Comparison {
         with_original: bool,
     ) -> bool {
         let wanted = expected(settings, &history.rooms, reading, call);
+        // The sample leaves out what the original has no answer to.
+        if self.record.is_some() && wanted.at_rate_zero {
+            return true;
+        }
         history.row.resize(history.row_lengths[history.given.len() % 2], UNTOUCHED);
         let History { rooms, before, row, row_before, .. } = history;
         before.clone_from(rooms);
@@ -251,14 +275,20 @@ impl Comparison {
         let verdict = self
             .judge_others(history, settings, reading, call, answer)
             .and_then(|()| self.judge_refusal(history, wanted, answer))
-            .and_then(|refused| match refused || !with_original {
-                true => Ok(true),
-                false => self.judge(history, wanted, reading, call, answer),
+            .and_then(|refused| match refused {
+                true => Ok(None),
+                false => self.judge(history, wanted, reading, call, answer, with_original),
             });
         match verdict {
-            Ok(goes_on) => {
-                self.ended += u64::from(!goes_on);
-                goes_on
+            Ok(None) => true,
+            Ok(Some(End::TakenOut)) => {
+                self.taken_out += 1;
+                false
+            }
+            Ok(Some(End::RateZero)) => {
+                self.at_rate_zero += 1;
+                history.is_past_original = true;
+                true
             }
             Err(difference) => {
                 self.differed += 1;
@@ -300,7 +330,7 @@ impl Comparison {
         answer: Answer,
     ) -> Result<bool, Difference> {
         let refusal = if let Answer::Refused(number) = answer { number } else { 0 };
-        if refusal != wanted.refusal {
+        if refusal != wanted.refusal || refusal == UNUSED {
             return Err(Difference(format!("refusal {} expected", wanted.refusal)));
         }
         if refusal == 0 {
@@ -313,7 +343,7 @@ impl Comparison {
         Ok(true)
     }
 
-    /// The twin against the original; false where 01 ends the comparison.
+    /// A call that is not refused: the twin against the original, as far as that goes; and why it goes no further.
     fn judge(
         &mut self,
         history: &mut History,
@@ -321,36 +351,49 @@ impl Comparison {
         reading: u64,
         call: Call,
         answer: Answer,
-    ) -> Result<bool, Difference> {
+        with_original: bool,
+    ) -> Result<Option<End>, Difference> {
+        if wanted.at_rate_zero {
+            judge_at_rate_zero(history, reading, call, answer)?;
+        }
+        if !with_original {
+            return Ok(None);
+        }
         if !words::are_right(&history.before, &history.rooms, reading, call) {
             return Err(Difference(format!(
                 "words that the call does not write: {:?}",
                 history.rooms
             )));
         }
+        if history.is_past_original {
+            return Ok(None);
+        }
+        if wanted.at_rate_zero {
+            return has_nan(history, reading, call).map(|()| Some(End::RateZero));
+        }
         let is_absolute_cleanup =
             matches!(call.op, Op::CleanupBoth { .. } | Op::Cleanup { kind: Kind::Absolute, .. });
         if history.leaves_expired_out && is_absolute_cleanup {
-            return Ok(false);
+            return Ok(Some(End::TakenOut));
         }
         if wanted.takes_out {
             if history.settings.bucket > 1000 * history.settings.window {
-                return Ok(false);
+                return Ok(Some(End::TakenOut));
             }
             history.leaves_expired_out = true;
         }
         self.calls += 1;
         judge_by_original(history, reading, call, answer)?;
         let Some(record) = &mut self.record else {
-            return Ok(true);
+            return Ok(None);
         };
         // The sample holds no call whose states differ in expired buckets.
         if history.leaves_expired_out {
-            return Ok(false);
+            return Ok(Some(End::TakenOut));
         }
         let kind = kind(&call.op);
         record.push_str(&sample::call_line(&history.original, kind, reading, call, answer));
-        Ok(true)
+        Ok(None)
     }
 }
 
@@ -363,6 +406,29 @@ pub fn first_other_word(twin: &Rooms, other: &Rooms) -> String {
         }
     }
     "all words are right".to_string()
+}
+
+/// Ticket 2's answer, and what the key holds after it.
+fn judge_at_rate_zero(
+    history: &History,
+    reading: u64,
+    call: Call,
+    answer: Answer,
+) -> Result<(), Difference> {
+    let History { settings, before, rooms, .. } = history;
+    match rate_zero::fault(settings, before, rooms, reading, call, answer) {
+        None => Ok(()),
+        Some(fault) => Err(Difference(fault)),
+    }
+}
+
+/// The original must have the NaN for which it is asked no more.
+fn has_nan(history: &History, reading: u64, call: Call) -> Result<(), Difference> {
+    let told = history.original.call(reading, call, &mut history.row_before.clone());
+    match rate_zero::factor(told) {
+        Some(factor) if factor.is_nan() => Ok(()),
+        _ => Err(Difference(format!("the original answers {told:?}, which is no NaN"))),
+    }
 }
 
 fn judge_by_original(

@@ -1,4 +1,5 @@
-//! Which refusal a call must meet, read from document 01 on lists of buckets.
+//! Which refusal a call must meet, and where a factor is worked out at perceived rate zero, read from document 01 and ticket 2 on lists of
+//! buckets.
 
 use twin::calls::{Call, Op, Rooms};
 use twin::room::{Bucket, find, last_reading, slot, slots};
@@ -9,11 +10,22 @@ use crate::state::of_key;
 
 const TOP: u64 = 1 << 53;
 
-/// The refusal (0 for none), and whether an absolute increment must take expired buckets out to avoid one.
+/// The number that no call is refused with: ticket 2 took its case away.
+pub const UNUSED: u64 = 13;
+
+/// What a call must meet.
 #[derive(Clone, Copy, Debug, Default, PartialEq, Eq)]
 pub struct Expected {
+    /// 0 for none.
     pub refusal: u64,
+    /// An absolute increment must take expired buckets out to avoid a refusal.
     pub takes_out: bool,
+    /// A factor is worked out at perceived rate zero.
+    pub at_rate_zero: bool,
+}
+
+fn refused(refusal: u64) -> Expected {
+    Expected { refusal, ..Expected::default() }
 }
 
 /// The call and what it meets.
@@ -62,7 +74,7 @@ impl Met<'_> {
 
     fn absolute_inc(&self, count: u64) -> Expected {
         let Some(series) = &self.series else {
-            return Expected { refusal: self.new_series(count), takes_out: false };
+            return refused(self.new_series(count));
         };
         let limit = f64::from_bits(series.limit) as u64;
         let live = self.live(&series.buckets);
@@ -73,13 +85,13 @@ impl Met<'_> {
         let held = if is_below { &series.buckets } else { &live };
         let takes_out = self.full(held, count) != 0;
         let refusal = if takes_out { self.full(&live, count) } else { 0 };
-        Expected { refusal, takes_out: takes_out && refusal == 0 }
+        Expected { takes_out: takes_out && refusal == 0, ..refused(refusal) }
     }
 
-    /// 13 exactly at S = 0, H at least 1, some bucket, total 0, where a factor is worked out.
-    fn no_factor(&self) -> u64 {
+    /// Whether a factor that is asked for is worked out, and at perceived rate zero: exactly at S = 0, H at least 1, some bucket, total 0.
+    fn is_at_rate_zero(&self) -> bool {
         let Some(series) = &self.series else {
-            return 0;
+            return false;
         };
         let live = self.live(&series.buckets);
         let hard = f64::from_bits(series.limit);
@@ -87,24 +99,24 @@ impl Met<'_> {
         let uses_cached =
             !evicts && self.cached.is_some_and(|(_, time)| self.age(time) < self.settings.cache);
         let soft = (hard / self.settings.factor) as u64;
-        let at_zero = soft == 0 && hard as u64 >= 1 && !live.is_empty() && sum(&live) == 0;
-        if at_zero && !uses_cached { 13 } else { 0 }
+        let is_zero = soft == 0 && hard as u64 >= 1 && !live.is_empty() && sum(&live) == 0;
+        is_zero && !uses_cached
     }
 
-    fn suppressed_inc(&self, count: u64) -> u64 {
+    fn suppressed_inc(&self, count: u64) -> Expected {
         let Some(series) = &self.series else {
-            return self.new_series(count);
+            return refused(self.new_series(count));
         };
         let live = self.live(&series.buckets);
         let full = self.full(&live, count);
         if full != 0 {
-            return full;
+            return refused(full);
         }
         let hard = f64::from_bits(series.limit);
         let declined: u64 = live.iter().map(|bucket| bucket.declined).sum();
         let forecast = sum(&live) - declined + count;
         let asks = forecast > (hard / self.settings.factor) as u64 && forecast < hard as u64;
-        if asks { self.no_factor() } else { 0 }
+        Expected { at_rate_zero: asks && self.is_at_rate_zero(), ..Expected::default() }
     }
 }
 
@@ -274,7 +286,6 @@ fn early(settings: &Settings, rooms: &Rooms, reading: u64, call: Call) -> u64 {
 }
 
 pub fn expected(settings: &Settings, rooms: &Rooms, reading: u64, call: Call) -> Expected {
-    let refused = |refusal| Expected { refusal, takes_out: false };
     let number = early(settings, rooms, reading, call);
     if number != 0 || !has_key(&call.op) {
         return refused(number);
@@ -285,9 +296,14 @@ pub fn expected(settings: &Settings, rooms: &Rooms, reading: u64, call: Call) ->
     match call.op {
         Op::AbsoluteInc { count, .. } => met.absolute_inc(count),
         Op::SuppressedInc { draw, .. } if draw >= TOP => refused(9),
-        Op::SuppressedInc { count, .. } => refused(met.suppressed_inc(count)),
-        Op::SuppressedGet => refused(met.no_factor()),
-        Op::GetSuppressionFactor => refused(met.no_slot().max(met.no_factor())),
+        Op::SuppressedInc { count, .. } => met.suppressed_inc(count),
+        Op::SuppressedGet => {
+            Expected { at_rate_zero: met.is_at_rate_zero(), ..Expected::default() }
+        }
+        // A key that needs a slot has no bucket.
+        Op::GetSuppressionFactor => {
+            Expected { at_rate_zero: met.is_at_rate_zero(), ..refused(met.no_slot()) }
+        }
         Op::Set { wanted, .. } => {
             let is_new = met.series.is_none() && wanted.comparator.matches(0) && wanted.count > 0;
             refused(match wanted.count {

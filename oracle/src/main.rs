@@ -40,6 +40,7 @@ mod loaded;
 mod long;
 mod original;
 mod random;
+mod rate_zero;
 #[cfg(archive)]
 mod rattle;
 mod sample;

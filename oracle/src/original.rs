@@ -82,7 +82,7 @@ fn stored_bucket(bucket: &Bucket) -> common::Bucket {
 }
 
 /// A series as plain values.
-#[derive(Default)]
+#[derive(Debug, Default, PartialEq, Eq)]
 pub struct Series {
     pub limit: u64,
     pub total: u64,

@@ -86,6 +86,12 @@ pub fn rate(dice: &mut Dice, settings: &Settings) -> f64 {
     }
 }
 
+/// Settings get the factor, and the answer is the rate, of a slow key: S is 0, H mostly over it.
+pub fn slow_rate(dice: &mut Dice, settings: &mut Settings) -> f64 {
+    settings.factor = dice.pick(&[2.0, 4.0, 4.0, 10.0, 1e3]);
+    dice.pick(&[0.3, 0.5, 0.9]) / settings.window as f64
+}
+
 pub fn bad_rate(dice: &mut Dice) -> f64 {
     let least = 2f64.powi(-900);
     dice.pick(&[
@@ -361,10 +367,15 @@ fn played<'a>(
 ) -> Option<(History<'a>, Source)> {
     let mut dice = Dice::new(seed);
     let is_steady = dice.once_in(3);
-    let settings = settings(&mut dice, is_steady);
-    let rates = match is_steady {
-        true => vec![dice.pick(&[10.0, 20.0, 60.0, 100.0, 250.5]) / settings.window as f64],
-        false => (0..=dice.below(3)).map(|_| rate(&mut dice, &settings)).collect(),
+    let mut settings = settings(&mut dice, is_steady);
+    // The sample's draws stay as they are.
+    let is_slow = !is_steady && comparison.record.is_none() && dice.once_in(6);
+    let rates = match () {
+        _ if is_steady => {
+            vec![dice.pick(&[10.0, 20.0, 60.0, 100.0, 250.5]) / settings.window as f64]
+        }
+        _ if is_slow => vec![slow_rate(&mut dice, &mut settings)],
+        _ => (0..=dice.below(3)).map(|_| rate(&mut dice, &settings)).collect(),
     };
     let now = first_reading(&mut dice, &settings);
     let empty = comparison.record.is_some();

@@ -11,9 +11,9 @@ use twin::set::Wanted;
 
 use crate::loaded::{damage, packed, sound_rooms};
 use crate::random::{
-    Dice, LONG_KEY, Source, bad_settings, first_reading, key_pool, rate, settings,
+    Dice, LONG_KEY, Source, bad_settings, first_reading, key_pool, rate, settings, slow_rate,
 };
-use crate::shots::{ALLOWED, DONE, HELD, Memory, NO, RESENT, Shots, YES};
+use crate::shots::{ALLOWED, DONE, HELD, Memory, NO, RATE_ZERO, RESENT, Shots, YES};
 use crate::shots_expected::is_admitted;
 use crate::state::Key;
 
@@ -23,8 +23,10 @@ const NUMBERS: u64 = TOP_NUMBER + 1;
 const MOST: usize = 64;
 
 /// What the seasons of a run must come to: each answer, and each refusal that a shot can meet.
-const COMES: [usize; 22] =
-    [HELD, ALLOWED, YES, NO, DONE, RESENT, 1, 2, 3, 4, 5, 6, 7, 8, 9, 10, 11, 12, 13, 19, 20, 21];
+const COMES: [usize; 22] = [
+    HELD, ALLOWED, YES, NO, DONE, RESENT, RATE_ZERO, 1, 2, 3, 4, 5, 6, 7, 8, 9, 10, 11, 12, 19, 20,
+    21,
+];
 
 /// So many calls at least, for all of that to come.
 const LEAST: u64 = 40_000;
@@ -133,10 +135,12 @@ impl Season {
         let mut dice = Dice::new(seed);
         let is_crowd = dice.once_in(10);
         let is_steady = dice.once_in(2);
-        let settings = settings(&mut dice, is_steady);
-        let window = settings.window as f64;
+        let mut settings = settings(&mut dice, is_steady);
         // Shots count 1: limits that a few of them reach, also with a soft limit of 0.
-        let small = dice.pick(&[0.5, 1.0, 2.0, 2.0, 3.0, 5.0]) / window;
+        let small = match dice.once_in(4) {
+            true => slow_rate(&mut dice, &mut settings),
+            false => dice.pick(&[0.5, 1.0, 2.0, 2.0, 3.0, 5.0]) / settings.window as f64,
+        };
         let any = rate(&mut dice, &settings);
         let now = first_reading(&mut dice, &settings);
         let mut controllers = if is_crowd { crowd(&mut dice) } else { key_pool() };
@@ -222,7 +226,7 @@ impl Season {
         shots.seasons += 1;
     }
 
-    /// A call on the room: an increment, also of 0, which 13 needs, a set, also to the top, which 10 needs, a cleanup, a clear.
+    /// A call on the room: an increment, also of 0, for perceived rate zero, a set, also to the top, for 10, a cleanup, a clear.
     fn beside(&mut self, shots: &mut Shots) {
         let at = self.source.dice.below(self.controllers.len() as u64) as usize;
         let key: &[u8] = &self.controllers[at].bytes;

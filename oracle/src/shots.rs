@@ -6,6 +6,7 @@ use twin::calls::{Answer, Asked, Limiters, Rooms, Twin};
 use twin::rules::Settings;
 
 use crate::compare::{first_other_word, who};
+use crate::expected::UNUSED;
 use crate::others;
 use crate::shots_expected::foreseen;
 use crate::trial::Trials;
@@ -41,8 +42,11 @@ pub const NO: usize = 25;
 pub const DONE: usize = 26;
 /// Admitted under a number that was turned away before.
 pub const RESENT: usize = 27;
-const OUTCOMES: usize = 28;
-const NAMES: [&str; OUTCOMES - HELD] = ["held", "allowed", "yes", "no", "done", "resent"];
+/// Admitted by a factor worked out at perceived rate zero.
+pub const RATE_ZERO: usize = 28;
+const OUTCOMES: usize = 29;
+const NAMES: [&str; OUTCOMES - HELD] =
+    ["held", "allowed", "yes", "no", "done", "resent", "at perceived rate zero"];
 
 fn outcome(answer: Answer) -> usize {
     match answer {
@@ -128,9 +132,12 @@ impl Shots {
         self.part[outcome] += 1;
     }
 
-    /// A part of the run is over: each of these must have come, unless differences ended it.
+    /// A part of the run is over: each of these must have come, unless differences ended it, and what is not used must not.
     pub fn end_part(&mut self, part: &str, wanted: &[usize]) {
         let came = std::mem::replace(&mut self.part, [0; OUTCOMES]);
+        if came[UNUSED as usize] > 0 {
+            self.differ(format!("{part}: {} calls came to {UNUSED}", came[UNUSED as usize]));
+        }
         for outcome in wanted.iter().filter(|outcome| came[**outcome] == 0) {
             if self.goes_on() {
                 self.differ(format!("{part}: no call came to {}", name(*outcome)));
@@ -163,10 +170,14 @@ impl Shots {
         let answer = Twin.ask(settings, table, &mut rooms.suppressed, reading, asked);
         self.calls += 1;
         self.count(outcome(answer));
+        if wanted.at_rate_zero {
+            self.count(RATE_ZERO);
+        }
         let mut fault = None;
-        if answer != wanted || *memory != self.wanted {
+        if answer != wanted.answer || *memory != self.wanted {
             let place = other_word(&self.wanted, memory);
-            fault = Some(format!("the twin answers {answer:?} and not {wanted:?}; {place}"));
+            fault =
+                Some(format!("the twin answers {answer:?} and not {:?}; {place}", wanted.answer));
         }
         fault = fault.or_else(|| self.others_fault(settings, memory, reading, asked, answer));
         if fault.is_some_and(|fault| self.differ(fault)) {

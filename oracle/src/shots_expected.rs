@@ -1,4 +1,5 @@
-//! What ticket 12 says of a call of the gateway, read a second time: from a table's entries as bytes, with the limiter asked as it is.
+//! What ticket 12 says of a call of the gateway, read a second time: from a table's entries as bytes, with the limiter asked as it is, but
+//! for its refusals and its answer at perceived rate zero, which are read a second time too.
 
 use twin::calls::{Answer, Asked, Call, Limiters, Op, Twin};
 use twin::gateway::Shot;
@@ -6,6 +7,7 @@ use twin::rules::Settings;
 
 use crate::expected::{expected, settings_fault};
 use crate::loaded::packed;
+use crate::rate_zero;
 use crate::shots::Memory;
 
 const ENTRY: usize = 6;
@@ -53,33 +55,51 @@ fn says(table: &[u64], controller: &[u8]) -> Says {
     }
 }
 
-/// The limiter's answer to an increment of 1, which leaves its words in the room.
-fn limiter(settings: &Settings, memory: &mut Memory, reading: u64, shot: Shot) -> Answer {
-    let op = Op::SuppressedInc { rate: shot.rate, count: 1, draw: shot.draw };
-    let call = Call { key: shot.controller, op };
-    match expected(settings, &memory.rooms, reading, call).refusal {
-        0 => Twin.call(settings, &mut memory.rooms, reading, call, &mut vec![]),
-        number => Answer::Refused(number),
+/// What a call must answer, and whether a factor is worked out at perceived rate zero.
+#[derive(Clone, Copy)]
+pub struct Foreseen {
+    pub answer: Answer,
+    pub at_rate_zero: bool,
+}
+
+impl From<Answer> for Foreseen {
+    fn from(answer: Answer) -> Self {
+        Foreseen { answer, at_rate_zero: false }
     }
 }
 
-fn shot(settings: &Settings, memory: &mut Memory, reading: u64, shot: Shot) -> Answer {
+/// The limiter's answer to an increment of 1, which leaves its words in the room.
+fn limiter(settings: &Settings, memory: &mut Memory, reading: u64, shot: Shot) -> Foreseen {
+    let op = Op::SuppressedInc { rate: shot.rate, count: 1, draw: shot.draw };
+    let call = Call { key: shot.controller, op };
+    let wanted = expected(settings, &memory.rooms, reading, call);
+    if wanted.refusal != 0 {
+        return Answer::Refused(wanted.refusal).into();
+    }
+    let answer = Twin.call(settings, &mut memory.rooms, reading, call, &mut vec![]);
+    match wanted.at_rate_zero {
+        true => Foreseen { answer: rate_zero::due(op), at_rate_zero: true },
+        false => answer.into(),
+    }
+}
+
+fn shot(settings: &Settings, memory: &mut Memory, reading: u64, shot: Shot) -> Foreseen {
     let Shot { controller, number, .. } = shot;
     if number == 0 || number >= NUMBERS {
-        return Answer::Refused(19);
+        return Answer::Refused(19).into();
     }
     let at = match says(&memory.table, controller) {
         Says::Unsound => {
             let fault = settings_fault(settings);
-            return Answer::Refused(if fault == 0 { 5 } else { fault });
+            return Answer::Refused(if fault == 0 { 5 } else { fault }).into();
         }
-        Says::Last { number: last, .. } if last > number => return Answer::Refused(20),
-        Says::Last { number: last, .. } if last == number => return Answer::Held,
-        Says::New { at } if at == MOST as usize => return Answer::Refused(21),
+        Says::Last { number: last, .. } if last > number => return Answer::Refused(20).into(),
+        Says::Last { number: last, .. } if last == number => return Answer::Held.into(),
+        Says::New { at } if at == MOST as usize => return Answer::Refused(21).into(),
         Says::Last { at, .. } | Says::New { at } => at,
     };
-    let answer = limiter(settings, memory, reading, shot);
-    if is_admitted(answer) {
+    let foreseen = limiter(settings, memory, reading, shot);
+    if is_admitted(foreseen.answer) {
         let [known, _, _, entries @ ..] = &mut memory.table[..] else {
             unreachable!("the table is sound");
         };
@@ -87,7 +107,7 @@ fn shot(settings: &Settings, memory: &mut Memory, reading: u64, shot: Shot) -> A
         entries[ENTRY * at + 1..][..5].copy_from_slice(&packed(controller));
         *known = (*known).max(at as u64 + 1);
     }
-    answer
+    foreseen
 }
 
 pub fn is_admitted(answer: Answer) -> bool {
@@ -95,15 +115,15 @@ pub fn is_admitted(answer: Answer) -> bool {
 }
 
 /// The answer; the memory becomes what the call must leave.
-pub fn foreseen(settings: &Settings, memory: &mut Memory, reading: u64, asked: Asked) -> Answer {
+pub fn foreseen(settings: &Settings, memory: &mut Memory, reading: u64, asked: Asked) -> Foreseen {
     let is_table = match asked {
         Asked::Shot(given) => return shot(settings, memory, reading, given),
         Asked::NewSeason => entries(&memory.table).is_some(),
         Asked::MakeTable => memory.table.len() == 387,
     };
     if !is_table {
-        return Answer::Refused(5);
+        return Answer::Refused(5).into();
     }
     memory.table = vec![0; 387];
-    Answer::Done
+    Answer::Done.into()
 }

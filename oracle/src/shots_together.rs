@@ -1,5 +1,5 @@
-//! Refusals of a shot met together: every set of 1 to 13, with and without 19, for a controller of each standing in the table.
-//! The first in the order 19, 20, 21, 1, 2, .. must be given, and held before 1.
+//! Refusals of a shot met together: every set of 1 to 12, with and without 19, at perceived rate zero and not, for a controller of each
+//! standing in the table. The first in the order 19, 20, 21, 1, 2, .. must be given, and held before 1.
 
 use twin::calls::{Answer, Asked, Rooms};
 use twin::gateway::{Shot, empty_table};
@@ -8,8 +8,8 @@ use twin::rules::Kind;
 use crate::loaded::packed;
 use crate::random::{Dice, bad_rate};
 use crate::seasons::rooms;
-use crate::shots::{HELD, Memory, NO, Shots};
-use crate::together::{Faults, LAST, RATE, TOP, Unfit, room, settings, spoil};
+use crate::shots::{HELD, Memory, NO, RATE_ZERO, Shots, YES};
+use crate::together::{Faults, LAST, NO_RATE, RATE, TOP, Unfit, room, settings, spoil};
 
 /// How the shot's number and its controller stand to the table.
 #[derive(Clone, Copy, PartialEq)]
@@ -30,7 +30,8 @@ const STANDINGS: [Standing; 5] =
 const NUMBER: u64 = 17;
 
 /// What the sets of a run must come to.
-const COMES: [usize; 18] = [HELD, NO, 1, 2, 3, 4, 5, 6, 7, 8, 9, 10, 11, 12, 13, 19, 20, 21];
+const COMES: [usize; 19] =
+    [HELD, YES, NO, RATE_ZERO, 1, 2, 3, 4, 5, 6, 7, 8, 9, 10, 11, 12, 19, 20, 21];
 
 /// A table of 64 or of fewer controllers, with this one where it is to be known.
 fn table(dice: &mut Dice, standing: Standing, controller: &[u8]) -> Vec<u64> {
@@ -82,8 +83,15 @@ fn due(faults: Faults, standing: Standing, is_table_unfit: bool) -> Option<u64> 
     }
     // A slot that is not there is not full, and has no total.
     let has_slot = !is_long && !faults.has(11);
-    let is_met = |number: &u64| faults.has(*number) && (has_slot || ![10, 12, 13].contains(number));
-    Some((1..14).find(is_met).unwrap_or(0))
+    let is_met = |number: &u64| faults.has(*number) && (has_slot || ![10, 12].contains(number));
+    Some((1..13).find(is_met).unwrap_or(0))
+}
+
+/// What the limiter decides: at perceived rate zero the factor is 0, else 1 - 0.
+fn decided(faults: Faults) -> Answer {
+    let admitted = faults.has(NO_RATE);
+    let factor: f64 = if admitted { 0.0 } else { 1.0 };
+    Answer::Suppressed { factor: factor.to_bits(), admitted }
 }
 
 /// The room's key: long, without a slot, or the first slot's.
@@ -133,7 +141,7 @@ fn one(shots: &mut Shots, dice: &mut Dice, faults: Faults, standing: Standing) {
         _ => dice.pick(&[NUMBER + 1, (1 << 32) - 1]),
     };
     let rate = if faults.has(8) { bad_rate(dice) } else { RATE };
-    let draw = if faults.has(9) { dice.pick(&[TOP, u64::MAX]) } else { 0 };
+    let draw = dice.pick(&if faults.has(9) { [TOP, u64::MAX] } else { [0, TOP - 1] });
     let reading = if faults.has(6) { dice.pick(&[LAST - 1, LAST - 100]) } else { LAST };
     let shot = Shot { controller, number, rate, draw };
     let due = due(faults, standing, is_table_unfit);
@@ -141,7 +149,7 @@ fn one(shots: &mut Shots, dice: &mut Dice, faults: Faults, standing: Standing) {
     let told = shots.put(&settings, &mut memory, reading, Asked::Shot(shot));
     let is_due = match due {
         None => told == Answer::Held,
-        Some(0) => !matches!(told, Answer::Held | Answer::Refused(_)),
+        Some(0) => told == decided(faults),
         Some(number) => told == Answer::Refused(number),
     };
     if !is_due {
@@ -153,8 +161,8 @@ fn one(shots: &mut Shots, dice: &mut Dice, faults: Faults, standing: Standing) {
 pub fn run(shots: &mut Shots, dice: &mut Dice) {
     for standing in STANDINGS {
         for set in 0..1u64 << 14 {
-            // The last bit is 19's.
-            let faults = Faults((set & 0x1fff) << 1 | (set >> 13) << 19);
+            // The first bit is perceived rate zero, the last one 19's.
+            let faults = Faults((set & 0x1fff) | ((set >> 13) << 19));
             if shots.goes_on() {
                 one(shots, dice, faults, standing);
             }

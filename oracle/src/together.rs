@@ -1,13 +1,14 @@
-//! Refusals met together: every set of 1 to 13 on every call. The lowest that the call can meet must be given; a set whose numbers name
-//! nothing meets 14 besides.
+//! Refusals met together: every set of 1 to 12 on every call, at perceived rate zero and not. The lowest that the call can meet must be
+//! given; a set whose numbers name nothing meets 14 besides. What is not refused tells factor 0 at perceived rate zero.
 
-use twin::calls::{Call, Nameless, Op, Rooms};
+use twin::calls::{Answer, Call, Nameless, Op, Rooms};
 use twin::room::empty_room;
 use twin::rules::{Comparator, Kind, Mode, Settings};
 use twin::set::Wanted;
 
 use crate::expected::{has_key, kind};
 use crate::random::{Dice, bad_rate, nameless};
+use crate::rate_zero;
 use crate::trial::Trials;
 
 pub const TOP: u64 = 1 << 53;
@@ -16,7 +17,7 @@ pub const LAST: u64 = 1000;
 /// How often each set is tried on each call, with other words at fault.
 const TIMES: u64 = 3;
 
-/// S is 0 and H over 2^53, so that one count can meet 10 and 13.
+/// S is 0 and H over 2^53, so that one count can meet 10 and ask for a factor.
 const SETTINGS: Settings =
     Settings { window: 10, bucket: 100, cache: 100, factor: (1u64 << 60) as f64 };
 pub const RATE: f64 = 0.0625;
@@ -24,7 +25,10 @@ pub const RATE: f64 = 0.0625;
 /// Stands in the form of a call, each of which draws its own.
 const NAMELESS: Nameless = Nameless { comparator: 5, preservation: None };
 
-/// A set of refusals.
+/// In a set of refusals: perceived rate zero, which is none.
+pub const NO_RATE: u64 = 0;
+
+/// A set of refusals, with perceived rate zero or not.
 #[derive(Clone, Copy)]
 pub struct Faults(pub u64);
 
@@ -68,11 +72,11 @@ fn calls() -> Vec<Op> {
     ops
 }
 
-/// The room's two slots, of keys `a` and `b`: one bucket that is past joining. 12: the ring is full; 13: its counts are 0.
+/// The room's two slots, of keys `a` and `b`: one bucket that is past joining. 12: the ring is full; perceived rate zero: its counts are 0.
 pub fn room(kind: Kind, faults: Faults) -> Vec<u64> {
     let mut room = empty_room(2, 2);
     room[2] = LAST;
-    let count = u64::from(kind == Kind::Absolute || !faults.has(13));
+    let count = u64::from(kind == Kind::Absolute || !faults.has(NO_RATE));
     let declined = if kind == Kind::Absolute { 0 } else { count };
     let limit = match kind {
         Kind::Absolute => 1000.0,
@@ -101,7 +105,7 @@ fn with_faults(dice: &mut Dice, op: Op, faults: Faults) -> Op {
         Op::SuppressedInc { rate, count, draw } => {
             // A count between S and H asks for the factor.
             let count = if faults.has(10) { TOP + 1 } else { count };
-            let draw = if faults.has(9) { dice.pick(&[TOP, u64::MAX]) } else { draw };
+            let draw = dice.pick(&if faults.has(9) { [TOP, u64::MAX] } else { [draw, TOP - 1] });
             Op::SuppressedInc { rate: rate_of(rate), count, draw }
         }
         Op::SetRateLimit { kind, rate } => Op::SetRateLimit { kind, rate: rate_of(rate) },
@@ -165,8 +169,18 @@ fn meets(op: &Op, faults: Faults, number: u64, unfit: Unfit) -> bool {
         10 => is_inc || is_set || is_nameless,
         11 => is_inc || is_set || matches!(op, GetSuppressionFactor),
         12 => is_inc && is_named,
-        13 => is_named && matches!(op, SuppressedInc { .. } | SuppressedGet | GetSuppressionFactor),
         _ => true,
+    }
+}
+
+/// The factor that a call tells that is not refused, if it tells one: 0 at perceived rate zero and of an unknown key, else 1 - 0.
+fn factor_due(op: &Op, faults: Faults) -> Option<f64> {
+    match op {
+        Op::SuppressedInc { .. } | Op::SuppressedGet | Op::GetSuppressionFactor => {
+            let is_zero = faults.has(NO_RATE) || faults.has(11);
+            Some(if is_zero { 0.0 } else { 1.0 })
+        }
+        _ => None,
     }
 }
 
@@ -200,22 +214,27 @@ fn one(trials: &mut Trials, dice: &mut Dice, op: Op, faults: Faults) {
     };
     let op = with_faults(dice, op, faults);
     let last = if matches!(op, Op::NamelessSet { .. }) { 14 } else { 0 };
-    let lowest = (1..14)
+    let lowest = (1..13)
         .find(|number| faults.has(*number) && meets(&op, faults, *number, unfit))
         .unwrap_or(last);
     let told = trials.put(&settings(dice, faults), &mut rooms, reading, Call { key, op });
-    if told != lowest {
+    let is_due = match (lowest, told) {
+        (0, Answer::Refused(_)) => false,
+        (0, told) => rate_zero::factor(told) == factor_due(&op, faults),
+        _ => told == Answer::Refused(lowest),
+    };
+    if !is_due {
         trials.differed += 1;
-        eprintln!("differs: refusal {lowest} is the lowest that {op:?} meets, {told} was told");
+        eprintln!("differs: refusal {lowest} is the lowest that {op:?} meets, {told:?} was told");
     }
 }
 
-/// Every set of refusals on every call.
+/// Every set of refusals on every call; a set's first bit is perceived rate zero.
 pub fn run(trials: &mut Trials, dice: &mut Dice) {
     for op in calls() {
         for set in 0..1 << 13 {
             for _ in 0..TIMES {
-                one(trials, dice, op, Faults(set << 1));
+                one(trials, dice, op, Faults(set));
             }
         }
     }

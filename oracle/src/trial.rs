@@ -1,4 +1,4 @@
-//! One call on any words: the twin, the others and the second reading of the refusals must agree.
+//! One call on any words: the twin, the others and the second reading of the refusals, and of a factor at perceived rate zero, must agree.
 
 use std::collections::{BTreeMap, HashSet};
 use std::fmt;
@@ -8,7 +8,8 @@ use twin::calls::{Answer, Call, Limiters, Op, Rooms, Row, Twin};
 use twin::rules::{Kind, Settings};
 
 use crate::compare::{UNTOUCHED, first_other_word, who};
-use crate::expected::expected;
+use crate::expected::{UNUSED, expected};
+use crate::rate_zero;
 
 /// How many differing calls are printed.
 const SHOWN: u64 = 3;
@@ -27,6 +28,8 @@ pub struct Trials {
     faces: u64,
     /// Calls by the refusal they met; not refused at 0.
     by_number: [u64; 15],
+    /// Of those not refused: a factor is worked out at perceived rate zero.
+    at_rate_zero: u64,
     pub differed: u64,
     before: Rooms,
     told: Rooms,
@@ -34,7 +37,7 @@ pub struct Trials {
 
 impl fmt::Display for Trials {
     fn fmt(&self, f: &mut fmt::Formatter) -> fmt::Result {
-        let Trials { damaged, marks, calls, by_number, differed, .. } = self;
+        let Trials { damaged, marks, calls, by_number, at_rate_zero, differed, .. } = self;
         let who = who(&self.others, self.with_others);
         write!(f, "{damaged} damaged rooms ({} distinct", marks.len())?;
         let all: u64 = self.long.values().map(|(all, _)| all).sum();
@@ -43,7 +46,7 @@ impl fmt::Display for Trials {
             write!(f, ", {damage}: {all}, {sound} sound")?;
         }
         write!(f, "), {calls} calls")?;
-        write!(f, " ({} not refused;", by_number[0])?;
+        write!(f, " ({} not refused, {at_rate_zero} at perceived rate zero;", by_number[0])?;
         for (number, times) in by_number.iter().enumerate().skip(1) {
             write!(f, " {number}: {times}")?;
         }
@@ -67,6 +70,7 @@ impl Trials {
             with_others: 0,
             faces: 0,
             by_number: [0; 15],
+            at_rate_zero: 0,
             differed: 0,
             before: none.clone(),
             told: none,
@@ -99,9 +103,15 @@ impl Trials {
         self.differed += differed;
     }
 
-    /// Puts a call to all; the rooms are left as the twin leaves them. Gives the refusal's number or 0.
-    pub fn put(&mut self, settings: &Settings, rooms: &mut Rooms, reading: u64, call: Call) -> u64 {
-        let wanted = expected(settings, rooms, reading, call).refusal;
+    /// Puts a call to all; the rooms are left as the twin leaves them.
+    pub fn put(
+        &mut self,
+        settings: &Settings,
+        rooms: &mut Rooms,
+        reading: u64,
+        call: Call,
+    ) -> Answer {
+        let wanted = expected(settings, rooms, reading, call);
         self.before.clone_from(rooms);
         let untouched: Row = vec![UNTOUCHED; self.row_length(call.op)];
         let mut row = untouched.clone();
@@ -110,10 +120,13 @@ impl Trials {
         self.calls += 1;
         self.by_number[refusal as usize] += 1;
         let mut fault = None;
-        if refusal != wanted {
-            fault = Some(format!("refusal {wanted} expected"));
+        if refusal != wanted.refusal || refusal == UNUSED {
+            fault = Some(format!("refusal {} expected", wanted.refusal));
         } else if refusal != 0 && (*rooms != self.before || row != untouched) {
             fault = Some("a refusal changes words".to_string());
+        } else if wanted.at_rate_zero {
+            self.at_rate_zero += 1;
+            fault = rate_zero::fault(settings, &self.before, rooms, reading, call, answer);
         }
         fault = fault.or_else(|| self.others_fault(settings, rooms, reading, call, answer, &row));
         if let Some(fault) = fault {
@@ -123,7 +136,7 @@ impl Trials {
                 eprintln!("  {settings:?} t={reading} {call:?}\n  {:?}", self.before);
             }
         }
-        refusal
+        answer
     }
 
     /// How long a read-out's row is: a short one, one that most rings fit in, or now and then one that all do. No other call has one.

@@ -124,44 +124,39 @@ impl Standing {
         self.total - self.declined
     }
 
-    /// The fresh factor, or refusal 13 at perceived rate zero. The last second is asked for where the factor depends on it.
-    fn fresh_factor(
-        &self,
-        settings: &Settings,
-        last_second: impl FnOnce() -> u64,
-    ) -> Result<f64, Refusal> {
+    /// The fresh factor. The last second is asked for where the factor depends on it.
+    fn fresh_factor(&self, settings: &Settings, last_second: impl FnOnce() -> u64) -> f64 {
         let hard = cut(self.hard);
         let soft = settings.soft(self.hard);
         if self.buckets == 0 {
-            return Ok(0.0);
+            return 0.0;
         }
         if self.total >= hard {
-            return Ok(1.0);
+            return 1.0;
         }
         if self.accepted() < soft {
-            return Ok(0.0);
+            return 0.0;
         }
         // Not reached, since a total of H or more has given 1; kept as 01 has it.
         if self.accepted() == soft && soft == hard {
-            return Ok(1.0);
+            return 1.0;
         }
         let window = settings.window as f64;
         let perceived = (self.total as f64 / window).max(last_second() as f64);
-        refuse_if(perceived == 0.0, 13)?;
-        Ok(1.0 - soft as f64 / window / perceived)
+        // Calls that counted nothing leave no rate to hold back, and 0 / 0 is no number.
+        if perceived == 0.0 {
+            return 0.0;
+        }
+        1.0 - soft as f64 / window / perceived
     }
 
     /// The cached factor where it may be used, else a fresh one that is to be cached.
-    pub fn factor(
-        &self,
-        settings: &Settings,
-        last_second: impl FnOnce() -> u64,
-    ) -> Result<Worked, Refusal> {
+    pub fn factor(&self, settings: &Settings, last_second: impl FnOnce() -> u64) -> Worked {
         match self.cached {
-            Some(factor) => Ok(Worked { factor, to_cache: None }),
+            Some(factor) => Worked { factor, to_cache: None },
             None => {
-                let factor = self.fresh_factor(settings, last_second)?;
-                Ok(Worked { factor, to_cache: Some(factor) })
+                let factor = self.fresh_factor(settings, last_second);
+                Worked { factor, to_cache: Some(factor) }
             }
         }
     }

@@ -63,23 +63,23 @@ fn decide(
     last_second: impl FnOnce() -> u64,
     count: u64,
     draw: u64,
-) -> Result<Outcome, Refusal> {
+) -> Outcome {
     let hard = cut(standing.hard);
     let soft = settings.soft(standing.hard);
     let forecast = standing.accepted() + count;
     if forecast == hard {
-        return Ok(Outcome { decision: Decision::Allowed, admitted: true, to_cache: Some(1.0) });
+        return Outcome { decision: Decision::Allowed, admitted: true, to_cache: Some(1.0) };
     }
     if forecast <= soft {
-        return Ok(Outcome { decision: Decision::Allowed, admitted: true, to_cache: None });
+        return Outcome { decision: Decision::Allowed, admitted: true, to_cache: None };
     }
     let Worked { factor, to_cache } = if forecast > hard {
         Worked { factor: 1.0, to_cache: Some(1.0) }
     } else {
-        standing.factor(settings, last_second)?
+        standing.factor(settings, last_second)
     };
     let admitted = admits(factor, draw);
-    Ok(Outcome { decision: Decision::Suppressed { factor, admitted }, admitted, to_cache })
+    Outcome { decision: Decision::Suppressed { factor, admitted }, admitted, to_cache }
 }
 
 /// Expired buckets go, and the cached factor with them.
@@ -113,7 +113,7 @@ pub fn inc(
     let limit = settings.limit(KIND, rate);
     let stands = standing(settings, room, &found, reading, limit);
     let last_second = || last_second(room, &found, reading);
-    let outcome = decide(settings, &stands, last_second, count, draw)?;
+    let outcome = decide(settings, &stands, last_second, count, draw);
     let is_new = found.series(room).is_none();
     let mut slot = series_slot(room, found.slot, key)?;
     if is_new {
@@ -130,15 +130,9 @@ pub fn inc(
 }
 
 /// The factor of a slot in use: cached below age C, else fresh and cached.
-fn factor_of(
-    settings: &Settings,
-    room: &mut [u64],
-    found: &Found,
-    at: usize,
-    reading: u64,
-) -> Result<f64, Refusal> {
+fn factor_of(settings: &Settings, room: &mut [u64], found: &Found, at: usize, reading: u64) -> f64 {
     let worked = standing(settings, room, found, reading, 0.0)
-        .factor(settings, || last_second(room, found, reading))?;
+        .factor(settings, || last_second(room, found, reading));
     let is_lone = found.series(room).is_none();
     let mut slot = slot_mut(room, at);
     evict(&mut slot, found.expired);
@@ -148,7 +142,7 @@ fn factor_of(
         }
         slot.cache(factor, reading);
     }
-    Ok(worked.factor)
+    worked.factor
 }
 
 /// Live totals and the factor; zeros for an unknown key, which takes no slot.
@@ -162,7 +156,7 @@ pub fn get(
     let snapshot = match found.series(room) {
         None => Snapshot::default(),
         Some(at) => {
-            let factor = factor_of(settings, room, &found, at, reading)?;
+            let factor = factor_of(settings, room, &found, at, reading);
             let slot = slot(room, at);
             Snapshot { total: slot.total(), declined: slot.declined(), factor }
         }
@@ -180,7 +174,7 @@ pub fn get_suppression_factor(
 ) -> Result<f64, Refusal> {
     let found = judge(KIND, settings, room, reading, key)?;
     let factor = match found.slot {
-        Some(at) => factor_of(settings, room, &found, at, reading)?,
+        Some(at) => factor_of(settings, room, &found, at, reading),
         None => {
             series_slot(room, None, key)?.cache(0.0, reading);
             0.0
