@@ -125,7 +125,10 @@
 extern "C" {
 #endif
 
-/* Refusals. The lowest number whose condition holds is given; for a shot 19, 20 and 21 go before 1, 2, .. 13. */
+/*
+ * Refusals. The lowest number whose condition holds is given; for a shot 19, 20 and 21 go before 1, 2, .. 12. 13 is not
+ * used: it was a factor worked out at perceived rate zero, which is 0 now. It will not be used again.
+ */
 enum {
     FROSTAXLE_OK = 0,
     FROSTAXLE_BAD_WINDOW = 1,        /* window out of its range */
@@ -140,7 +143,6 @@ enum {
     FROSTAXLE_TOTAL_TOO_LARGE = 10,  /* the key's total would pass 2^53, or a set's count does */
     FROSTAXLE_NO_FREE_SLOT = 11,     /* a slot is needed and none is free: clean up, or make a larger room */
     FROSTAXLE_RING_FULL = 12,        /* a bucket must be added to a full ring: take longer rings, or longer buckets */
-    FROSTAXLE_NO_PERCEIVED_RATE = 13, /* a factor would be worked out at perceived rate zero */
     FROSTAXLE_NO_CALL = 14,          /* comparator or preservation is none of the numbers below, and 1 to 8 and 10 are not met */
     FROSTAXLE_BAD_NUMBER = 19,       /* a shot's number is 0 or over 2^32 - 1 */
     FROSTAXLE_OLD_NUMBER = 20,       /* a shot's number is below the last admitted of its controller */
@@ -325,7 +327,7 @@ uint64_t frostaxle_gateway_make_table(uint64_t *table, size_t table_len);
  *   19  the number is 0 or over 2^32 - 1
  *   20  it is below the last admitted: that one was later, and whether this one was admitted is not kept
  *   21  the controller is not in the table, which has 64
- *   1 to 13, unless it is HELD, as for the increment; 5 for the table, too
+ *   1 to 12, unless it is HELD, as for the increment; 5 for the table, too
  * A table that is unsound for its controller has no last number: with it a shot is neither HELD nor 20 nor 21.
  */
 uint64_t frostaxle_gateway_shot(uint64_t window, uint64_t bucket, uint64_t cache, double factor, uint64_t *table,

@@ -3,6 +3,9 @@ use std::error::Error;
 use std::fmt;
 
 /// Why a call was turned away. A refused call leaves the room, and a gateway's table, as they were.
+///
+/// No call is refused with 13, and its number is not used again: it was a factor worked out at perceived rate zero, which
+/// is 0 now.
 #[derive(Clone, Copy, Debug, PartialEq, Eq, Hash)]
 #[non_exhaustive]
 pub enum Refusal {
@@ -18,17 +21,16 @@ pub enum Refusal {
     TotalTooLarge,
     NoFreeSlot,
     RingFull,
-    NoPerceivedRate,
     NoCall,
     BadNumber,
     OldNumber,
     TableFull,
-    /// A number, or with 0 a case of an answer, that this binding has no name for: it is older than the archive.
+    /// A number, or with 0 a case of an answer, that this binding has no name for: it was made for another archive.
     Other(u64),
 }
 
 impl Refusal {
-    const NAMED: [Refusal; 17] = [
+    const NAMED: [Refusal; 16] = [
         Refusal::BadWindow,
         Refusal::BadBucket,
         Refusal::BadCache,
@@ -41,7 +43,6 @@ impl Refusal {
         Refusal::TotalTooLarge,
         Refusal::NoFreeSlot,
         Refusal::RingFull,
-        Refusal::NoPerceivedRate,
         Refusal::NoCall,
         Refusal::BadNumber,
         Refusal::OldNumber,
@@ -67,7 +68,6 @@ impl Refusal {
             Refusal::TotalTooLarge => 10,
             Refusal::NoFreeSlot => 11,
             Refusal::RingFull => 12,
-            Refusal::NoPerceivedRate => 13,
             Refusal::NoCall => 14,
             Refusal::BadNumber => 19,
             Refusal::OldNumber => 20,
@@ -90,7 +90,6 @@ impl Refusal {
             Refusal::TotalTooLarge => "the key's total would pass 2^53",
             Refusal::NoFreeSlot => "every slot of the room is in use",
             Refusal::RingFull => "the key's ring of buckets is full",
-            Refusal::NoPerceivedRate => "a factor cannot be worked out at perceived rate zero",
             Refusal::NoCall => "a number that stands for no comparator or preservation",
             Refusal::BadNumber => "the shot's number is not 1 to 2^32 - 1",
             Refusal::OldNumber => "the shot's number is below the last admitted of its controller",
@@ -114,13 +113,13 @@ mod tests {
 
     #[test]
     fn numbers_and_words() {
-        for number in (1..=14).chain(19..=21) {
+        for number in (1..=12).chain([14]).chain(19..=21) {
             let refusal = Refusal::of(number);
             assert_ne!(refusal, Refusal::Other(number));
             assert_eq!(refusal.number(), number);
             assert!(refusal.to_string().ends_with(&format!("(refusal {number})")));
         }
-        for number in (15..=18).chain([22]) {
+        for number in (15..=18).chain([13, 22]) {
             assert_eq!(Refusal::of(number), Refusal::Other(number));
         }
     }

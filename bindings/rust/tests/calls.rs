@@ -191,6 +191,27 @@ fn the_draw_decides() {
     }
 }
 
+/// A count of 0 leaves no rate to hold back: what follows is admitted, whatever is drawn.
+#[test]
+fn a_slow_key_after_an_empty_call() {
+    let four = Settings { hard_limit_factor: 4.0, ..Settings::default() };
+    let admitted = Decision::Suppressed { suppression_factor: 0.0, is_allowed: true };
+    for draw in [0, MOST - 1] {
+        let mut limiter = Suppressed::new(four, room());
+        assert_eq!(limiter.inc(0, KEY, 0.05, 0, draw), Ok(Decision::Allowed));
+        assert_eq!(limiter.inc(1, KEY, 0.05, 1, draw), Ok(admitted));
+        let snapshot = Snapshot { total: 1, total_declined: 0, suppression_factor: 0.0 };
+        assert_eq!(limiter.get(1, KEY), Ok(snapshot));
+    }
+    let mut limiter = Suppressed::new(four, room());
+    limiter.inc(0, KEY, 0.05, 0, 0).unwrap();
+    assert_eq!(limiter.get(1, KEY), Ok(Snapshot { total: 0, total_declined: 0, suppression_factor: 0.0 }));
+    assert_eq!(limiter.get_suppression_factor(101, KEY), Ok(0.0));
+    assert_eq!(limiter.inc(102, KEY, 0.05, 1, 0), Ok(admitted));
+    // what was counted is a rate, also once the last second has passed
+    assert_eq!(limiter.get_suppression_factor(1_103, KEY), Ok(1.0));
+}
+
 #[test]
 fn shared_calls_in_a_suppressed_room() {
     let mut limiter = suppressed();
@@ -319,13 +340,6 @@ fn calls_that_cannot_be_done() {
         }
     };
     refuses(double(), full, |l| l.inc(404, KEY, 1.0, 1, 0), Refusal::RingFull);
-    let four = Settings { hard_limit_factor: 4.0, ..Settings::default() };
-    let idle = |limiter: &mut Suppressed| {
-        let mut other = Suppressed::new(four, limiter.room().clone());
-        other.inc(0, KEY, 0.05, 0, 0).unwrap();
-        *limiter = other;
-    };
-    refuses(four, idle, |l| l.inc(1, KEY, 0.05, 1, 0), Refusal::NoPerceivedRate);
 }
 
 #[test]

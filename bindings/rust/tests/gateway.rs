@@ -125,6 +125,17 @@ fn turned_away_and_sent_again() {
     refuses(&mut gateway, 10_003, CONTROLLER, 2, RATE, 0, Refusal::OldNumber);
 }
 
+/// A link test counts 0 in the room: the slow controller's first shot after it is admitted, and remembered.
+#[test]
+fn after_a_link_test() {
+    let four = Settings { hard_limit_factor: 4.0, ..Settings::default() };
+    let mut gateway = Gateway::new(four, Table::new(), Room::new(1, 4).unwrap());
+    gateway.suppressed().inc(0, CONTROLLER, 0.05, 0, 0).unwrap();
+    let yes = Shot::Suppressed { suppression_factor: 0.0, is_allowed: true };
+    assert_eq!(gateway.shot(1, CONTROLLER, 1, 0.05, (1 << 53) - 1), Ok(yes));
+    holds(&mut gateway, CONTROLLER, 1);
+}
+
 /// A yes between the limits is remembered as any other.
 #[test]
 fn the_draw_decides() {
