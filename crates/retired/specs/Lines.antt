@@ -1,9 +1,21 @@
--- What `desk` and `shots` print is lines, each the text of an answer; which codes these have.
+-- What `desk` and `shots` print is lines, each the text of an answer; which codes these have, and that the bytes tell it.
 -- Assumes nothing.
 use mathlib.Core.Path.{_≡_, refl, sym, ap, ap₂, _∙_}
+use mathlib.Core.Bool.{false}
 use mathlib.Core.List.{List, [], _∷_, _++_, append-assoc, append-nil}
 use mathlib.Core.Logic.{_≢_}
 use Prim.Native.Nat.{ℕ}
+use lib.ListN.{length, take, drop}
+use lib.Seq.{take-append-seam, drop-append-seam}
+use Rattle.fields.specs.Bytes.{counts}
+use Rattle.fields.specs.Numbers.{showNumber, show-digits, show-injective}
+use Rattle.fields.specs.Parts.{run}
+use Rattle.lines.specs.Laws.{Spaced, spaced-stops}
+use Rattle.lines.specs.ReadLaws.{Stops, run-shown}
+use Rattle.lines.specs.Shown.{tText, factorText}
+use Rattle.printing.specs.Answers.{codeText, answerText, showHex16, showVerdict, showCounts, showAnswer}
+use Rattle.printing.specs.declared.Answer.{Answer}
+use Rattle.printing.specs.declared.Answer.the-variants.{Allowed, Rejected, Yes, No, Value, Held, Refused}
 use Rattle.answers.specs.Rows.{decisionRow, totalRow, snapshotRow, shotRow, numberOf}
 use Rattle.answers.specs.declared.RateLimitDecision.{RateLimitDecision}
 use Rattle.answers.specs.declared.RateLimitDecision.the-variants as decision
@@ -16,7 +28,7 @@ use Rattle.answers.specs.declared.TotalAnswer.the-variants as total
 use Rattle.printing.specs.declared.AnswerLine.{AnswerLine}
 use Rattle.desk_lines.specs.declared.Stored.{Stored}
 use Rattle.desk_lines.specs.Lines.{decisionLine, totalLine, snapshotLine, shotLine}
-use Rattle.desk_turn.specs.Lines.{shown}
+use Rattle.desk_turn.specs.Lines.{newline, shown}
 use Rattle.desk_turn.specs.Lines as Turn
 use Rattle.desk_turn.specs.declared.Phase.{Phase}
 use Rattle.desk_laws.specs.Whole.{turns}
@@ -26,9 +38,10 @@ abbrev pub texts : List AnswerLine → List ℕ
 texts [] = []
 texts (l ∷ ls) = shown l ++ texts ls
 
+-- none of them has the bytes of an answer with code n
 abbrev pub NoneWith : ℕ → List AnswerLine → Type 0
 NoneWith n [] = Unit {0}
-NoneWith n (l ∷ ls) = (l .code ≢ n) × NoneWith n ls
+NoneWith n (l ∷ ls) = ((m : AnswerLine) → m .code ≡ n → shown l ≢ shown m) × NoneWith n ls
 
 -- these bytes are lines, and none has code n
 pub record Without (n : ℕ) (bytes : List ℕ) : Type 0 where
@@ -61,13 +74,69 @@ unfolding snapshotLine snapshotRow
 snapshot-code t (snapshot.Snapshot y) x = refl
 snapshot-code t (snapshot.Refused n) x = refl
 
+-- ---- what is printed tells the code: no other answer has the bytes of a line
+
+number-apart : (m n : ℕ) (x y : List ℕ) → Stops (counts false) x → Stops (counts false) y → showNumber m ++ x ≡ showNumber n ++ y → (m ≡ n) × (x ≡ y)
+number-apart m n x y p q e =
+    let long : length (showNumber m) ≡ length (showNumber n) =
+    sym (run-shown (counts false) (showNumber m) x (show-digits false m) p) ∙ ap (run (counts false)) e ∙
+    run-shown (counts false) (showNumber n) y (show-digits false n) q in
+    let left : showNumber m ≡ showNumber n =
+    sym (take-append-seam (showNumber m) x) ∙ ap₂ (λ (k : ℕ) (zs : List ℕ). take k zs) long e ∙ take-append-seam (showNumber n) y in
+    let right : x ≡ y =
+    sym (drop-append-seam (showNumber m) x) ∙ ap₂ (λ (k : ℕ) (zs : List ℕ). drop k zs) long e ∙ drop-append-seam (showNumber n) y in
+    (show-injective m n left, right)
+
+five-parts : (a b c d e f : List ℕ) → (a ++ (b ++ (c ++ (d ++ e)))) ++ f ≡ a ++ (b ++ (c ++ (d ++ (e ++ f))))
+five-parts a b c d e f =
+    append-assoc a (b ++ (c ++ (d ++ e))) f ∙
+    ap (λ (x : List ℕ). a ++ x)
+    (append-assoc b (c ++ (d ++ e)) f ∙
+    ap (λ (x : List ℕ). b ++ x) (append-assoc c (d ++ e) f ∙ ap (λ (x : List ℕ). c ++ x) (append-assoc d e f)))
+
+-- what stands behind a line's answer
+abbrev behind : AnswerLine → List ℕ
+behind l = ((factorText ++ showHex16 (l .factor)) ++ showCounts (l .wait) (l .left) (l .total) (l .declined)) ++ (newline ∷ [])
+
+-- and from its code on
+abbrev fromCode : AnswerLine → List ℕ
+fromCode l = showNumber (l .code) ++ (answerText (l .answer) ++ behind l)
+
+shown-is : (l : AnswerLine) → shown l ≡ tText ++ (showNumber (l .t) ++ (codeText ++ fromCode l))
+unfolding shown showAnswer showVerdict
+shown-is l =
+    let parts = five-parts (showNumber (l .t)) codeText (showNumber (l .code)) (answerText (l .answer)) in
+    let factor = factorText ++ showHex16 (l .factor) in
+    let counted = showCounts (l .wait) (l .left) (l .total) (l .declined) in
+    ap (λ (x : List ℕ). tText ++ (x ++ (newline ∷ []))) (parts factor counted) ∙ ap (λ (x : List ℕ). tText ++ x) (parts (factor ++ counted) (newline ∷ []))
+
+word-spaced : (a : Answer) → Spaced (answerText a)
+word-spaced Allowed = refl
+word-spaced Rejected = refl
+word-spaced Yes = refl
+word-spaced No = refl
+word-spaced Value = refl
+word-spaced Held = refl
+word-spaced Refused = refl
+
+pub code-told : (l m : AnswerLine) → shown l ≡ shown m → l .code ≡ m .code
+code-told l m e =
+    let past : showNumber (l .t) ++ (codeText ++ fromCode l) ≡ showNumber (m .t) ++ (codeText ++ fromCode m) =
+    ap (drop 2) (sym (shown-is l) ∙ e ∙ shown-is m) in
+    let stops : (k : AnswerLine) → Stops (counts false) (codeText ++ fromCode k) = λ k. spaced-stops false codeText (fromCode k) refl in
+    let coded : fromCode l ≡ fromCode m = ap (drop 6)
+    (number-apart (l .t) (m .t) (codeText ++ fromCode l) (codeText ++ fromCode m) (stops l) (stops m) past .1) in
+    number-apart (l .code) (m .code) (answerText (l .answer) ++ behind l) (answerText (m .answer) ++ behind m)
+    (spaced-stops false (answerText (l .answer)) (behind l) (word-spaced (l .answer)))
+    (spaced-stops false (answerText (m .answer)) (behind m) (word-spaced (m .answer))) coded .0
+
 -- ---- no lines, one, and more
 
 pub no-line : (n : ℕ) → Without n []
 no-line n = record { lines = []; text = refl; codes = tt }
 
 pub one-line : (n : ℕ) (l : AnswerLine) → l .code ≢ n → Without n (shown l)
-one-line n l h = record { lines = l ∷ []; text = sym (append-nil (shown l)); codes = (h, tt) }
+one-line n l h = record { lines = l ∷ []; text = sym (append-nil (shown l)); codes = (λ m e f. h (code-told l m f ∙ e), tt) }
 
 texts-both : (ls ms : List AnswerLine) → texts ls ++ texts ms ≡ texts (ls ++ ms)
 texts-both [] ms = refl
