@@ -54,7 +54,7 @@ use Rattle.desk_turn.specs.declared.Phase.the-variants.{Waiting, Open, Ended}
 use Rattle.desk_turn.specs.Lines.{printsIn, steppedBy, turn}
 use Rattle.desk_feed.specs.Feed.{whole, fresh, running}
 use Rattle.desk_laws.specs.Whole.{inputLines, turns, desk-prints, shots-prints}
-use Rattle.steps.specs.Order.{Numbered, TurnedBy, turned-by, not-numbered, no-13}
+use Rattle.steps.specs.Order.{Numbered, TurnedBy, turned-by, not-numbered}
 use Rattle.steps.specs.Ops as Ops
 use Rattle.steps.specs.Ops.{Op, rowOf, verdictOf, answerNumber}
 use Rattle.promises.specs.Refusals.{reads, reads-number, demand1}
@@ -205,5 +205,13 @@ module _ (n : ℕ) (z : n ≢ 0) (h : Numbered n → ⊥) where
     shots-lines = λ hold xs e. input-lines program.Shots emptyTable (empty 64 128) xs _ (shots-prints hold xs e);
   }
 
-pub never-13 : NeverGiven 13
-never-13 = unnumbered 13 (λ e. omega arith) no-13
+-- "its number is not used again"
+abbrev pub unused : ℕ
+unused = 13
+
+pub never-13 : NeverGiven unused
+never-13 = unnumbered unused (λ e. omega arith) (λ h. omega arith)
+
+-- it is not said of a number that is given: 5 is, where words are too few for a room
+pub five-given : NeverGiven 5 → ⊥
+five-given g = g .face-make false refl
