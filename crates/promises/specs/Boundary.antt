@@ -149,8 +149,8 @@ pub record Further : Type 0 where
   pub soft-10 : softOf (hardBy 2) (perSecond one) ≡ 10
   pub twenty-full : sinc 50 1 0 twenty .answer ≡ Suppressed one false
   -- the factor after the link test, by the two calls that give it
-  pub empty-factor : SuppressedCalls.getFactor (hardBy 4) linkTested 1 key .answer ≡ factor.Factor nil
-  pub empty-snapshot : SuppressedCalls.get (hardBy 4) linkTested 1 key .answer ≡ snapshot.Snapshot noSnapshot
+  pub link-factor : SuppressedCalls.getFactor (hardBy 4) linkTested 1 key .answer ≡ factor.Factor nil
+  pub link-snapshot : SuppressedCalls.get (hardBy 4) linkTested 1 key .answer ≡ snapshot.Snapshot noSnapshot
   -- the totals that `get` gives; and a total, word 10 of the room, that is not the sum, which is unsound
   pub twenty-known : heldIn twenty key .known ≡ true
   pub twenty-given : sget 0 twenty .answer ≡ snapshot.Snapshot (record { total = 20; «total_declined» = 0; «suppression_factor» = one })
@@ -239,8 +239,8 @@ computed = record {
     hard-20 = refl;
     soft-10 = refl;
     twenty-full = refl;
-    empty-factor = refl;
-    empty-snapshot = refl;
+    link-factor = refl;
+    link-snapshot = refl;
     twenty-known = refl;
     twenty-given = refl;
     made-up = λ n h. rw (ne-eqb n 20 h);

@@ -74,7 +74,7 @@ unfolding snapshotLine snapshotRow
 snapshot-code t (snapshot.Snapshot y) x = refl
 snapshot-code t (snapshot.Refused n) x = refl
 
--- ---- what is printed tells the code: no other answer has the bytes of a line
+-- ---- what is printed tells the code: no answer with another code has the bytes of a line
 
 number-apart : (m n : ℕ) (x y : List ℕ) → Stops (counts false) x → Stops (counts false) y → showNumber m ++ x ≡ showNumber n ++ y → (m ≡ n) × (x ≡ y)
 number-apart m n x y p q e =

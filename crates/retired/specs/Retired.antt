@@ -111,8 +111,11 @@ module _ (n : ℕ) (z : n ≢ 0) (h : Numbered n → ⊥) where
 
   -- ---- the faces
 
+  not-told : (row : List ℕ) (m : ℕ) (a : List ℕ) → numberOf row ≢ n → m ≡ numberOf row → a ≡ row → NotTold n m a
+  not-told row m a k p q = (λ e. k (sym p ∙ e), λ e. k (sym (ap numberOf q) ∙ e))
+
   faced : {W : Type 0} (f : Face W) (m : ℕ) (a : List ℕ) (v : W) → numberOf (f .row) ≢ n → Faced f m a v → NotTold n m a
-  faced f m a v k g = (λ e. k (sym (g .number) ∙ e), λ e. k (sym (ap numberOf (g .answer)) ∙ e))
+  faced f m a v k g = not-told (f .row) m a k (g .number) (g .answer)
 
   bucket-turned : (kind : RoomKind) (s : Settings) (w key : List ℕ) (i : ℕ) → TurnedBy (reads kind s w key) (bucketRow kind s w key i) w w
   unfolding bucketRow faults
@@ -197,9 +200,7 @@ module _ (n : ℕ) (z : n ≢ 0) (h : Numbered n → ⊥) where
     face-both = λ s a b t stale m r v. faced _ m r v (from _ _ _ _ (demand1 .provider-cleanup s a b t stale));
     face-shot = λ s w r t key number rate draw m a v. faced _ m a v (by-shots s w r t key number rate draw);
     face-season = λ w m a v. faced _ m a v (from _ _ _ _ (demand1 .gateway .new-season w));
-    face-bucket = λ kind s w key i m a g.
-        let k = from _ _ _ _ (bucket-turned kind s w key i) in
-        (λ e. k (sym (g .number) ∙ e), λ e. k (sym (ap numberOf (g .answer)) ∙ e));
+    face-bucket = λ kind s w key i m a g. not-told _ m a (from _ _ _ _ (bucket-turned kind s w key i)) (g .number) (g .answer);
     face-make = make;
     desk = λ hold xs e. input-lines program.Desk (empty 8 128) (empty 8 128) xs _ (desk-prints hold xs e);
     shots-lines = λ hold xs e. input-lines program.Shots emptyTable (empty 64 128) xs _ (shots-prints hold xs e);
