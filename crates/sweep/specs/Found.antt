@@ -51,7 +51,7 @@ ahead-le w t (x ∷ xs) = go (older w t x) (ahead-le w t xs)
 
 -- ---- the expired
 
-gone-ahead : (w t : ℕ) (g : Gone) (xs : List Bucket) → goneFrom w t g xs .buckets ≡ g .buckets + ahead w t xs
+pub gone-ahead : (w t : ℕ) (g : Gone) (xs : List Bucket) → goneFrom w t g xs .buckets ≡ g .buckets + ahead w t xs
 unfolding goneFrom ahead
 gone-ahead w t g [] = omega arith
 gone-ahead w t g (x ∷ xs) = go (older w t x) (gone-ahead w t (fewer g x) xs)
@@ -61,7 +61,7 @@ gone-ahead w t g (x ∷ xs) = go (older w t x) (gone-ahead w t (fewer g x) xs)
     go true i = omega (arith, i)
     go false i = omega arith
 
-gone-total : (w t : ℕ) (g : Gone) (xs : List Bucket) → counts xs ≡ g .total → goneFrom w t g xs .total ≡ counts (drop (ahead w t xs) xs)
+pub gone-total : (w t : ℕ) (g : Gone) (xs : List Bucket) → counts xs ≡ g .total → goneFrom w t g xs .total ≡ counts (drop (ahead w t xs) xs)
 unfolding goneFrom ahead sumOf
 gone-total w t g [] e = sym e
 gone-total w t g (x ∷ xs) e = go (older w t x) (gone-total w t (fewer g x) xs (omega (arith, e)))
@@ -71,7 +71,7 @@ gone-total w t g (x ∷ xs) e = go (older w t x) (gone-total w t (fewer g x) xs 
     go true i = i
     go false i = sym e
 
-gone-declined : (w t : ℕ) (g : Gone) (xs : List Bucket) → declineds xs ≡ g .declined → goneFrom w t g xs .declined ≡ declineds (drop (ahead w t xs) xs)
+pub gone-declined : (w t : ℕ) (g : Gone) (xs : List Bucket) → declineds xs ≡ g .declined → goneFrom w t g xs .declined ≡ declineds (drop (ahead w t xs) xs)
 unfolding goneFrom ahead sumOf
 gone-declined w t g [] e = sym e
 gone-declined w t g (x ∷ xs) e = go (older w t x) (gone-declined w t (fewer g x) xs (omega (arith, e)))

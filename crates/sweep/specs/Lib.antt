@@ -2,3 +2,4 @@ pub mod Sweep
 pub mod Turns
 pub mod Found
 pub mod Measured
+pub mod Wholly

@@ -2,8 +2,9 @@
 ghost use mathlib.Core.Path.{_≡_};
 ghost use Prim.Native.Nat.{_-_};
 ghost use lib.Dec.{ltb};
-ghost use Rattle.ring.specs.Ring.{Shape, noBucket};
-ghost use Rattle.ring.specs.Sound.{soundBuckets};
+ghost use Rattle.ring.specs.Ring.{Shape, noBucket, buckets};
+ghost use Rattle.ring.specs.Sound.{soundBuckets, Sound};
+ghost use Rattle.rules.specs.Buckets.{newest};
 ghost use Rattle.sweep.specs.Sweep.{goodOf, stepOf, endedOf, sweepOf, goneOf, unsound, passOf};
 use ring::Bucket;
 
@@ -110,7 +111,7 @@ fn is_sound(b: &[u64], r: usize, last: u64) -> bool
     sweep(b, r, last)
 }
 
-// The oldest buckets that are over `window`; only these are read, and the next.
+// The oldest buckets that are over `window`, one by one; only these are read, and the next.
 fn expire(b: &[u64], r: usize, reading: u64, window: u64) -> Gone
     requires { ⌜ Shape r (now b) ⌝ }
     ensures { λ y. ⌜ y ≡ goneOf r (now (b .entry)) reading window ⌝ }
@@ -138,6 +139,22 @@ fn expire(b: &[u64], r: usize, reading: u64, window: u64) -> Gone
         total,
         declined,
     }
+}
+
+// What goes of sound buckets. Where the newest, of this time, is over `window` all are, since times do not fall: nothing is walked.
+// `last` is the reading that the buckets are sound at.
+fn gone(b: &[u64], r: usize, last: u64, time: u64, reading: u64, window: u64) -> Gone
+    requires { ⌜ Sound r (now b) last × (time ≡ newest (buckets r (now b)) .time) ⌝ }
+    ensures { λ y. ⌜ y ≡ goneOf r (now (b .entry)) reading window ⌝ }
+{
+    if older(window, reading, time) {
+        return Gone {
+            buckets: ring::len(b, r),
+            total: 0,
+            declined: 0,
+        };
+    }
+    expire(b, r, reading, window)
 }
 
 // Where there is no bucket.
@@ -175,9 +192,10 @@ fn pass_fit(b: &[u64], r: usize, last: u64, reading: u64, window: u64) -> Pass
         return no_pass();
     }
     let n = ring::len(b, r);
-    let g = expire(b, r, reading, window);
-    let expired = g.buckets;
     let end = ring::less(n as u64, 1) as usize;
+    let newest = ring::nth_or_none(b, r, end);
+    let g = gone(b, r, last, newest.time, reading, window);
+    let expired = g.buckets;
     Pass {
         sound: true,
         buckets: n,
@@ -185,7 +203,7 @@ fn pass_fit(b: &[u64], r: usize, last: u64, reading: u64, window: u64) -> Pass
         live_total: g.total,
         live_declined: g.declined,
         oldest: ring::nth_or_none(b, r, expired),
-        newest: ring::nth_or_none(b, r, end),
+        newest,
     }
 }
 

@@ -1,8 +1,11 @@
 -- `sweep::pass_fit` meets its contract: what is sound finds what the rules say, and anything else finds nothing.
 -- Assumes nothing.
-use mathlib.Core.Path.{sym, _∙_}
+use mathlib.Core.Path.{sym, ap, _∙_}
 use borrow.Author.Tests.{not-true, not-false}
+use Rattle.ring.specs.declared.Bucket.{Bucket}
+use Rattle.ring.specs.Sound.{sound-true}
 use Rattle.sweep.specs.Found.{pass-not, pass-is}
+use Rattle.sweep.specs.Wholly.{newest-at}
 use borrow.Author.Needs.{needs}
 use Rattle.sweep.proofs.pass_fit.Statement.{statement}
 use Rattle.sweep.proofs.pass_fit.Tie as tie
@@ -21,14 +24,21 @@ returns c = let a = c .before .before .before .before .args in
 len-requires : tie.Need-len-requires
 len-requires c κs = search needs
 
-expire-requires : tie.Need-expire-requires
-expire-requires c κs = search needs
-
 less-requires : tie.Need-less-requires
 less-requires c κs = search needs
 
 nth-or-none-requires : tie.Need-nth-or-none-requires
 nth-or-none-requires c κs = search needs
+
+gone-requires : tie.Need-gone-requires
+gone-requires c κs = let a = c .before .before .before .before .before .before .args in
+    let s = c .before .before .before .before .is-sound in
+    let n = c .before .before .len in
+    let d = c .before .less in
+    let x = c .nth-or-none in (
+      sound-true (a .r) (a .b .now) (a .last) (sym (s .ensures) ∙ not-false (s .result) (c .before .before .before .if1 .left)),
+      ap (λ (y : Bucket). y .time) (newest-at (a .r) (a .b .now) (n .result) (d .result) (x .result) (n .ensures) (d .ensures) (x .ensures)),
+    )
 
 nth-or-none-requires-2 : tie.Need-nth-or-none-requires-2
 nth-or-none-requires-2 c κs = search needs
@@ -37,12 +47,12 @@ returns-2 : tie.Need-returns-2
 returns-2 c = let a = c .before .before .before .before .before .before .before .before .args in
     let s = c .before .before .before .before .before .before .is-sound in
     let n = c .before .before .before .before .len in
-    let e = c .before .before .before .expire in
-    let d = c .before .before .less in
+    let d = c .before .before .before .less in
+    let m = c .before .before .nth-or-none in
+    let e = c .before .gone in
     pass-is (a .r) (a .b .now) (a .last) (a .reading) (a .window)
     (sym (s .ensures) ∙ not-false (s .result) (c .before .before .before .before .before .if1 .left)) (e .result) (e .ensures)
-    (n .result) (d .result) (c .before .nth-or-none .result) (c .nth-or-none2 .result) (n .ensures) (d .ensures) (c .before .nth-or-none .ensures)
-    (c .nth-or-none2 .ensures)
+    (n .result) (d .result) (c .nth-or-none2 .result) (m .result) (n .ensures) (d .ensures) (c .nth-or-none2 .ensures) (m .ensures)
 
 pub pass-fit-spec : {M : Type 1} → statement M
 pass-fit-spec =
@@ -52,8 +62,8 @@ pass-fit-spec =
     no-pass-requires
     returns
     len-requires
-    expire-requires
     less-requires
     nth-or-none-requires
+    gone-requires
     nth-or-none-requires-2
     returns-2)
