@@ -220,6 +220,30 @@ impl<'a> Slot<'a> {
             .sum()
     }
 
+    /// All buckets, by the totals.
+    fn all(&self) -> Gone {
+        Gone { buckets: self.buckets(), count: self.total(), declined: self.declined() }
+    }
+
+    /// The expired buckets of a sound series. Times do not fall, so the expired are the oldest, and where the newest is
+    /// one of them, all are; with no bucket the totals are 0.
+    #[inline]
+    pub fn expired(&self, settings: &Settings, reading: u64) -> Gone {
+        let is_expired = |index: u64| {
+            let time = self.times[self.cell(index)];
+            settings.expired(reading.saturating_sub(time))
+        };
+        if self.buckets() == 0 || is_expired(self.buckets() - 1) {
+            return self.all();
+        }
+        let mut gone = Gone::default();
+        // Ends at the newest.
+        while is_expired(gone.buckets) {
+            gone.add(self.bucket(gone.buckets));
+        }
+        gone
+    }
+
     /// The cached factor, if there is one at age below `cache_ms`.
     pub fn cached(&self, reading: u64, cache_ms: u64) -> Option<f64> {
         (self.has_factor() && reading - self.factor_time() < cache_ms)
@@ -235,7 +259,15 @@ pub struct Gone {
     pub declined: u64,
 }
 
-/// The expired buckets, by one pass over all, or none where the series is unsound.
+impl Gone {
+    fn add(&mut self, next: Bucket) {
+        self.buckets += 1;
+        self.count += next.count;
+        self.declined += next.declined;
+    }
+}
+
+/// The expired buckets, or none where the series is unsound, which one pass over all buckets tells.
 fn scan_series(
     kind: Kind,
     settings: &Settings,
@@ -249,7 +281,6 @@ fn scan_series(
     if slot.total() > TOP || !settings.is_limit(kind, slot.limit()) {
         return None;
     }
-    let mut expired = Gone::default();
     let (mut count, mut declined, mut time) = (0u64, 0u64, 0u64);
     for index in 0..slot.buckets() {
         let bucket = slot.bucket(index);
@@ -260,11 +291,8 @@ fn scan_series(
         time = bucket.time;
         count = count.checked_add(bucket.count)?;
         declined += bucket.declined;
-        if settings.expired(reading.saturating_sub(time)) {
-            expired = Gone { buckets: index + 1, count, declined };
-        }
     }
-    (count == slot.total() && declined == slot.declined()).then_some(expired)
+    (count == slot.total() && declined == slot.declined()).then(|| slot.expired(settings, reading))
 }
 
 /// The expired buckets of a slot in use, or none where it is unsound.
@@ -402,9 +430,7 @@ impl SlotMut<'_> {
 
     /// All buckets go, by moving head.
     pub fn cut_all(&mut self) {
-        let slot = self.read();
-        let all = Gone { buckets: slot.buckets(), count: slot.total(), declined: slot.declined() };
-        self.cut(all);
+        self.cut(self.read().all());
     }
 
     /// The oldest or the newest bucket goes whole.

@@ -4,7 +4,7 @@
 use crate::room::{Gone, Slot};
 use crate::rules::{Kind, Settings};
 
-/// The expired buckets, from the oldest on. Stands in for the judging pass.
+/// The expired buckets. Stands in for the judging pass.
 pub fn scan_slot(
     _kind: Kind,
     settings: &Settings,
@@ -12,15 +12,5 @@ pub fn scan_slot(
     _last: u64,
     reading: u64,
 ) -> Option<Gone> {
-    let mut expired = Gone::default();
-    while slot.has_series() && expired.buckets < slot.buckets() {
-        let bucket = slot.bucket(expired.buckets);
-        if !settings.expired(reading.saturating_sub(bucket.time)) {
-            break;
-        }
-        expired.buckets += 1;
-        expired.count += bucket.count;
-        expired.declined += bucket.declined;
-    }
-    Some(expired)
+    Some(if slot.has_series() { slot.expired(settings, reading) } else { Gone::default() })
 }
