@@ -1,17 +1,19 @@
 #!/bin/sh
 # Builds the benchmark with rustc alone into bench/target: the twin, the twin trusting its rooms, the original, and the archive
-# that ARCHIVE names (without it: the archive is left out). TRYPEMA_SRC names the folder of the original source.
+# that ARCHIVE names (without it: the archive is left out). TRYPEMA_SRC names the folder of the original source, TWIN that of a twin
+# to be timed in place of this one.
 set -eu
 cd "$(dirname "$0")"
 here=$(pwd)
 source=${TRYPEMA_SRC:-$here/../../shared/docs/src}
 source=$(cd "$source" && pwd)
+twin=${TWIN:-../twin}/src/lib.rs
 mkdir -p target ../oracle/target
 rm -f ../oracle/target/original
 ln -s "$source/src" ../oracle/target/original
 rust="rustc --edition 2024 -O -D warnings --out-dir target -L target"
-$rust --crate-type rlib --crate-name twin ../twin/src/lib.rs
-$rust --crate-type rlib --crate-name trusting --cfg trusting -A dead_code ../twin/src/lib.rs
+$rust --crate-type rlib --crate-name twin "$twin"
+$rust --crate-type rlib --crate-name trusting --cfg trusting -A dead_code "$twin"
 for macros in strum_macros thiserror; do
     $rust --crate-type proc-macro --crate-name $macros --extern proc_macro ../oracle/shims/$macros.rs
 done

@@ -1,38 +1,69 @@
 #!/bin/sh
-# count.sh [increments]: instructions for an increment and for a shot, which no load on the machine changes, by valgrind: what twice as
-# many of them execute more. Needs a benchmark built by build.sh.
+# count.sh [calls] [increments|shots|expired]: instructions for a call, which no load on the machine changes: what twice as many calls
+# execute more, less what is executed where none is made. By valgrind, which counts the calls alone; where COUNT names a command, by
+# that: it runs its arguments and prints how many instructions they executed, as its last line. Needs a benchmark built by build.sh;
+# contestants that it does not have are left out.
 set -eu
 cd "$(dirname "$0")"
 calls=${1:-20000}
 executed() {
-    valgrind --tool=callgrind --callgrind-out-file=/dev/null --toggle-collect="*Contestant*run*" target/bench one "$@" 2>&1 | sed -n 's/.*Collected : //p'
+    if [ -n "${COUNT:-}" ]; then
+        told=$($COUNT target/bench one "$@") && echo "$told" | tail -n 1
+    else
+        told=$(valgrind --tool=callgrind --callgrind-out-file=/dev/null --toggle-collect="*Contestant>::run" target/bench one "$@" 2>&1) &&
+            echo "$told" | sed -n 's/.*Collected : //p'
+    fi
 }
-# for one more of what the arguments say
-each() {
-    once=$(executed "$@" "$calls")
-    twice=$(executed "$@" $((2 * calls)))
-    echo $(((twice - once) / calls))
+# what twice as many calls of a contestant execute more: NAME WHAT..
+more() {
+    once=$(executed "$@" "$calls") && twice=$(executed "$@" $((2 * calls))) && echo $((twice - once))
 }
-for limiter in absolute suppressed; do
-    for live in 10 100 298 512; do
-        line="$limiter ring $live"
-        for name in twin archive trusting original; do
-            line="$line  $name $(each $name $limiter $live)"
-        done
-        echo "$line"
+# prints what is counted, then each contestant with its instructions for a call: HEADING "NAME.." WHAT..
+row() {
+    line=$1
+    names=$2
+    shift 2
+    idle=$(more nothing "$@") || { echo "the instructions could not be counted" >&2; exit 1; }
+    for name in $names; do
+        made=$(more "$name" "$@") || continue
+        line="$line  $name $(((made - idle) / calls))"
     done
-done
-for keys in 40 64; do
-    for live in 10 100; do
-        line="shots of $keys controllers, ring $live"
-        for name in twin archive twin-shot archive-shot; do
-            line="$line  $name $(each $name rising $keys $live)"
+    echo "$line"
+}
+increments() {
+    for limiter in absolute suppressed; do
+        for live in 10 100 298 512; do
+            row "$limiter ring $live" "twin archive trusting original" $limiter $live
         done
-        for held in held last; do
-            for name in twin-shot archive-shot; do
-                line="$line  $name, $held $(each $name $held $keys $live)"
-            done
-        done
-        echo "$line"
     done
-done
+}
+shots() {
+    for keys in 40 64; do
+        for live in 10 100; do
+            of="shots of $keys controllers, ring $live"
+            row "$of" "twin archive twin-shot archive-shot" rising $keys $live
+            row "$of, held" "twin-shot archive-shot" held $keys $live
+            row "$of, held last" "twin-shot archive-shot" last $keys $live
+        done
+    done
+}
+expired() {
+    for call in "absolute inc" "absolute get" "absolute is_allowed" \
+        "suppressed inc" "suppressed get" "suppressed get_suppression_factor"; do
+        for live in 10 100 512; do
+            row "expired, $call, ring $live" "twin archive trusting" expired $call $live
+        done
+    done
+}
+case ${2:-all} in
+increments | shots | expired) $2 ;;
+all)
+    increments
+    shots
+    expired
+    ;;
+*)
+    echo "increments, shots or expired" >&2
+    exit 2
+    ;;
+esac

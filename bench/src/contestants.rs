@@ -1,10 +1,10 @@
-//! The contestants: each puts a stretch of increments to its own limiters and folds the answers into one number.
+//! The contestants: each puts a stretch of calls to its own limiters and folds the answers into one number.
 
 use std::sync::Arc;
 
 use original::{LocalRateLimiterProvider, RateLimit, RateLimitDecision};
 
-use crate::load::{Increment, Limiter, Load};
+use crate::load::{Call, Increment, Key, Limiter, Load, Settings};
 use crate::shots::TwinShots;
 #[cfg(archive)]
 use crate::shots::archive::ArchiveShots;
@@ -20,11 +20,11 @@ pub trait Contestant {
         true
     }
 
-    /// The increments one after another; gives the answers, folded.
+    /// The load's call with each of these, one after another; gives the answers, folded.
     fn run(&mut self, limiter: Limiter, load: &Load, increments: &[Increment]) -> u64;
 
     /// The words of a room, where there is one.
-    fn room(&self, limiter: Limiter) -> Option<&[u64]>;
+    fn room(&mut self, limiter: Limiter) -> Option<&mut [u64]>;
 }
 
 /// An answer as a number, the same for each contestant.
@@ -40,40 +40,119 @@ pub fn suppressed(factor: u64, admitted: bool) -> u64 {
     3 + factor + u64::from(admitted)
 }
 
+/// The values that a call tells of a key, in the order of the C faces; 0 where there is none.
+fn told(values: [u64; 3]) -> u64 {
+    values.into_iter().fold(5, folded)
+}
+
 pub fn refused(number: u64) -> ! {
-    panic!("an increment was refused with {number}");
+    panic!("a call was refused with {number}");
 }
 
 /// Folds one answer more.
-pub fn folded(answers: u64, answer: u64) -> u64 {
+fn folded(answers: u64, answer: u64) -> u64 {
     answers.rotate_left(5) ^ answer
+}
+
+/// The answers to all of these, folded. `ask` puts one to a limiter, with its key.
+pub fn answers(
+    load: &Load,
+    increments: &[Increment],
+    mut ask: impl FnMut(&Increment, &Key) -> u64,
+) -> u64 {
+    increments
+        .iter()
+        .fold(0, |before, given| folded(before, ask(given, &load.keys[given.key as usize])))
+}
+
+/// A room for each limiter.
+struct Rooms {
+    absolute: Vec<u64>,
+    suppressed: Vec<u64>,
+}
+
+impl Rooms {
+    fn new(load: &Load) -> Self {
+        let room = twin::room::empty_room(load.keys.len(), load.shape.ring);
+        Rooms { absolute: room.clone(), suppressed: room }
+    }
+
+    fn of(&mut self, limiter: Limiter) -> &mut [u64] {
+        match limiter {
+            Limiter::Absolute => &mut self.absolute,
+            Limiter::Suppressed => &mut self.suppressed,
+        }
+    }
 }
 
 /// A twin over its two rooms: `twin`, or the same source built to trust its rooms.
 macro_rules! of_rooms {
     ($contestant:ident, $name:literal, $twin:ident) => {
         pub struct $contestant {
-            absolute: Vec<u64>,
-            suppressed: Vec<u64>,
+            rooms: Rooms,
             settings: $twin::rules::Settings,
         }
 
         impl $contestant {
             pub fn new(load: &Load) -> Self {
-                let room = $twin::room::empty_room(load.keys.len(), load.shape.ring);
-                let crate::load::Settings { window, bucket, cache, factor } = load.settings;
+                let Settings { window, bucket, cache, factor } = load.settings;
                 let settings = $twin::rules::Settings { window, bucket, cache, factor };
-                $contestant { absolute: room.clone(), suppressed: room, settings }
+                $contestant { rooms: Rooms::new(load), settings }
             }
 
-            fn answer(result: Result<$twin::rules::Decision, $twin::rules::Refusal>) -> u64 {
-                match result {
-                    Ok($twin::rules::Decision::Allowed) => allowed(),
-                    Ok($twin::rules::Decision::Rejected { wait, left, .. }) => rejected(wait, left),
-                    Ok($twin::rules::Decision::Suppressed { factor, admitted }) => {
+            fn answered<T>(result: Result<T, $twin::rules::Refusal>) -> T {
+                result.unwrap_or_else(|refusal| refused(refusal.0))
+            }
+
+            fn decided(result: Result<$twin::rules::Decision, $twin::rules::Refusal>) -> u64 {
+                use $twin::rules::Decision;
+                match Self::answered(result) {
+                    Decision::Allowed => allowed(),
+                    Decision::Rejected { wait, left, .. } => rejected(wait, left),
+                    Decision::Suppressed { factor, admitted } => {
                         suppressed(factor.to_bits(), admitted)
                     }
-                    Err($twin::rules::Refusal(number)) => refused(number),
+                }
+            }
+
+            fn ask_absolute(&mut self, load: &Load, increments: &[Increment]) -> u64 {
+                use $twin::absolute::{get, inc, is_allowed};
+                let (settings, room) = (&self.settings, &mut self.rooms.absolute[..]);
+                match load.shape.deed.call() {
+                    Call::Inc => answers(load, increments, |given, key| {
+                        let (bytes, count) = (key.text.as_bytes(), u64::from(given.count));
+                        Self::decided(inc(settings, room, given.reading, bytes, key.rate, count))
+                    }),
+                    Call::Get => answers(load, increments, |given, key| {
+                        let total = get(settings, room, given.reading, key.text.as_bytes());
+                        told([Self::answered(total), 0, 0])
+                    }),
+                    Call::Own => answers(load, increments, |given, key| {
+                        let bytes = key.text.as_bytes();
+                        Self::decided(is_allowed(settings, room, given.reading, bytes))
+                    }),
+                }
+            }
+
+            fn ask_suppressed(&mut self, load: &Load, increments: &[Increment]) -> u64 {
+                use $twin::suppressed::{Snapshot, get, get_suppression_factor, inc};
+                let (settings, room) = (&self.settings, &mut self.rooms.suppressed[..]);
+                match load.shape.deed.call() {
+                    Call::Inc => answers(load, increments, |given, key| {
+                        let Increment { reading, draw, count, .. } = *given;
+                        let (bytes, count) = (key.text.as_bytes(), u64::from(count));
+                        Self::decided(inc(settings, room, reading, bytes, key.rate, count, draw))
+                    }),
+                    Call::Get => answers(load, increments, |given, key| {
+                        let snapshot = get(settings, room, given.reading, key.text.as_bytes());
+                        let Snapshot { total, declined, factor } = Self::answered(snapshot);
+                        told([total, declined, factor.to_bits()])
+                    }),
+                    Call::Own => answers(load, increments, |given, key| {
+                        let bytes = key.text.as_bytes();
+                        let factor = get_suppression_factor(settings, room, given.reading, bytes);
+                        told([Self::answered(factor).to_bits(), 0, 0])
+                    }),
                 }
             }
         }
@@ -84,48 +163,19 @@ macro_rules! of_rooms {
             }
 
             fn clear(&mut self, limiter: Limiter, _load: &Load, reading: u64) {
-                let room = match limiter {
-                    Limiter::Absolute => &mut self.absolute,
-                    Limiter::Suppressed => &mut self.suppressed,
-                };
+                let room = self.rooms.of(limiter);
                 $twin::shared::clear(&self.settings, room, reading).expect("a room");
             }
 
             fn run(&mut self, limiter: Limiter, load: &Load, increments: &[Increment]) -> u64 {
-                let mut answers = 0;
-                for increment in increments {
-                    let Increment { reading, draw, count, key, .. } = *increment;
-                    let key = &load.keys[key as usize];
-                    let (bytes, count) = (key.text.as_bytes(), u64::from(count));
-                    let result = match limiter {
-                        Limiter::Absolute => $twin::absolute::inc(
-                            &self.settings,
-                            &mut self.absolute,
-                            reading,
-                            bytes,
-                            key.rate,
-                            count,
-                        ),
-                        Limiter::Suppressed => $twin::suppressed::inc(
-                            &self.settings,
-                            &mut self.suppressed,
-                            reading,
-                            bytes,
-                            key.rate,
-                            count,
-                            draw,
-                        ),
-                    };
-                    answers = folded(answers, Self::answer(result));
+                match limiter {
+                    Limiter::Absolute => self.ask_absolute(load, increments),
+                    Limiter::Suppressed => self.ask_suppressed(load, increments),
                 }
-                answers
             }
 
-            fn room(&self, limiter: Limiter) -> Option<&[u64]> {
-                match limiter {
-                    Limiter::Absolute => Some(&self.absolute),
-                    Limiter::Suppressed => Some(&self.suppressed),
-                }
+            fn room(&mut self, limiter: Limiter) -> Option<&mut [u64]> {
+                Some(self.rooms.of(limiter))
             }
         }
     };
@@ -139,64 +189,54 @@ of_rooms!(Trusting, "trusting", trusting);
 pub mod archive {
     use super::*;
 
-    unsafe extern "C" {
-        fn frostaxle_absolute_inc(
-            window: u64,
-            bucket: u64,
-            cache: u64,
-            factor: f64,
-            room: *mut u64,
-            words: usize,
-            reading: u64,
-            key: *const u8,
-            bytes: usize,
-            rate: f64,
-            count: u64,
-            row: *mut u64,
-        ) -> u64;
+    /// The archive's functions: settings, a room and a reading, what the call asks for, and the row for the answer.
+    macro_rules! faces {
+        ($($name:ident($($argument:ident: $type:ty),*);)*) => {
+            unsafe extern "C" {
+                $(fn $name(
+                    window: u64,
+                    bucket: u64,
+                    cache: u64,
+                    factor: f64,
+                    room: *mut u64,
+                    words: usize,
+                    reading: u64,
+                    $($argument: $type,)*
+                    row: *mut u64,
+                ) -> u64;)*
+            }
+        };
+    }
 
-        fn frostaxle_suppressed_inc(
-            window: u64,
-            bucket: u64,
-            cache: u64,
-            factor: f64,
-            room: *mut u64,
-            words: usize,
-            reading: u64,
-            key: *const u8,
-            bytes: usize,
-            rate: f64,
-            count: u64,
-            draw: u64,
-            row: *mut u64,
-        ) -> u64;
+    faces! {
+        frostaxle_absolute_inc(key: *const u8, bytes: usize, rate: f64, count: u64);
+        frostaxle_absolute_get(key: *const u8, bytes: usize);
+        frostaxle_absolute_is_allowed(key: *const u8, bytes: usize);
+        frostaxle_absolute_clear();
+        frostaxle_suppressed_inc(key: *const u8, bytes: usize, rate: f64, count: u64, draw: u64);
+        frostaxle_suppressed_get(key: *const u8, bytes: usize);
+        frostaxle_suppressed_get_suppression_factor(key: *const u8, bytes: usize);
+        frostaxle_suppressed_clear();
+    }
 
-        fn frostaxle_absolute_clear(
-            window: u64,
-            bucket: u64,
-            cache: u64,
-            factor: f64,
-            room: *mut u64,
-            words: usize,
-            reading: u64,
-            row: *mut u64,
-        ) -> u64;
-
-        fn frostaxle_suppressed_clear(
-            window: u64,
-            bucket: u64,
-            cache: u64,
-            factor: f64,
-            room: *mut u64,
-            words: usize,
-            reading: u64,
-            row: *mut u64,
-        ) -> u64;
+    /// Puts a call with a key to a function of the archive; gives its code, and the answer in the row.
+    macro_rules! ask {
+        ($function:ident, $load:ident, $room:ident, $row:ident, $given:ident, $key:ident $(, $argument:expr)*) => {{
+            let Settings { window, bucket, cache, factor } = $load.settings;
+            let (words, length) = ($room.as_mut_ptr(), $room.len());
+            let (key, bytes) = ($key.text.as_ptr(), $key.text.len());
+            let (reading, row) = ($given.reading, $row.as_mut_ptr());
+            unsafe {
+                $function(
+                    window, bucket, cache, factor, words, length, reading, key, bytes, $($argument,)* row,
+                )
+            }
+        }};
     }
 
     /// Every key of a limiter's room goes.
     pub fn clear(limiter: Limiter, load: &Load, room: &mut [u64], reading: u64) {
-        let crate::load::Settings { window, bucket, cache, factor } = load.settings;
+        let Settings { window, bucket, cache, factor } = load.settings;
         let clear: unsafe extern "C" fn(_, _, _, _, _, _, _, _) -> _ = match limiter {
             Limiter::Absolute => frostaxle_absolute_clear,
             Limiter::Suppressed => frostaxle_suppressed_clear,
@@ -209,22 +249,83 @@ pub mod archive {
     }
 
     pub struct Archive {
-        absolute: Vec<u64>,
-        suppressed: Vec<u64>,
+        rooms: Rooms,
     }
 
     impl Archive {
         pub fn new(load: &Load) -> Self {
-            let room = twin::room::empty_room(load.keys.len(), load.shape.ring);
-            Archive { absolute: room.clone(), suppressed: room }
+            Archive { rooms: Rooms::new(load) }
         }
 
-        fn answer(code: u64, row: &[u64; 5]) -> u64 {
+        fn decided(code: u64, row: &[u64; 5]) -> u64 {
             match row[1] {
                 1 => allowed(),
                 2 => rejected(row[3], row[4]),
                 3 => suppressed(row[2], row[3] == 1),
                 _ => refused(code),
+            }
+        }
+
+        fn value(code: u64, row: &[u64; 5]) -> u64 {
+            match *row {
+                [_, 1, values @ ..] => told(values),
+                _ => refused(code),
+            }
+        }
+
+        fn ask_absolute(&mut self, load: &Load, increments: &[Increment]) -> u64 {
+            let (room, mut row) = (&mut self.rooms.absolute[..], [0; 5]);
+            match load.shape.deed.call() {
+                Call::Inc => answers(load, increments, |given, key| {
+                    let (rate, count) = (key.rate, u64::from(given.count));
+                    let code =
+                        ask!(frostaxle_absolute_inc, load, room, row, given, key, rate, count);
+                    Self::decided(code, &row)
+                }),
+                Call::Get => answers(load, increments, |given, key| {
+                    let code = ask!(frostaxle_absolute_get, load, room, row, given, key);
+                    Self::value(code, &row)
+                }),
+                Call::Own => answers(load, increments, |given, key| {
+                    let code = ask!(frostaxle_absolute_is_allowed, load, room, row, given, key);
+                    Self::decided(code, &row)
+                }),
+            }
+        }
+
+        fn ask_suppressed(&mut self, load: &Load, increments: &[Increment]) -> u64 {
+            let (room, mut row) = (&mut self.rooms.suppressed[..], [0; 5]);
+            match load.shape.deed.call() {
+                Call::Inc => answers(load, increments, |given, key| {
+                    let (rate, count, draw) = (key.rate, u64::from(given.count), given.draw);
+                    let code = ask!(
+                        frostaxle_suppressed_inc,
+                        load,
+                        room,
+                        row,
+                        given,
+                        key,
+                        rate,
+                        count,
+                        draw
+                    );
+                    Self::decided(code, &row)
+                }),
+                Call::Get => answers(load, increments, |given, key| {
+                    let code = ask!(frostaxle_suppressed_get, load, room, row, given, key);
+                    Self::value(code, &row)
+                }),
+                Call::Own => answers(load, increments, |given, key| {
+                    let code = ask!(
+                        frostaxle_suppressed_get_suppression_factor,
+                        load,
+                        room,
+                        row,
+                        given,
+                        key
+                    );
+                    Self::value(code, &row)
+                }),
             }
         }
     }
@@ -235,66 +336,18 @@ pub mod archive {
         }
 
         fn clear(&mut self, limiter: Limiter, load: &Load, reading: u64) {
-            let room = match limiter {
-                Limiter::Absolute => &mut self.absolute,
-                Limiter::Suppressed => &mut self.suppressed,
-            };
-            clear(limiter, load, room, reading);
+            clear(limiter, load, self.rooms.of(limiter), reading);
         }
 
         fn run(&mut self, limiter: Limiter, load: &Load, increments: &[Increment]) -> u64 {
-            let crate::load::Settings { window, bucket, cache, factor } = load.settings;
-            let mut answers = 0;
-            let mut row = [0; 5];
-            for increment in increments {
-                let Increment { reading, draw, count, key, .. } = *increment;
-                let key = &load.keys[key as usize];
-                let count = u64::from(count);
-                let code = match limiter {
-                    Limiter::Absolute => unsafe {
-                        frostaxle_absolute_inc(
-                            window,
-                            bucket,
-                            cache,
-                            factor,
-                            self.absolute.as_mut_ptr(),
-                            self.absolute.len(),
-                            reading,
-                            key.text.as_ptr(),
-                            key.text.len(),
-                            key.rate,
-                            count,
-                            row.as_mut_ptr(),
-                        )
-                    },
-                    Limiter::Suppressed => unsafe {
-                        frostaxle_suppressed_inc(
-                            window,
-                            bucket,
-                            cache,
-                            factor,
-                            self.suppressed.as_mut_ptr(),
-                            self.suppressed.len(),
-                            reading,
-                            key.text.as_ptr(),
-                            key.text.len(),
-                            key.rate,
-                            count,
-                            draw,
-                            row.as_mut_ptr(),
-                        )
-                    },
-                };
-                answers = folded(answers, Self::answer(code, &row));
+            match limiter {
+                Limiter::Absolute => self.ask_absolute(load, increments),
+                Limiter::Suppressed => self.ask_suppressed(load, increments),
             }
-            answers
         }
 
-        fn room(&self, limiter: Limiter) -> Option<&[u64]> {
-            match limiter {
-                Limiter::Absolute => Some(&self.absolute),
-                Limiter::Suppressed => Some(&self.suppressed),
-            }
+        fn room(&mut self, limiter: Limiter) -> Option<&mut [u64]> {
+            Some(self.rooms.of(limiter))
         }
     }
 }
@@ -307,8 +360,8 @@ pub struct Original {
 
 impl Original {
     pub fn new(load: &Load) -> Self {
-        let crate::load::Settings { window, bucket, cache, factor } = load.settings;
-        let rate = |key: &crate::load::Key| RateLimit::per_second(key.rate).expect("a rate");
+        let Settings { window, bucket, cache, factor } = load.settings;
+        let rate = |key: &Key| RateLimit::per_second(key.rate).expect("a rate");
         Original {
             provider: original::provider(window, bucket, cache, factor),
             rates: load.keys.iter().map(rate).collect(),
@@ -341,40 +394,38 @@ impl Contestant for Original {
     }
 
     fn run(&mut self, limiter: Limiter, load: &Load, increments: &[Increment]) -> u64 {
-        let mut answers = 0;
-        for increment in increments {
-            let Increment { reading, draw, count, key, .. } = *increment;
-            let (text, rate) = (&load.keys[key as usize].text, &self.rates[key as usize]);
-            let count = u64::from(count);
-            original::set_reading(reading);
-            let decision = match limiter {
-                Limiter::Absolute => self.provider.absolute().inc(text, rate, count),
+        answers(load, increments, |given, key| {
+            let (rate, count) = (&self.rates[given.key as usize], u64::from(given.count));
+            original::set_reading(given.reading);
+            Self::answer(match limiter {
+                Limiter::Absolute => self.provider.absolute().inc(&key.text, rate, count),
                 Limiter::Suppressed => {
-                    rand::set_draw(draw);
-                    self.provider.suppressed().inc(text, rate, count)
+                    rand::set_draw(given.draw);
+                    self.provider.suppressed().inc(&key.text, rate, count)
                 }
-            };
-            answers = folded(answers, Self::answer(decision));
-        }
-        answers
+            })
+        })
     }
 
-    fn room(&self, _limiter: Limiter) -> Option<&[u64]> {
+    fn room(&mut self, _limiter: Limiter) -> Option<&mut [u64]> {
         None
     }
 }
 
 /// What the memory allows: of each increment, a bare read of all words of the addressed slot's body.
 pub struct Bare {
-    bodies: Vec<u64>,
+    room: Vec<u64>,
+    /// Where the bodies start, and how long one is.
+    bodies: usize,
     size: usize,
 }
 
 impl Bare {
     pub fn new(load: &Load) -> Self {
-        let size = 7 + 3 * load.shape.ring;
+        let (slots, size) = (load.keys.len(), 7 + 3 * load.shape.ring);
+        let words = twin::room::words_of(slots, load.shape.ring);
         // Written words, since words that were never written may all share one page.
-        Bare { bodies: (1..).take(load.keys.len() * size).collect(), size }
+        Bare { room: (1..).take(words).collect(), bodies: words - slots * size, size }
     }
 }
 
@@ -389,18 +440,46 @@ impl Contestant for Bare {
         false
     }
 
-    fn run(&mut self, _limiter: Limiter, _load: &Load, increments: &[Increment]) -> u64 {
-        let mut answers = 0;
-        for increment in increments {
-            let body = &self.bodies[increment.key as usize * self.size..][..self.size];
-            let sum = body.iter().fold(0, |sum: u64, word| sum.wrapping_add(*word));
-            answers = folded(answers, sum);
-        }
-        answers
+    fn run(&mut self, _limiter: Limiter, load: &Load, increments: &[Increment]) -> u64 {
+        answers(load, increments, |given, _key| {
+            let body = &self.room[self.bodies + given.key as usize * self.size..][..self.size];
+            body.iter().fold(0, |sum: u64, word| sum.wrapping_add(*word))
+        })
     }
 
-    fn room(&self, _limiter: Limiter) -> Option<&[u64]> {
-        None
+    fn room(&mut self, _limiter: Limiter) -> Option<&mut [u64]> {
+        Some(&mut self.room)
+    }
+}
+
+/// Makes no call: what all but the calls costs.
+pub struct Nothing {
+    room: Vec<u64>,
+}
+
+impl Nothing {
+    pub fn new(load: &Load) -> Self {
+        Nothing { room: twin::room::empty_room(load.keys.len(), load.shape.ring) }
+    }
+}
+
+impl Contestant for Nothing {
+    fn name(&self) -> &'static str {
+        "nothing"
+    }
+
+    fn clear(&mut self, _limiter: Limiter, _load: &Load, _reading: u64) {}
+
+    fn decides(&self) -> bool {
+        false
+    }
+
+    fn run(&mut self, _limiter: Limiter, _load: &Load, _increments: &[Increment]) -> u64 {
+        0
+    }
+
+    fn room(&mut self, _limiter: Limiter) -> Option<&mut [u64]> {
+        Some(&mut self.room)
     }
 }
 
@@ -414,6 +493,13 @@ pub fn all(load: &Load) -> Vec<Box<dyn Contestant>> {
         Box::new(Original::new(load)),
         Box::new(Bare::new(load)),
     ]
+}
+
+/// Those whose rooms can be given other words.
+pub fn over_rooms(load: &Load) -> Vec<Box<dyn Contestant>> {
+    let mut contestants = all(load);
+    contestants.retain_mut(|contestant| contestant.room(Limiter::Absolute).is_some());
+    contestants
 }
 
 /// Those that take shots, after those that take the same as increments.
@@ -432,4 +518,14 @@ pub fn of_shots(load: &Load) -> Vec<Box<dyn Contestant>> {
 pub fn of_shots_alone(load: &Load) -> Vec<Box<dyn Contestant>> {
     let mut contestants = of_shots(load);
     contestants.split_off(contestants.len() / 2)
+}
+
+/// One of these alone, or `nothing`.
+pub fn named(
+    name: &str,
+    load: &Load,
+    mut contestants: Vec<Box<dyn Contestant>>,
+) -> Box<dyn Contestant> {
+    contestants.push(Box::new(Nothing::new(load)));
+    contestants.into_iter().find(|other| other.name() == name).expect("a contestant")
 }

@@ -30,6 +30,28 @@ const SMALL_BUCKET: u64 = 10;
 const MOST_BUCKETS: u64 = 100;
 const MOST_BUCKETS_OF_LONG: u64 = 298;
 
+/// What is asked of a key.
+#[derive(Clone, Copy, Debug, PartialEq, Eq)]
+pub enum Call {
+    Inc,
+    Get,
+    /// The one that the other limiter does not have: `is_allowed` or `get_suppression_factor`.
+    Own,
+}
+
+impl Call {
+    pub const ALL: [Call; 3] = [Call::Inc, Call::Get, Call::Own];
+
+    pub fn name(self, limiter: Limiter) -> &'static str {
+        match (self, limiter) {
+            (Call::Inc, _) => "inc",
+            (Call::Get, _) => "get",
+            (Call::Own, Limiter::Absolute) => "is_allowed",
+            (Call::Own, Limiter::Suppressed) => "get_suppression_factor",
+        }
+    }
+}
+
 /// What is timed.
 #[derive(Clone, Copy, Debug, PartialEq, Eq)]
 pub enum Deed {
@@ -41,6 +63,26 @@ pub enum Deed {
     Held,
     /// The same, all of the controller in the table's last entry.
     HeldLast,
+    /// Calls that meet a ring which has wholly expired.
+    Expired(Call),
+}
+
+impl Deed {
+    /// The call that is put to a limiter.
+    pub fn call(self) -> Call {
+        match self {
+            Deed::Expired(call) => call,
+            _ => Call::Inc,
+        }
+    }
+
+    /// The greatest count of an increment; shots count 1.
+    fn most_count(self) -> u64 {
+        match self {
+            Deed::Increments | Deed::Expired(_) => 4,
+            Deed::Shots | Deed::Held | Deed::HeldLast => 1,
+        }
+    }
 }
 
 /// How many keys, how many live buckets each is to have, the ring, the window and the bucket size; the rest of the settings are the
@@ -64,6 +106,11 @@ impl Shape {
             _ => (DEFAULT_WINDOW, SMALL_BUCKET),
         };
         Shape { deed: Deed::Increments, keys, live, ring: live as usize, window, bucket }
+    }
+
+    /// What a full ring holds on average. Two increments go to a bucket.
+    fn mean_total(&self) -> f64 {
+        ((1 + self.deed.most_count()) * self.live) as f64
     }
 }
 
@@ -96,21 +143,16 @@ pub struct Load {
     pub keys: Vec<Key>,
 }
 
-/// The greatest count of an increment; shots count 1.
-fn most_count(deed: Deed) -> u64 {
-    if deed == Deed::Increments { 4 } else { 1 }
-}
-
 impl Load {
     pub fn new(shape: Shape) -> Self {
         let Shape { window, bucket, .. } = shape;
         let settings = Settings { window, bucket, cache: 100, factor: 1.0 };
         // Keys of even number stay below their limit, the others are held back now and then.
-        let limit = |key: usize| {
-            // Two increments go to a bucket.
-            let mean_of_bucket = (1 + most_count(shape.deed)) as f64;
-            let total = mean_of_bucket * shape.live as f64;
-            if key % 2 == 0 { 1.25 * total } else { 0.95 * total }
+        let limit = |key: usize| match shape.deed {
+            // None is held back, so that every ring is filled.
+            Deed::Expired(_) => 2.0 * shape.mean_total(),
+            _ if key % 2 == 0 => 1.25 * shape.mean_total(),
+            _ => 0.95 * shape.mean_total(),
         };
         let keys = (0..shape.keys)
             .map(|key| Key {
@@ -148,7 +190,7 @@ impl Load {
             all.extend(order.iter().map(|key| Increment {
                 reading,
                 draw: random.below(1 << 53),
-                count: 1 + random.below(most_count(deed)) as u32,
+                count: 1 + random.below(deed.most_count()) as u32,
                 key: *key,
                 number: if is_held { 1 } else { round as u32 + 1 },
             }));

@@ -1,49 +1,71 @@
-//! Times an increment of each contestant, in one process, for both limiters; docs/SPEED.md says what of.
+//! Times a call of each contestant, in one process, for both limiters; docs/SPEED.md says what of.
 
 mod contestants;
+mod expired;
 mod load;
+mod race;
 mod shots;
 
-use std::time::{Duration, Instant};
+use std::time::Duration;
 
-use contestants::{Contestant, all, of_shots, of_shots_alone};
-use load::{Deed, Increment, Limiter, Load, Shape, later};
-
-/// How many increments are timed at a time.
-const STRETCH: usize = 2_000;
+use contestants::{Contestant, all, named, of_shots, of_shots_alone, over_rooms};
+use load::{Call, Deed, Limiter, Load, Shape};
+use race::{alone, alone_expired, race, race_expired};
 
 const KEYS: usize = 40;
 
 const ARCHIVE: &str = "archive";
 
+const USAGE: &str = "[INCREMENTS REPETITIONS] | shots SHOTS REPETITIONS | expired CALLS REPETITIONS | \
+    one CONTESTANT LIMITER BUCKETS INCREMENTS | one CONTESTANT rising|held|last CONTROLLERS BUCKETS SHOTS | \
+    one CONTESTANT expired LIMITER CALL BUCKETS CALLS";
+
 fn main() {
     let arguments: Vec<String> = std::env::args().skip(1).collect();
     let words: Vec<&str> = arguments.iter().map(String::as_str).collect();
-    let number = |text: &str| text.parse::<usize>().expect("a whole number");
     match words[..] {
         [] => tables(1_000_000, 5),
         ["shots", timed, times] => shot_tables(number(timed), number(times)),
+        ["expired", timed, times] => expired_table(number(timed), number(times)),
         [timed, times] => tables(number(timed), number(times)),
-        ["one", name, limiter, live, timed] => {
-            let limiter = Limiter::BOTH.into_iter().find(|other| other.name() == limiter);
-            let limiter = limiter.expect("absolute or suppressed");
+        ["one", name, ref what @ .., timed] => one(name, what, number(timed)),
+        _ => panic!("{USAGE}"),
+    }
+}
+
+fn number(text: &str) -> usize {
+    text.parse().expect("a whole number")
+}
+
+fn limiter(name: &str) -> Limiter {
+    let limiter = Limiter::BOTH.into_iter().find(|other| other.name() == name);
+    limiter.expect("absolute or suppressed")
+}
+
+/// One contestant alone, for a profiler.
+fn one(name: &str, what: &[&str], timed: usize) {
+    match *what {
+        [of, live] => {
             let load = Load::new(Shape::full(KEYS, number(live) as u64));
-            one(name, limiter, &load, all(&load), number(timed));
+            alone(limiter(of), &load, named(name, &load, all(&load)), timed);
         }
-        ["one", name, deed @ ("rising" | "held" | "last"), keys, live, timed] => {
+        [deed @ ("rising" | "held" | "last"), keys, live] => {
             let deed = match deed {
                 "rising" => Deed::Shots,
                 "held" => Deed::Held,
                 _ => Deed::HeldLast,
             };
-            let shape = Shape { deed, ..Shape::full(number(keys), number(live) as u64) };
-            let load = Load::new(shape);
-            one(name, Limiter::Suppressed, &load, of_shots(&load), number(timed));
+            let load = Load::new(Shape { deed, ..Shape::full(number(keys), number(live) as u64) });
+            alone(Limiter::Suppressed, &load, named(name, &load, of_shots(&load)), timed);
         }
-        _ => panic!(
-            "[INCREMENTS REPETITIONS] | shots SHOTS REPETITIONS | one CONTESTANT LIMITER BUCKETS INCREMENTS | \
-             one CONTESTANT rising|held|last CONTROLLERS BUCKETS SHOTS"
-        ),
+        ["expired", of, call, live] => {
+            let limiter = limiter(of);
+            let call = Call::ALL.into_iter().find(|other| other.name(limiter) == call);
+            let deed = Deed::Expired(call.expect("a call of this limiter"));
+            let load = Load::new(Shape { deed, ..Shape::full(KEYS, number(live) as u64) });
+            alone_expired(limiter, &load, named(name, &load, over_rooms(&load)), timed);
+        }
+        _ => panic!("{USAGE}"),
     }
 }
 
@@ -78,6 +100,7 @@ fn tables(timed: usize, times: usize) {
         }
     }
     shot_tables(timed, times);
+    expired_table(fewer, times);
 }
 
 /// What the shots' tables time, and what it is called behind a contestant's name.
@@ -140,14 +163,44 @@ fn shot_row(keys: usize, live: u64, timed: usize, times: usize) -> Vec<(String, 
     each
 }
 
+/// A call that finds a key's ring full and wholly expired; one row for each call and each ring.
+fn expired_table(timed: usize, times: usize) {
+    let timed = timed.next_multiple_of(KEYS);
+    println!(
+        "\na ring that has wholly expired: nanoseconds for a call that finds its key's ring full and"
+    );
+    println!("the newest bucket an hour old, and the ratio to the twin");
+    println!("{timed} calls in mixed order, all rings filled again after {KEYS}, least of {times}");
+    print!("\n{:10}  {:22}  ring", "limiter", "call");
+    print_names(&over_rooms(&Load::new(Shape::full(1, 10))));
+    for limiter in Limiter::BOTH {
+        for call in Call::ALL {
+            for live in [10, 100, 512] {
+                expired_row(limiter, call, live, timed, times);
+            }
+        }
+    }
+}
+
+fn expired_row(limiter: Limiter, call: Call, live: u64, timed: usize, times: usize) {
+    let load = Load::new(Shape { deed: Deed::Expired(call), ..Shape::full(KEYS, live) });
+    let mut contestants = over_rooms(&load);
+    let took = race_expired(limiter, &load, &mut contestants, timed, times);
+    print!("{:10}  {:22}  {live:4}", limiter.name(), call.name(limiter));
+    print_times(&contestants, &took, timed);
+}
+
 /// Whose times the archive's are compared with, besides the twin's.
 const BESIDES: [&str; 2] = ["trusting", "bare"];
 
 fn heading(what: &str) {
     println!("\n{what}");
     print!("keys  ring  window  bucket  buckets held");
-    let contestants = all(&Load::new(Shape::full(1, 10)));
-    for contestant in &contestants {
+    print_names(&all(&Load::new(Shape::full(1, 10))));
+}
+
+fn print_names(contestants: &[Box<dyn Contestant>]) {
+    for contestant in contestants {
         print!("{:>15}", contestant.name());
     }
     if contestants.iter().any(|contestant| contestant.name() == ARCHIVE) {
@@ -166,6 +219,11 @@ fn row(limiter: Limiter, shape: Shape, timed: usize, times: usize) {
     let Shape { keys, ring, window, bucket, .. } = shape;
     let buckets = buckets(contestants[0].room(limiter).expect("the twin's room"));
     print!("{keys:4}  {ring:4}  {window:6}  {bucket:6}  {buckets:12.1}");
+    print_times(&contestants, &took, timed);
+}
+
+/// The rest of a line: nanoseconds for one of those that were timed, and ratios.
+fn print_times(contestants: &[Box<dyn Contestant>], took: &[Duration], timed: usize) {
     let each: Vec<f64> = took.iter().map(|took| took.as_secs_f64() * 1e9 / timed as f64).collect();
     for nanoseconds in &each {
         print!("  {nanoseconds:7.1} {:5.2}", nanoseconds / each[0]);
@@ -182,72 +240,9 @@ fn row(limiter: Limiter, shape: Shape, timed: usize, times: usize) {
     println!();
 }
 
-/// What each contestant takes for the increments. They take turns at every stretch, so that a load on the machine falls on all,
-/// and of the repetitions each stretch's least time counts.
-fn race(
-    limiter: Limiter,
-    load: &Load,
-    contestants: &mut [Box<dyn Contestant>],
-    timed: usize,
-    times: usize,
-) -> Vec<Duration> {
-    let (mut filling, mut increments) = load.increments(timed);
-    let span = increments.last().expect("an increment").reading + 100_000;
-    let stretches = timed.div_ceil(STRETCH);
-    let mut least = vec![vec![Duration::MAX; stretches]; contestants.len()];
-    for turn in 0..times {
-        let mut answers = vec![0; contestants.len()];
-        for (answers, contestant) in answers.iter_mut().zip(contestants.iter_mut()) {
-            contestant.clear(limiter, load, filling[0].reading);
-            *answers = contestant.run(limiter, load, &filling);
-        }
-        for (at, stretch) in increments.chunks(STRETCH).enumerate() {
-            for place in 0..contestants.len() {
-                let place = (place + at + turn) % contestants.len();
-                let (took, told) = time(limiter, load, &mut contestants[place], stretch);
-                least[place][at] = least[place][at].min(took);
-                answers[place] ^= told.rotate_left(at as u32);
-            }
-        }
-        let decided =
-            contestants.iter().zip(&answers).filter(|(contestant, _)| contestant.decides());
-        let is_same = decided.map(|(_, answers)| answers).all(|other| *other == answers[0]);
-        assert!(is_same, "the answers differ: {answers:?}");
-        later(&mut filling, span);
-        later(&mut increments, span);
-    }
-    least.iter().map(|stretches| stretches.iter().sum()).collect()
-}
-
-fn time(
-    limiter: Limiter,
-    load: &Load,
-    contestant: &mut Box<dyn Contestant>,
-    stretch: &[Increment],
-) -> (Duration, u64) {
-    let start = Instant::now();
-    let told = contestant.run(limiter, load, stretch);
-    (start.elapsed(), told)
-}
-
 /// How many buckets a key has, on average.
 fn buckets(room: &[u64]) -> f64 {
     let slots = twin::room::slots(room);
     let all: u64 = (0..slots).map(|at| twin::room::slot(room, at).buckets()).sum();
     all as f64 / slots as f64
-}
-
-/// One contestant alone, for a profiler.
-fn one(
-    name: &str,
-    limiter: Limiter,
-    load: &Load,
-    mut contestants: Vec<Box<dyn Contestant>>,
-    timed: usize,
-) {
-    let contestant = contestants.iter_mut().find(|other| other.name() == name);
-    let contestant = contestant.expect("a contestant");
-    let (filling, increments) = load.increments(timed);
-    let before = contestant.run(limiter, load, &filling);
-    println!("{before:x} {:x}", contestant.run(limiter, load, &increments));
 }

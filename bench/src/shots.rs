@@ -4,7 +4,7 @@ use twin::gateway::{Shot, ShotAnswer, empty_table, make_table, shot};
 use twin::room::empty_room;
 use twin::rules::{Decision, Refusal, Settings};
 
-use crate::contestants::{Contestant, allowed, folded, refused, suppressed};
+use crate::contestants::{Contestant, allowed, answers, refused, suppressed};
 use crate::load::{Increment, Limiter, Load};
 
 /// A held shot's answer as a number.
@@ -53,20 +53,16 @@ impl Contestant for TwinShots {
     }
 
     fn run(&mut self, _limiter: Limiter, load: &Load, increments: &[Increment]) -> u64 {
-        let mut answers = 0;
-        for increment in increments {
-            let Increment { reading, draw, key, number, .. } = *increment;
-            let key = &load.keys[key as usize];
+        answers(load, increments, |given, key| {
+            let Increment { reading, draw, number, .. } = *given;
             let (controller, number, rate) = (key.text.as_bytes(), u64::from(number), key.rate);
             let given = Shot { controller, number, rate, draw };
-            let result = shot(&self.settings, &mut self.table, &mut self.room, reading, given);
-            answers = folded(answers, Self::answer(result));
-        }
-        answers
+            Self::answer(shot(&self.settings, &mut self.table, &mut self.room, reading, given))
+        })
     }
 
-    fn room(&self, _limiter: Limiter) -> Option<&[u64]> {
-        Some(&self.room)
+    fn room(&mut self, _limiter: Limiter) -> Option<&mut [u64]> {
+        Some(&mut self.room)
     }
 }
 
@@ -131,11 +127,9 @@ pub mod archive {
 
         fn run(&mut self, _limiter: Limiter, load: &Load, increments: &[Increment]) -> u64 {
             let crate::load::Settings { window, bucket, cache, factor } = load.settings;
-            let mut answers = 0;
             let mut row = [0; 5];
-            for increment in increments {
-                let Increment { reading, draw, key, number, .. } = *increment;
-                let key = &load.keys[key as usize];
+            answers(load, increments, |given, key| {
+                let Increment { reading, draw, number, .. } = *given;
                 let code = unsafe {
                     frostaxle_gateway_shot(
                         window,
@@ -155,13 +149,12 @@ pub mod archive {
                         row.as_mut_ptr(),
                     )
                 };
-                answers = folded(answers, Self::answer(code, &row));
-            }
-            answers
+                Self::answer(code, &row)
+            })
         }
 
-        fn room(&self, _limiter: Limiter) -> Option<&[u64]> {
-            Some(&self.room)
+        fn room(&mut self, _limiter: Limiter) -> Option<&mut [u64]> {
+            Some(&mut self.room)
         }
     }
 }
