@@ -1,19 +1,19 @@
 -- What the pass finds is what the rules say: sound exactly where the buckets are, and there the expired and the live sums.
 -- Assumes nothing.
 use mathlib.Core.Path.{_≡_, refl, sym, ap, _∙_}
-use mathlib.Core.Bool.{Bool, true, false, cond, false≢true}
+use mathlib.Core.Bool.{Bool, true, false, cond}
 use mathlib.Core.List.{List, [], _∷_}
 use Prim.Native.Nat.{ℕ, suc, _+_, _-_, _≤_, _<_}
 use native.Mathlib.Omega.{arith}
 use lib.ListN.{length, getD, drop}
-use lib.Dec.{leb, ltb, eqb}
-use borrow.Author.Tests.{le-leb, leb-true, lt-ltb, le-ltb, ltb-true, ltb-false, eq-eqb, eqb-true}
+use lib.Dec.{leb, eqb}
+use borrow.Author.Tests.{le-leb, leb-true, le-ltb, ltb-false, eq-eqb, eqb-true}
 use Rattle.base.specs.Decides.{both-ways, and-true, not-so}
 use Rattle.layout.specs.Layout.{mostTotal}
 use Rattle.ring.specs.declared.Bucket.{Bucket}
 use Rattle.ring.specs.Ring.{noBucket, sumOf, counts, declineds, totalOf, declinedOf, lenOf, buckets, Shape}
 use Rattle.ring.specs.Order.{Fine}
-use Rattle.ring.specs.Sound.{soundBuckets, Sound, sound-true, true-sound}
+use Rattle.ring.specs.Sound.{soundBuckets, sound-true, true-sound}
 use Rattle.sweep.specs.declared.tally.Tally.{Tally}
 use Rattle.sweep.specs.declared.tally.Gone.{Gone}
 use Rattle.sweep.specs.declared.tally.Pass.{Pass}

@@ -4,7 +4,7 @@
 use mathlib.Core.Path.{_≡_, refl, sym, ap, _∙_}
 use mathlib.Core.Bool.{Bool, true, false, cond}
 use mathlib.Core.List.{List, [], _∷_}
-use Prim.Native.Nat.{ℕ, zero, suc, _+_, _-_, _≤_, _<_}
+use Prim.Native.Nat.{ℕ, zero, suc, _-_}
 use native.Mathlib.Omega.{arith}
 use lib.ListN.{length, getD, drop}
 use lib.Dec.{ltb}
@@ -14,10 +14,11 @@ use Rattle.ring.specs.Ring.{bucket, noBucket, sumOf, counts, declineds, totalOf
 use Rattle.ring.specs.Order.{Fine}
 use Rattle.ring.specs.View.{view-length}
 use Rattle.ring.specs.Sound.{Sound}
-use Rattle.rules.specs.Buckets.{windowTicks, older, ahead, newest, expired, gone, live}
+use Rattle.rules.specs.Buckets.{windowTicks, older, ahead, newest, expired, evicted, gone, live}
 use Rattle.sweep.specs.declared.tally.Gone.{Gone}
 use Rattle.sweep.specs.Sweep.{goneNone, goneOf}
 use Rattle.sweep.specs.Found.{gone-ahead, gone-total, gone-declined}
+use Rattle.sweep.specs.Measured.{evicted-live}
 
 -- each bucket is over w
 abbrev pub AllOlder : ℕ → ℕ → List Bucket → Type 0
@@ -99,6 +100,23 @@ module _ (r : ℕ) (b : List ℕ) (last : ℕ) (s : Sound r b last) (w t : ℕ) 
       let c = sym (gone-total w t none xs (sym (s .total)) ∙ a .no-total) in
       let f = sym (gone-declined w t none xs (sym (s .declined)) ∙ a .no-declined) in
       λ i. record { buckets = k i; total = c i; declined = f i }
+
+-- in the rules' words: as many go as there are buckets, eviction leaves none, and both live totals are 0
+pub record Emptied (W t : ℕ) (r : ℕ) (b : List ℕ) : Type 0 where
+  pub all-gone : gone W t (buckets r b) ≡ lenOf b
+  pub none-stays : evicted W t (buckets r b) ≡ []
+  pub live-total : counts (live W t (buckets r b)) ≡ 0
+  pub live-declined : declineds (live W t (buckets r b)) ≡ 0
+
+pub newest-expired : (r : ℕ) (b : List ℕ) (last : ℕ) → Sound r b last → (W t : ℕ) → expired W t (newest (buckets r b)) ≡ true → Emptied W t r b
+newest-expired r b last s W t h =
+    let a = sound-wholly r b last s (windowTicks W) t h in
+    record {
+      all-gone = a .gone-all ∙ view-length r b;
+      none-stays = evicted-live W t 0 last (buckets r b) (s .each) ∙ a .none-live;
+      live-total = a .no-total;
+      live-declined = a .no-declined;
+    }
 
 -- the newest is where the code looks for it
 pub newest-at : (r : ℕ) (b : List ℕ) (n d : ℕ) (x : Bucket) → n ≡ lenOf b → d ≡ n - 1 → x ≡ getD (buckets r b) d noBucket → x ≡ newest (buckets r b)
