@@ -4,9 +4,9 @@
 use mathlib.Core.Path.{_≡_, refl, sym, ap, _∙_}
 use mathlib.Core.Bool.{Bool, true, false, cond}
 use mathlib.Core.List.{List, [], _∷_}
-use Prim.Native.Nat.{ℕ, zero, suc, _-_}
+use Prim.Native.Nat.{ℕ, zero, suc, _-_, _≤_}
 use native.Mathlib.Omega.{arith}
-use lib.ListN.{length, getD, drop}
+use lib.ListN.{length, getD, drop, drop-of-length-le}
 use lib.Dec.{ltb}
 use borrow.Author.Tests.{lt-ltb, ltb-true}
 use Rattle.ring.specs.declared.Bucket.{Bucket}
@@ -52,15 +52,12 @@ unfolding ahead
 ahead-all w t [] a = refl
 ahead-all w t (x ∷ xs) a = simp (a .0) (ap suc (ahead-all w t xs (a .1)))
 
-drop-all : (xs : List Bucket) → drop (length xs) xs ≡ []
-drop-all [] = refl
-drop-all (x ∷ xs) = drop-all xs
-
 wholly-of : (w t : ℕ) (xs : List Bucket) → AllOlder w t xs → Wholly w t xs
 unfolding sumOf
 wholly-of w t xs a =
     let g = ahead-all w t xs a in
-    let e : drop (ahead w t xs) xs ≡ [] = ap (λ (k : ℕ). drop k xs) g ∙ drop-all xs in
+    let l : length xs ≤ ahead w t xs = omega (arith, g) in
+    let e = drop-of-length-le xs l in
     record { all = a; gone-all = g; none-live = e; no-total = ap counts e; no-declined = ap declineds e }
 
 -- so where the newest is over w, all are
