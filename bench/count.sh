@@ -2,7 +2,7 @@
 # count.sh [calls] [increments|shots|expired]: instructions for a call, which no load on the machine changes: what twice as many calls
 # execute more, less what is executed where none is made. By valgrind, which counts the calls alone; where COUNT names a command, by
 # that: it runs its arguments and prints how many instructions they executed, as its last line. Needs a benchmark built by build.sh;
-# contestants that it does not have are left out.
+# of a contestant that it does not have, or that fails, it tells `-`.
 set -eu
 cd "$(dirname "$0")"
 calls=${1:-20000}
@@ -25,8 +25,8 @@ row() {
     shift 2
     idle=$(more nothing "$@") || { echo "the instructions could not be counted" >&2; exit 1; }
     for name in $names; do
-        made=$(more "$name" "$@") || continue
-        line="$line  $name $(((made - idle) / calls))"
+        if made=$(more "$name" "$@"); then each=$(((made - idle) / calls)); else each=-; fi
+        line="$line  $name $each"
     done
     echo "$line"
 }

@@ -1,5 +1,5 @@
 -- Why a ring is emptied at once: in a sound slot times do not fall, so where the newest bucket is expired all are, and nothing
--- is live. w is the window in ticks: at `windowTicks W`, `older` is `expired W`, and `ahead` is `gone W`.
+-- is live. w is the window in ticks: at `windowTicks W`, `older`, `ahead`, `recent` are `expired W`, `gone W`, `evicted W`.
 -- Assumes nothing.
 use mathlib.Core.Path.{_≡_, refl, sym, ap, _∙_}
 use mathlib.Core.Bool.{Bool, true, false, cond}
@@ -14,24 +14,23 @@ use Rattle.ring.specs.Ring.{bucket, noBucket, sumOf, counts, declineds, totalOf
 use Rattle.ring.specs.Order.{Fine}
 use Rattle.ring.specs.View.{view-length}
 use Rattle.ring.specs.Sound.{Sound}
-use Rattle.rules.specs.Buckets.{windowTicks, older, ahead, newest, expired, evicted, gone, live}
+use Rattle.rules.specs.Buckets.{older, recent, ahead, newest, expired, gone}
 use Rattle.sweep.specs.declared.tally.Gone.{Gone}
 use Rattle.sweep.specs.Sweep.{goneNone, goneOf}
 use Rattle.sweep.specs.Found.{gone-ahead, gone-total, gone-declined}
-use Rattle.sweep.specs.Measured.{evicted-live}
 
 -- each bucket is over w
 abbrev pub AllOlder : ℕ → ℕ → List Bucket → Type 0
 AllOlder w t [] = Unit {0}
 AllOlder w t (x ∷ xs) = (older w t x ≡ true) × AllOlder w t xs
 
--- what it means that a ring has wholly expired
+-- a ring has wholly expired: each bucket is, as many go as there are, eviction leaves none, and both live totals are 0
 pub record Wholly (w t : ℕ) (xs : List Bucket) : Type 0 where
   pub all : AllOlder w t xs
-  pub gone-all : ahead w t xs ≡ length xs
-  pub none-live : drop (ahead w t xs) xs ≡ []
-  pub no-total : counts (drop (ahead w t xs) xs) ≡ 0
-  pub no-declined : declineds (drop (ahead w t xs) xs) ≡ 0
+  pub all-gone : ahead w t xs ≡ length xs
+  pub none-stays : recent w t xs ≡ []
+  pub live-total : counts (drop (ahead w t xs) xs) ≡ 0
+  pub live-declined : declineds (drop (ahead w t xs) xs) ≡ 0
 
 -- ---- the newest has the least age
 
@@ -52,13 +51,18 @@ unfolding ahead
 ahead-all w t [] a = refl
 ahead-all w t (x ∷ xs) a = simp (a .0) (ap suc (ahead-all w t xs (a .1)))
 
+recent-none : (w t : ℕ) (xs : List Bucket) → AllOlder w t xs → recent w t xs ≡ []
+unfolding recent
+recent-none w t [] a = refl
+recent-none w t (x ∷ xs) a = simp (a .0) (recent-none w t xs (a .1))
+
 wholly-of : (w t : ℕ) (xs : List Bucket) → AllOlder w t xs → Wholly w t xs
 unfolding sumOf
 wholly-of w t xs a =
     let g = ahead-all w t xs a in
     let l : length xs ≤ ahead w t xs = omega (arith, g) in
     let e = drop-of-length-le xs l in
-    record { all = a; gone-all = g; none-live = e; no-total = ap counts e; no-declined = ap declineds e }
+    record { all = a; all-gone = g; none-stays = recent-none w t xs a; live-total = ap counts e; live-declined = ap declineds e }
 
 -- so where the newest is over w, all are
 pub wholly : (w t lo hi : ℕ) (xs : List Bucket) → Fine lo xs hi → older w t (newest xs) ≡ true → Wholly w t xs
@@ -93,27 +97,10 @@ module _ (r : ℕ) (b : List ℕ) (last : ℕ) (s : Sound r b last) (w t : ℕ) 
       let xs = buckets r b in
       let none = goneNone (totalOf b) (declinedOf b) in
       let a = sound-wholly (sym (ap (λ (i : ℕ). ltb w (t - i)) y) ∙ h) in
-      let k : n ≡ goneOf r b t w .buckets = omega (arith, e, gone-ahead w t none xs, a .gone-all, view-length r b) in
-      let c = sym (gone-total w t none xs (sym (s .total)) ∙ a .no-total) in
-      let f = sym (gone-declined w t none xs (sym (s .declined)) ∙ a .no-declined) in
+      let k : n ≡ goneOf r b t w .buckets = omega (arith, e, gone-ahead w t none xs, a .all-gone, view-length r b) in
+      let c = sym (gone-total w t none xs (sym (s .total)) ∙ a .live-total) in
+      let f = sym (gone-declined w t none xs (sym (s .declined)) ∙ a .live-declined) in
       λ i. record { buckets = k i; total = c i; declined = f i }
-
--- in the rules' words: as many go as there are buckets, eviction leaves none, and both live totals are 0
-pub record Emptied (W t : ℕ) (r : ℕ) (b : List ℕ) : Type 0 where
-  pub all-gone : gone W t (buckets r b) ≡ lenOf b
-  pub none-stays : evicted W t (buckets r b) ≡ []
-  pub live-total : counts (live W t (buckets r b)) ≡ 0
-  pub live-declined : declineds (live W t (buckets r b)) ≡ 0
-
-pub newest-expired : (r : ℕ) (b : List ℕ) (last : ℕ) → Sound r b last → (W t : ℕ) → expired W t (newest (buckets r b)) ≡ true → Emptied W t r b
-newest-expired r b last s W t h =
-    let a = sound-wholly r b last s (windowTicks W) t h in
-    record {
-      all-gone = a .gone-all ∙ view-length r b;
-      none-stays = evicted-live W t 0 last (buckets r b) (s .each) ∙ a .none-live;
-      live-total = a .no-total;
-      live-declined = a .no-declined;
-    }
 
 -- the newest is where the code looks for it
 pub newest-at : (r : ℕ) (b : List ℕ) (n d : ℕ) (x : Bucket) → n ≡ lenOf b → d ≡ n - 1 → x ≡ getD (buckets r b) d noBucket → x ≡ newest (buckets r b)
@@ -126,10 +113,10 @@ pub oldest-too-early : (expired 10 20000 (bucket 1 0 9999) ≡ true) × (gone 10
 unfolding ahead older
 oldest-too-early = (refl, refl)
 
--- nor would the newest at age exactly the window: nothing goes there
-pub window-too-early : gone 10 20000 (bucket 1 0 10000 ∷ bucket 1 0 10000 ∷ []) ≡ 0
+-- nor would the newest at age exactly the window: nothing goes there, and a millisecond on all do
+pub window-too-early : (gone 10 20000 (bucket 1 0 10000 ∷ bucket 1 0 10000 ∷ []) ≡ 0) × (gone 10 20001 (bucket 1 0 10000 ∷ bucket 1 0 10000 ∷ []) ≡ 2)
 unfolding ahead older
-window-too-early = refl
+window-too-early = (refl, refl)
 
 -- where times fall, as in no sound slot, the newest tells nothing of the others
 abbrev falling : List Bucket
