@@ -1,8 +1,8 @@
 #!/bin/sh
-# count.sh [calls] [increments|shots|expired]: instructions for a call, which no load on the machine changes: what twice as many calls
-# execute more, less what is executed where none is made. By valgrind, which counts the calls alone; where COUNT names a command, by
-# that: it runs its arguments and prints how many instructions they executed, as its last line. Needs a benchmark built by build.sh;
-# of a contestant that it does not have, or that fails, it tells `-`.
+# count.sh [calls] [increments|shots|expired|clocks]: instructions for a call, which no load on the machine changes: what twice as many calls
+# execute more, less what is executed where none is made. `clocks` has increments in either clock mode, the others have milliseconds. By
+# valgrind, which counts the calls alone; where COUNT names a command, by that: it runs its arguments and prints how many instructions
+# they executed, as its last line. Needs a benchmark built by build.sh; of a contestant that it does not have, or that fails, it tells `-`.
 set -eu
 cd "$(dirname "$0")"
 calls=${1:-20000}
@@ -55,15 +55,23 @@ expired() {
         done
     done
 }
+clocks() {
+    for limiter in absolute suppressed; do
+        for live in 10 100 298 512; do
+            row "$limiter ring $live, milliseconds" "twin archive trusting original" $limiter $live
+            row "$limiter ring $live, nanoseconds" "twin archive trusting original" nanoseconds $limiter $live
+        done
+    done
+}
 case ${2:-all} in
-increments | shots | expired) $2 ;;
+increments | shots | expired | clocks) $2 ;;
 all)
     increments
     shots
     expired
     ;;
 *)
-    echo "increments, shots or expired" >&2
+    echo "increments, shots, expired or clocks" >&2
     exit 2
     ;;
 esac

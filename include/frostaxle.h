@@ -61,9 +61,10 @@
  *   bucket    milliseconds, 1 to 4294967296              counts this close to the newest bucket's start join it
  *   cache     milliseconds, 1 to 4294967296              how long a suppressed key's factor is used again
  *   factor    finite, at least 1                         hard limit = factor * soft limit (suppressed limiter)
+ *   clock     0 is milliseconds, any other nanoseconds   what a tick of the reading is, see below
  *   table, table_len                                     a gateway's table, and 387
  *   room, room_len                                       the lent words and how many they are
- *   reading   milliseconds, any start you like           your clock; in one room it may stand still but not go back
+ *   reading   ticks of the clock, any start you like     your clock; in one room it may stand still but not go back
  *   key, key_len                                         0 to 32 bytes of any value
  *   controller, controller_len                           the same: the key whose shots are numbered
  *   number    1 to 2^32 - 1                              which shot of its controller it is
@@ -75,11 +76,27 @@
  *   stale     milliseconds                               how old a key's newest bucket may be at a cleanup
  *   row       five words that receive the answer
  *
- * window, bucket, cache and factor are a room's settings: pass the same four for the room's whole life. All four are
- * judged by every call of both limiters. The defaults are in FROSTAXLE_DEFAULT_...
+ * window, bucket, cache, factor and clock are a room's settings: pass the same five for the room's whole life. The
+ * first four are judged by every call of both limiters; every clock is one. The defaults are in FROSTAXLE_DEFAULT_...
  *
  * A key's limit is stored at its first increment (or set) and stays: a later increment's rate is judged, but does not
  * change it. frostaxle_..._set_rate_limit and the sets do.
+ *
+ *
+ * THE CLOCK
+ *
+ * FROSTAXLE_MILLISECONDS or FROSTAXLE_NANOSECONDS: the ticks in which readings are given and compared (refusal 6), and
+ * in which a room keeps bucket starts, the time of a cached factor and the last reading. The rest is the same in both:
+ * window in seconds; bucket, cache, stale and the wait of a rejection in milliseconds. 2^64 ns are some 584 years.
+ *
+ * In nanoseconds a bucket is expired when its age, to the nanosecond, is over the window. This goes for live totals
+ * (get, delete, the sets) and for what an eviction takes out. By the age cut to whole milliseconds goes whether an
+ * increment, is_allowed and get_suppression_factor find the oldest bucket expired, and so evict at all; and joining a
+ * bucket, using a cached factor, the last second, cleanup and the wait. So with a window of 10 s an increment that comes
+ * 10,000.4 ms after a bucket's start leaves it, and get would take it out.
+ *
+ * A room does not store its clock. To hand it to a call with the other one is a mistake that no refusal tells, unless
+ * the reading (6) or the words (5) happen to.
  *
  *
  * THE ANSWER ROW
@@ -107,12 +124,12 @@
  *                            3 SUPPRESSED      factor, bits        1 admitted, 0 not   -
  *                            4 HELD            -                   -                   -
  *   gateway_new_season       1 DONE            -                   -                   -
- *   bucket                   1 VALUE           count               declined of it      its start, ms
+ *   bucket                   1 VALUE           count               declined of it      its start, ticks
  *                            2 UNKNOWN place   -                   -                   -
  *
  * "bits" are those of a double; frostaxle_double() turns them back. REJECTED: after the wait the oldest bucket, which
- * holds row[4], is at the window's edge, and one millisecond later it is out, so ask again at wait + 1. SUPPRESSED with
- * row[3] 0 is a no, counted as declined; with 1 it is a yes.
+ * holds row[4], is at the window's edge, and one millisecond later it is out, so ask again at wait + 1, in milliseconds
+ * whatever the clock. SUPPRESSED with row[3] 0 is a no, counted as declined; with 1 it is a yes.
  */
 #ifndef FROSTAXLE_H
 #define FROSTAXLE_H
@@ -169,6 +186,12 @@ enum {
     FROSTAXLE_NE = 4      /* not equal to it */
 };
 
+/* clock */
+enum {
+    FROSTAXLE_MILLISECONDS = 0,
+    FROSTAXLE_NANOSECONDS = 1 /* as is any number but 0 */
+};
+
 /* preservation */
 enum {
     FROSTAXLE_PRESERVE_NEWEST = 0, /* a surplus goes to the newest bucket, a shortage is taken from the oldest */
@@ -179,6 +202,7 @@ enum {
 #define FROSTAXLE_DEFAULT_BUCKET 100
 #define FROSTAXLE_DEFAULT_CACHE 100
 #define FROSTAXLE_DEFAULT_FACTOR 1.0
+#define FROSTAXLE_DEFAULT_CLOCK FROSTAXLE_MILLISECONDS
 
 #define FROSTAXLE_ROW_WORDS 5
 
@@ -206,93 +230,97 @@ uint64_t frostaxle_make(uint64_t *room, size_t room_len, uint64_t slots, uint64_
 /* ---- the absolute limiter */
 
 /* Counts `count` for a key if it is allowed: ALLOWED or REJECTED. A key's first call stores its limit, rate * window. */
-uint64_t frostaxle_absolute_inc(uint64_t window, uint64_t bucket, uint64_t cache, double factor, uint64_t *room,
-                                size_t room_len, uint64_t reading, const uint8_t *key, size_t key_len, double rate,
-                                uint64_t count, uint64_t row[5]);
+uint64_t frostaxle_absolute_inc(uint64_t window, uint64_t bucket, uint64_t cache, double factor, uint64_t clock,
+                                uint64_t *room, size_t room_len, uint64_t reading, const uint8_t *key, size_t key_len,
+                                double rate, uint64_t count, uint64_t row[5]);
 
 /* What an increment would be told now, without counting: ALLOWED or REJECTED. An unknown key is ALLOWED. */
 uint64_t frostaxle_absolute_is_allowed(uint64_t window, uint64_t bucket, uint64_t cache, double factor,
-                                       uint64_t *room, size_t room_len, uint64_t reading, const uint8_t *key,
-                                       size_t key_len, uint64_t row[5]);
+                                       uint64_t clock, uint64_t *room, size_t room_len, uint64_t reading,
+                                       const uint8_t *key, size_t key_len, uint64_t row[5]);
 
 /* The key's live total, 0 for an unknown key. */
-uint64_t frostaxle_absolute_get(uint64_t window, uint64_t bucket, uint64_t cache, double factor, uint64_t *room,
-                                size_t room_len, uint64_t reading, const uint8_t *key, size_t key_len,
+uint64_t frostaxle_absolute_get(uint64_t window, uint64_t bucket, uint64_t cache, double factor, uint64_t clock,
+                                uint64_t *room, size_t room_len, uint64_t reading, const uint8_t *key, size_t key_len,
                                 uint64_t row[5]);
 
 /* Gives a known key another limit: VALUE with its old rate. An unknown key stays UNKNOWN. */
 uint64_t frostaxle_absolute_set_rate_limit(uint64_t window, uint64_t bucket, uint64_t cache, double factor,
-                                           uint64_t *room, size_t room_len, uint64_t reading, const uint8_t *key,
-                                           size_t key_len, double rate, uint64_t row[5]);
+                                           uint64_t clock, uint64_t *room, size_t room_len, uint64_t reading,
+                                           const uint8_t *key, size_t key_len, double rate, uint64_t row[5]);
 
 /* Forgets a key: VALUE with its live total, or UNKNOWN. */
-uint64_t frostaxle_absolute_delete(uint64_t window, uint64_t bucket, uint64_t cache, double factor, uint64_t *room,
-                                   size_t room_len, uint64_t reading, const uint8_t *key, size_t key_len,
-                                   uint64_t row[5]);
+uint64_t frostaxle_absolute_delete(uint64_t window, uint64_t bucket, uint64_t cache, double factor, uint64_t clock,
+                                   uint64_t *room, size_t room_len, uint64_t reading, const uint8_t *key,
+                                   size_t key_len, uint64_t row[5]);
 
 /* Forgets every key. */
-uint64_t frostaxle_absolute_clear(uint64_t window, uint64_t bucket, uint64_t cache, double factor, uint64_t *room,
-                                  size_t room_len, uint64_t reading, uint64_t row[5]);
+uint64_t frostaxle_absolute_clear(uint64_t window, uint64_t bucket, uint64_t cache, double factor, uint64_t clock,
+                                  uint64_t *room, size_t room_len, uint64_t reading, uint64_t row[5]);
 
 /* If the comparator is met, sets the key's limit and its total to `count`, in one bucket; count 0 forgets the key. */
-uint64_t frostaxle_absolute_set_if(uint64_t window, uint64_t bucket, uint64_t cache, double factor, uint64_t *room,
-                                   size_t room_len, uint64_t reading, const uint8_t *key, size_t key_len, double rate,
-                                   uint64_t count, uint64_t comparator, uint64_t operand, uint64_t row[5]);
+uint64_t frostaxle_absolute_set_if(uint64_t window, uint64_t bucket, uint64_t cache, double factor, uint64_t clock,
+                                   uint64_t *room, size_t room_len, uint64_t reading, const uint8_t *key,
+                                   size_t key_len, double rate, uint64_t count, uint64_t comparator, uint64_t operand,
+                                   uint64_t row[5]);
 
 /* The same, but keeps the key's buckets: only the difference is added to one end, or taken from the other. */
 uint64_t frostaxle_absolute_set_if_preserve_history(uint64_t window, uint64_t bucket, uint64_t cache, double factor,
-                                                    uint64_t *room, size_t room_len, uint64_t reading,
+                                                    uint64_t clock, uint64_t *room, size_t room_len, uint64_t reading,
                                                     const uint8_t *key, size_t key_len, double rate, uint64_t count,
                                                     uint64_t comparator, uint64_t operand, uint64_t preservation,
                                                     uint64_t row[5]);
 
 /* Forgets keys without a bucket, or whose newest bucket is older than `stale`. Judges every slot in use. */
-uint64_t frostaxle_absolute_cleanup(uint64_t window, uint64_t bucket, uint64_t cache, double factor, uint64_t *room,
-                                    size_t room_len, uint64_t reading, uint64_t stale, uint64_t row[5]);
+uint64_t frostaxle_absolute_cleanup(uint64_t window, uint64_t bucket, uint64_t cache, double factor, uint64_t clock,
+                                    uint64_t *room, size_t room_len, uint64_t reading, uint64_t stale,
+                                    uint64_t row[5]);
 
 /* ---- the suppressed limiter */
 
 /* Counts `count` for a key and decides by the forecast and the draw: ALLOWED or SUPPRESSED. */
-uint64_t frostaxle_suppressed_inc(uint64_t window, uint64_t bucket, uint64_t cache, double factor, uint64_t *room,
-                                  size_t room_len, uint64_t reading, const uint8_t *key, size_t key_len, double rate,
-                                  uint64_t count, uint64_t draw, uint64_t row[5]);
+uint64_t frostaxle_suppressed_inc(uint64_t window, uint64_t bucket, uint64_t cache, double factor, uint64_t clock,
+                                  uint64_t *room, size_t room_len, uint64_t reading, const uint8_t *key,
+                                  size_t key_len, double rate, uint64_t count, uint64_t draw, uint64_t row[5]);
 
 /* The key's live total, how much of it was declined, and its factor; zeros for an unknown key. */
-uint64_t frostaxle_suppressed_get(uint64_t window, uint64_t bucket, uint64_t cache, double factor, uint64_t *room,
-                                  size_t room_len, uint64_t reading, const uint8_t *key, size_t key_len,
-                                  uint64_t row[5]);
+uint64_t frostaxle_suppressed_get(uint64_t window, uint64_t bucket, uint64_t cache, double factor, uint64_t clock,
+                                  uint64_t *room, size_t room_len, uint64_t reading, const uint8_t *key,
+                                  size_t key_len, uint64_t row[5]);
 
 /* The key's factor, 0 (none is declined) to 1 (all are). It is cached; an unknown key takes a slot for it. */
 uint64_t frostaxle_suppressed_get_suppression_factor(uint64_t window, uint64_t bucket, uint64_t cache, double factor,
-                                                     uint64_t *room, size_t room_len, uint64_t reading,
-                                                     const uint8_t *key, size_t key_len, uint64_t row[5]);
+                                                     uint64_t clock, uint64_t *room, size_t room_len,
+                                                     uint64_t reading, const uint8_t *key, size_t key_len,
+                                                     uint64_t row[5]);
 
 uint64_t frostaxle_suppressed_set_rate_limit(uint64_t window, uint64_t bucket, uint64_t cache, double factor,
-                                             uint64_t *room, size_t room_len, uint64_t reading, const uint8_t *key,
-                                             size_t key_len, double rate, uint64_t row[5]);
+                                             uint64_t clock, uint64_t *room, size_t room_len, uint64_t reading,
+                                             const uint8_t *key, size_t key_len, double rate, uint64_t row[5]);
 
 /* Forgets a key: VALUE with its live total less what was declined (0 if only a factor was cached), or UNKNOWN. */
-uint64_t frostaxle_suppressed_delete(uint64_t window, uint64_t bucket, uint64_t cache, double factor, uint64_t *room,
-                                     size_t room_len, uint64_t reading, const uint8_t *key, size_t key_len,
-                                     uint64_t row[5]);
+uint64_t frostaxle_suppressed_delete(uint64_t window, uint64_t bucket, uint64_t cache, double factor, uint64_t clock,
+                                     uint64_t *room, size_t room_len, uint64_t reading, const uint8_t *key,
+                                     size_t key_len, uint64_t row[5]);
 
-uint64_t frostaxle_suppressed_clear(uint64_t window, uint64_t bucket, uint64_t cache, double factor, uint64_t *room,
-                                    size_t room_len, uint64_t reading, uint64_t row[5]);
+uint64_t frostaxle_suppressed_clear(uint64_t window, uint64_t bucket, uint64_t cache, double factor, uint64_t clock,
+                                    uint64_t *room, size_t room_len, uint64_t reading, uint64_t row[5]);
 
-uint64_t frostaxle_suppressed_set_if(uint64_t window, uint64_t bucket, uint64_t cache, double factor, uint64_t *room,
-                                     size_t room_len, uint64_t reading, const uint8_t *key, size_t key_len,
-                                     double rate, uint64_t count, uint64_t comparator, uint64_t operand,
-                                     uint64_t row[5]);
+uint64_t frostaxle_suppressed_set_if(uint64_t window, uint64_t bucket, uint64_t cache, double factor, uint64_t clock,
+                                     uint64_t *room, size_t room_len, uint64_t reading, const uint8_t *key,
+                                     size_t key_len, double rate, uint64_t count, uint64_t comparator,
+                                     uint64_t operand, uint64_t row[5]);
 
 uint64_t frostaxle_suppressed_set_if_preserve_history(uint64_t window, uint64_t bucket, uint64_t cache, double factor,
-                                                      uint64_t *room, size_t room_len, uint64_t reading,
-                                                      const uint8_t *key, size_t key_len, double rate, uint64_t count,
-                                                      uint64_t comparator, uint64_t operand, uint64_t preservation,
-                                                      uint64_t row[5]);
+                                                      uint64_t clock, uint64_t *room, size_t room_len,
+                                                      uint64_t reading, const uint8_t *key, size_t key_len,
+                                                      double rate, uint64_t count, uint64_t comparator,
+                                                      uint64_t operand, uint64_t preservation, uint64_t row[5]);
 
 /* As for the absolute limiter; a cached factor stays only if it is younger than `stale`. */
-uint64_t frostaxle_suppressed_cleanup(uint64_t window, uint64_t bucket, uint64_t cache, double factor, uint64_t *room,
-                                      size_t room_len, uint64_t reading, uint64_t stale, uint64_t row[5]);
+uint64_t frostaxle_suppressed_cleanup(uint64_t window, uint64_t bucket, uint64_t cache, double factor, uint64_t clock,
+                                      uint64_t *room, size_t room_len, uint64_t reading, uint64_t stale,
+                                      uint64_t row[5]);
 
 /* ---- the read-out */
 
@@ -300,18 +328,18 @@ uint64_t frostaxle_suppressed_cleanup(uint64_t window, uint64_t bucket, uint64_t
  * Bucket `at` of a key, counted from 0, the oldest; expired ones that are still stored too. UNKNOWN past the newest, and
  * for an unknown key: ask from 0 on until UNKNOWN. No reading, and nothing changes; refusals are 1 to 5 and 7.
  */
-uint64_t frostaxle_absolute_bucket(uint64_t window, uint64_t bucket, uint64_t cache, double factor,
+uint64_t frostaxle_absolute_bucket(uint64_t window, uint64_t bucket, uint64_t cache, double factor, uint64_t clock,
                                    const uint64_t *room, size_t room_len, const uint8_t *key, size_t key_len,
                                    size_t at, uint64_t row[5]);
 
-uint64_t frostaxle_suppressed_bucket(uint64_t window, uint64_t bucket, uint64_t cache, double factor,
+uint64_t frostaxle_suppressed_bucket(uint64_t window, uint64_t bucket, uint64_t cache, double factor, uint64_t clock,
                                      const uint64_t *room, size_t room_len, const uint8_t *key, size_t key_len,
                                      size_t at, uint64_t row[5]);
 
 /* ---- both */
 
 /* Cleans both rooms, or, refused with the lowest number over both, neither. */
-uint64_t frostaxle_provider_cleanup(uint64_t window, uint64_t bucket, uint64_t cache, double factor,
+uint64_t frostaxle_provider_cleanup(uint64_t window, uint64_t bucket, uint64_t cache, double factor, uint64_t clock,
                                     uint64_t *absolute, size_t absolute_len, uint64_t *suppressed,
                                     size_t suppressed_len, uint64_t reading, uint64_t stale, uint64_t row[5]);
 
@@ -330,8 +358,8 @@ uint64_t frostaxle_gateway_make_table(uint64_t *table, size_t table_len);
  *   1 to 12, unless it is HELD, as for the increment; 5 for the table, too
  * A table that is unsound for its controller has no last number: with it a shot is neither HELD nor 20 nor 21.
  */
-uint64_t frostaxle_gateway_shot(uint64_t window, uint64_t bucket, uint64_t cache, double factor, uint64_t *table,
-                                size_t table_len, uint64_t *room, size_t room_len, uint64_t reading,
+uint64_t frostaxle_gateway_shot(uint64_t window, uint64_t bucket, uint64_t cache, double factor, uint64_t clock,
+                                uint64_t *table, size_t table_len, uint64_t *room, size_t room_len, uint64_t reading,
                                 const uint8_t *controller, size_t controller_len, uint64_t number, double rate,
                                 uint64_t draw, uint64_t row[5]);
 

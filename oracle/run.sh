@@ -1,6 +1,6 @@
 #!/bin/sh
-# run.sh [calls] [seed] [few]: builds, checks the worked examples of desk and shots, compares; prints a line for the shots and one for
-# the limiters. With `few`, most short histories are left out.
+# run.sh [calls] [seed] [few]: builds, checks the worked examples of desk and shots, compares, so many calls in each clock mode; for each
+# prints a line for the shots, then for each one for the limiters. With `few`, most short histories are left out.
 set -eu
 here=$(cd "$(dirname "$0")" && pwd)
 "$here/build.sh"

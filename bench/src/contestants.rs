@@ -4,7 +4,7 @@ use std::sync::Arc;
 
 use original::{LocalRateLimiterProvider, RateLimit, RateLimitDecision};
 
-use crate::load::{Call, Increment, Key, Limiter, Load, Settings};
+use crate::load::{Call, Clock, Increment, Key, Limiter, Load, Settings};
 use crate::shots::TwinShots;
 #[cfg(archive)]
 use crate::shots::archive::ArchiveShots;
@@ -95,8 +95,13 @@ macro_rules! of_rooms {
 
         impl $contestant {
             pub fn new(load: &Load) -> Self {
-                let Settings { window, bucket, cache, factor } = load.settings;
-                let settings = $twin::rules::Settings { window, bucket, cache, factor };
+                use $twin::rules::ClockMode;
+                let Settings { window, bucket, cache, factor, clock } = load.settings;
+                let clock = match clock {
+                    Clock::Milliseconds => ClockMode::Milliseconds,
+                    Clock::Nanoseconds => ClockMode::Nanoseconds,
+                };
+                let settings = $twin::rules::Settings { window, bucket, cache, factor, clock };
                 $contestant { rooms: Rooms::new(load), settings }
             }
 
@@ -198,6 +203,7 @@ pub mod archive {
                     bucket: u64,
                     cache: u64,
                     factor: f64,
+                    clock: u64,
                     room: *mut u64,
                     words: usize,
                     reading: u64,
@@ -222,13 +228,13 @@ pub mod archive {
     /// Puts a call with a key to a function of the archive; gives its code, and the answer in the row.
     macro_rules! ask {
         ($function:ident, $load:ident, $room:ident, $row:ident, $given:ident, $key:ident $(, $argument:expr)*) => {{
-            let Settings { window, bucket, cache, factor } = $load.settings;
+            let Settings { window, bucket, cache, factor, clock } = $load.settings;
             let (words, length) = ($room.as_mut_ptr(), $room.len());
             let (key, bytes) = ($key.text.as_ptr(), $key.text.len());
             let (reading, row) = ($given.reading, $row.as_mut_ptr());
             unsafe {
                 $function(
-                    window, bucket, cache, factor, words, length, reading, key, bytes, $($argument,)* row,
+                    window, bucket, cache, factor, clock as u64, words, length, reading, key, bytes, $($argument,)* row,
                 )
             }
         }};
@@ -236,14 +242,15 @@ pub mod archive {
 
     /// Every key of a limiter's room goes.
     pub fn clear(limiter: Limiter, load: &Load, room: &mut [u64], reading: u64) {
-        let Settings { window, bucket, cache, factor } = load.settings;
-        let clear: unsafe extern "C" fn(_, _, _, _, _, _, _, _) -> _ = match limiter {
+        let Settings { window, bucket, cache, factor, clock } = load.settings;
+        let clear: unsafe extern "C" fn(_, _, _, _, _, _, _, _, _) -> _ = match limiter {
             Limiter::Absolute => frostaxle_absolute_clear,
             Limiter::Suppressed => frostaxle_suppressed_clear,
         };
         let (words, length, mut row) = (room.as_mut_ptr(), room.len(), [0; 5]);
         let code = unsafe {
-            clear(window, bucket, cache, factor, words, length, reading, row.as_mut_ptr())
+            let (clock, row) = (clock as u64, row.as_mut_ptr());
+            clear(window, bucket, cache, factor, clock, words, length, reading, row)
         };
         assert_eq!(code, 0, "a room is cleared");
     }
@@ -360,7 +367,7 @@ pub struct Original {
 
 impl Original {
     pub fn new(load: &Load) -> Self {
-        let Settings { window, bucket, cache, factor } = load.settings;
+        let Settings { window, bucket, cache, factor, .. } = load.settings;
         let rate = |key: &Key| RateLimit::per_second(key.rate).expect("a rate");
         Original {
             provider: original::provider(window, bucket, cache, factor),
@@ -394,6 +401,7 @@ impl Contestant for Original {
     }
 
     fn run(&mut self, limiter: Limiter, load: &Load, increments: &[Increment]) -> u64 {
+        original::set_nanoseconds(load.settings.clock == Clock::Nanoseconds);
         answers(load, increments, |given, key| {
             let (rate, count) = (&self.rates[given.key as usize], u64::from(given.count));
             original::set_reading(given.reading);

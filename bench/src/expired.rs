@@ -16,7 +16,8 @@ impl Expired {
     pub fn new(limiter: Limiter, load: &Load, timed: usize) -> Self {
         let (rounds, mut calls) = load.increments(timed);
         let filling = filling(load, rounds);
-        let reading = filling.last().expect("an increment").reading + LUNCH;
+        let lunch = LUNCH * load.settings.clock.ticks();
+        let reading = filling.last().expect("an increment").reading + lunch;
         calls.iter_mut().for_each(|call| call.reading = reading);
         Expired { room: full_room(limiter, load, &filling), calls }
     }

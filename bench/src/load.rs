@@ -18,6 +18,25 @@ impl Limiter {
     }
 }
 
+/// What a tick of the readings is; its place is its number on the C faces.
+#[derive(Clone, Copy, Debug, PartialEq, Eq)]
+pub enum Clock {
+    Milliseconds,
+    Nanoseconds,
+}
+
+impl Clock {
+    pub const BOTH: [Clock; 2] = [Clock::Milliseconds, Clock::Nanoseconds];
+
+    /// How many ticks a millisecond has.
+    pub fn ticks(self) -> u64 {
+        match self {
+            Clock::Milliseconds => 1,
+            Clock::Nanoseconds => 1_000_000,
+        }
+    }
+}
+
 /// The default window, in seconds, and a longer one.
 const DEFAULT_WINDOW: u64 = 10;
 const LONG_WINDOW: u64 = 30;
@@ -85,8 +104,8 @@ impl Deed {
     }
 }
 
-/// How many keys, how many live buckets each is to have, the ring, the window and the bucket size; the rest of the settings are the
-/// defaults.
+/// How many keys, how many live buckets each is to have, the ring, the window, the bucket size and the clock; the rest of the settings
+/// are the defaults.
 #[derive(Clone, Copy, Debug)]
 pub struct Shape {
     pub deed: Deed,
@@ -95,17 +114,19 @@ pub struct Shape {
     pub ring: usize,
     pub window: u64,
     pub bucket: u64,
+    pub clock: Clock,
 }
 
 impl Shape {
-    /// Full rings: of default buckets where they just fill a window, else of small ones in the default window.
+    /// Full rings: of default buckets where they just fill a window, else of small ones in the default window. Readings are milliseconds.
     pub fn full(keys: usize, live: u64) -> Self {
         let (window, bucket) = match live {
             ..=MOST_BUCKETS => (DEFAULT_WINDOW, DEFAULT_BUCKET),
             MOST_BUCKETS_OF_LONG => (LONG_WINDOW, DEFAULT_BUCKET),
             _ => (DEFAULT_WINDOW, SMALL_BUCKET),
         };
-        Shape { deed: Deed::Increments, keys, live, ring: live as usize, window, bucket }
+        let (deed, ring, clock) = (Deed::Increments, live as usize, Clock::Milliseconds);
+        Shape { deed, keys, live, ring, window, bucket, clock }
     }
 
     /// What a full ring holds on average. Two increments go to a bucket.
@@ -120,6 +141,7 @@ pub struct Settings {
     pub bucket: u64,
     pub cache: u64,
     pub factor: f64,
+    pub clock: Clock,
 }
 
 pub struct Key {
@@ -145,8 +167,8 @@ pub struct Load {
 
 impl Load {
     pub fn new(shape: Shape) -> Self {
-        let Shape { window, bucket, .. } = shape;
-        let settings = Settings { window, bucket, cache: 100, factor: 1.0 };
+        let Shape { window, bucket, clock, .. } = shape;
+        let settings = Settings { window, bucket, cache: 100, factor: 1.0, clock };
         // Keys of even number stay below their limit, the others are held back now and then.
         let limit = |key: usize| match shape.deed {
             // None is held back, so that every ring is filled.
@@ -163,13 +185,15 @@ impl Load {
         Load { shape, settings, keys }
     }
 
-    /// The reading of a round. Two rounds go to a bucket, and the window holds `live` buckets.
+    /// The reading of a round. Two rounds go to a bucket, and the window holds `live` buckets. Where a millisecond has parts, each of the
+    /// two has its own; buckets that the first ones begin are as far apart as in milliseconds, so that rings are as full.
     fn reading(&self, round: u64) -> u64 {
-        let window = 1000 * self.settings.window;
+        let (window, n) = (1000 * self.settings.window, self.settings.clock.ticks());
         let steps = self.shape.live - 1;
         let begun = round / 2 * window / steps;
         let apart = self.settings.bucket.min(window / steps) / 2;
-        begun + if round % 2 == 1 { apart } else { 0 }
+        let later = if round % 2 == 1 { apart * n + n / 3 } else { 0 };
+        begun * n + 2 * n / 5 + later
     }
 
     /// As many rounds as fill the rings, then the increments that are timed. In a round each key has one increment, and the

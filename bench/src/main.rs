@@ -9,16 +9,18 @@ mod shots;
 use std::time::Duration;
 
 use contestants::{Contestant, all, named, of_shots, of_shots_alone, over_rooms};
-use load::{Call, Deed, Limiter, Load, Shape};
-use race::{alone, alone_expired, race, race_expired};
+use load::{Call, Clock, Deed, Limiter, Load, Shape};
+use race::{Field, alone, alone_expired, race, race_expired};
 
 const KEYS: usize = 40;
 
 const ARCHIVE: &str = "archive";
 
 const USAGE: &str = "[INCREMENTS REPETITIONS] | shots SHOTS REPETITIONS | expired CALLS REPETITIONS | \
-    one CONTESTANT LIMITER BUCKETS INCREMENTS | one CONTESTANT rising|held|last CONTROLLERS BUCKETS SHOTS | \
-    one CONTESTANT expired LIMITER CALL BUCKETS CALLS";
+    clocks INCREMENTS REPETITIONS | \
+    one CONTESTANT [nanoseconds] LIMITER BUCKETS INCREMENTS | \
+    one CONTESTANT [nanoseconds] rising|held|last CONTROLLERS BUCKETS SHOTS | \
+    one CONTESTANT [nanoseconds] expired LIMITER CALL BUCKETS CALLS";
 
 fn main() {
     let arguments: Vec<String> = std::env::args().skip(1).collect();
@@ -27,8 +29,12 @@ fn main() {
         [] => tables(1_000_000, 5),
         ["shots", timed, times] => shot_tables(number(timed), number(times)),
         ["expired", timed, times] => expired_table(number(timed), number(times)),
+        ["clocks", timed, times] => clock_tables(number(timed), number(times)),
         [timed, times] => tables(number(timed), number(times)),
-        ["one", name, ref what @ .., timed] => one(name, what, number(timed)),
+        ["one", name, "nanoseconds", ref what @ .., timed] => {
+            one(Clock::Nanoseconds, name, what, number(timed))
+        }
+        ["one", name, ref what @ .., timed] => one(Clock::Milliseconds, name, what, number(timed)),
         _ => panic!("{USAGE}"),
     }
 }
@@ -43,10 +49,11 @@ fn limiter(name: &str) -> Limiter {
 }
 
 /// One contestant alone, for a profiler.
-fn one(name: &str, what: &[&str], timed: usize) {
+fn one(clock: Clock, name: &str, what: &[&str], timed: usize) {
+    let full = |keys: usize, live: &str| Shape { clock, ..Shape::full(keys, number(live) as u64) };
     match *what {
         [of, live] => {
-            let load = Load::new(Shape::full(KEYS, number(live) as u64));
+            let load = Load::new(full(KEYS, live));
             alone(limiter(of), &load, named(name, &load, all(&load)), timed);
         }
         [deed @ ("rising" | "held" | "last"), keys, live] => {
@@ -55,14 +62,14 @@ fn one(name: &str, what: &[&str], timed: usize) {
                 "held" => Deed::Held,
                 _ => Deed::HeldLast,
             };
-            let load = Load::new(Shape { deed, ..Shape::full(number(keys), number(live) as u64) });
+            let load = Load::new(Shape { deed, ..full(number(keys), live) });
             alone(Limiter::Suppressed, &load, named(name, &load, of_shots(&load)), timed);
         }
         ["expired", of, call, live] => {
             let limiter = limiter(of);
             let call = Call::ALL.into_iter().find(|other| other.name(limiter) == call);
             let deed = Deed::Expired(call.expect("a call of this limiter"));
-            let load = Load::new(Shape { deed, ..Shape::full(KEYS, number(live) as u64) });
+            let load = Load::new(Shape { deed, ..full(KEYS, live) });
             alone_expired(limiter, &load, named(name, &load, over_rooms(&load)), timed);
         }
         _ => panic!("{USAGE}"),
@@ -149,13 +156,10 @@ fn shot_tables(timed: usize, times: usize) {
 fn shot_row(keys: usize, live: u64, timed: usize, times: usize) -> Vec<(String, f64)> {
     let mut each = Vec::new();
     for (deed, called) in DEEDS {
-        let load = Load::new(Shape { deed, ..Shape::full(keys, live) });
-        let mut contestants = match deed {
-            Deed::Shots => of_shots(&load),
-            _ => of_shots_alone(&load),
-        };
-        let took = race(Limiter::Suppressed, &load, &mut contestants, timed, times);
-        each.extend(contestants.iter().zip(took).map(|(contestant, took)| {
+        let contestants = if deed == Deed::Shots { of_shots } else { of_shots_alone };
+        let mut field = Field::new(Shape { deed, ..Shape::full(keys, live) }, contestants);
+        let took = race(Limiter::Suppressed, std::slice::from_mut(&mut field), timed, times);
+        each.extend(field.contestants.iter().zip(took).map(|(contestant, took)| {
             let nanoseconds = took.as_secs_f64() * 1e9 / timed as f64;
             (format!("{}{called}", contestant.name()), nanoseconds)
         }));
@@ -213,13 +217,12 @@ fn print_names(contestants: &[Box<dyn Contestant>]) {
 
 /// Times each contestant and prints a line.
 fn row(limiter: Limiter, shape: Shape, timed: usize, times: usize) {
-    let load = Load::new(shape);
-    let mut contestants = all(&load);
-    let took = race(limiter, &load, &mut contestants, timed, times);
+    let mut field = Field::new(shape, all);
+    let took = race(limiter, std::slice::from_mut(&mut field), timed, times);
     let Shape { keys, ring, window, bucket, .. } = shape;
-    let buckets = buckets(contestants[0].room(limiter).expect("the twin's room"));
+    let buckets = field.buckets(limiter);
     print!("{keys:4}  {ring:4}  {window:6}  {bucket:6}  {buckets:12.1}");
-    print_times(&contestants, &took, timed);
+    print_times(&field.contestants, &took, timed);
 }
 
 /// The rest of a line: nanoseconds for one of those that were timed, and ratios.
@@ -240,9 +243,39 @@ fn print_times(contestants: &[Box<dyn Contestant>], took: &[Duration], timed: us
     println!();
 }
 
-/// How many buckets a key has, on average.
-fn buckets(room: &[u64]) -> f64 {
-    let slots = twin::room::slots(room);
-    let all: u64 = (0..slots).map(|at| twin::room::slot(room, at).buckets()).sum();
-    all as f64 / slots as f64
+/// Increments in either clock, all in one race; one row for each ring.
+fn clock_tables(timed: usize, times: usize) {
+    println!(
+        "nanoseconds for an increment, with readings in milliseconds and in nanoseconds, and the"
+    );
+    println!(
+        "ratio of the second to the first; the same increments, in nanoseconds at readings that"
+    );
+    println!("have parts of a millisecond");
+    println!("{timed} increments in mixed order, rooms cleared and filled first, least of {times}");
+    for limiter in Limiter::BOTH {
+        println!("\n{}, {KEYS} keys, rings full", limiter.name());
+        print!("ring  buckets held");
+        for contestant in all(&Load::new(Shape::full(1, 10))) {
+            print!("{:>24}", contestant.name());
+        }
+        println!();
+        for live in [10, 100, 298, 512] {
+            clock_row(limiter, live, timed, times);
+        }
+    }
+}
+
+fn clock_row(limiter: Limiter, live: u64, timed: usize, times: usize) {
+    let shape = |clock| Shape { clock, ..Shape::full(KEYS, live) };
+    let mut fields = Clock::BOTH.map(|clock| Field::new(shape(clock), all));
+    let took = race(limiter, &mut fields, timed, times);
+    let [held, fine] = fields.each_mut().map(|field| field.buckets(limiter));
+    print!("{live:4}  {held:5.1}, {fine:5.1}");
+    let (took, fine) = took.split_at(took.len() / 2);
+    for (took, fine) in took.iter().zip(fine) {
+        let [took, fine] = [took, fine].map(|took| took.as_secs_f64() * 1e9 / timed as f64);
+        print!("  {took:7.1} {fine:7.1} {:6.3}", fine / took);
+    }
+    println!();
 }

@@ -28,7 +28,7 @@ pub use common::{
 };
 pub use error::TrypemaError;
 pub use local::LocalRateLimiterProvider;
-pub use std::time::set_reading;
+pub use std::time::{set_nanoseconds, set_reading};
 
 /// A provider with these settings and no cleanup loop.
 pub fn provider(

@@ -1,41 +1,101 @@
 //! Races: the contestants put the same calls to their own limiters and take turns at every stretch of them, so that a load on the
 //! machine falls on all. Of the repetitions each stretch's least time counts.
 
-use std::slice::Chunks;
 use std::time::{Duration, Instant};
 
 use crate::contestants::Contestant;
 use crate::expired::Expired;
-use crate::load::{Increment, Limiter, Load, later};
+use crate::load::{Increment, Limiter, Load, Shape, later};
 
 /// How many increments are timed at a time.
 const STRETCH: usize = 2_000;
 
-/// What each contestant takes for the increments, in rooms that are cleared and filled first.
-pub fn race(
-    limiter: Limiter,
-    load: &Load,
-    contestants: &mut [Box<dyn Contestant>],
-    timed: usize,
-    times: usize,
-) -> Vec<Duration> {
-    let (mut filling, mut increments) = load.increments(timed);
-    let span = increments.last().expect("an increment").reading + 100_000;
-    let mut least = Least::new(contestants.len(), timed.div_ceil(STRETCH));
+/// A load and the contestants that it is put to.
+pub struct Field {
+    load: Load,
+    pub contestants: Vec<Box<dyn Contestant>>,
+}
+
+impl Field {
+    pub fn new(shape: Shape, contestants: fn(&Load) -> Vec<Box<dyn Contestant>>) -> Self {
+        let load = Load::new(shape);
+        Field { contestants: contestants(&load), load }
+    }
+
+    /// How many buckets a key has in the first contestant's room, on average.
+    pub fn buckets(&mut self, limiter: Limiter) -> f64 {
+        let room = self.contestants[0].room(limiter).expect("the twin's room");
+        let slots = twin::room::slots(room);
+        let all: u64 = (0..slots).map(|at| twin::room::slot(room, at).buckets()).sum();
+        all as f64 / slots as f64
+    }
+}
+
+/// What is put to the contestants of a field.
+struct Calls {
+    filling: Vec<Increment>,
+    increments: Vec<Increment>,
+    /// How much later they come again.
+    span: u64,
+}
+
+impl Calls {
+    fn new(load: &Load, timed: usize) -> Self {
+        let (filling, increments) = load.increments(timed);
+        let last = increments.last().expect("an increment").reading;
+        Calls { filling, increments, span: last + 100_000 * load.settings.clock.ticks() }
+    }
+
+    fn stretch(&self, at: usize) -> &[Increment] {
+        self.increments.chunks(STRETCH).nth(at).expect("a stretch")
+    }
+
+    fn come_later(&mut self) {
+        later(&mut self.filling, self.span);
+        later(&mut self.increments, self.span);
+    }
+}
+
+/// A contestant and the place of its field.
+struct Entrant<'a> {
+    field: usize,
+    load: &'a Load,
+    contestant: &'a mut dyn Contestant,
+}
+
+impl Entrant<'_> {
+    /// The room is cleared and filled; gives the answers, folded.
+    fn fill(&mut self, limiter: Limiter, filling: &[Increment]) -> u64 {
+        self.contestant.clear(limiter, self.load, filling[0].reading);
+        self.contestant.run(limiter, self.load, filling)
+    }
+}
+
+fn entrants(fields: &mut [Field]) -> Vec<Entrant<'_>> {
+    let mut entrants = Vec::new();
+    for (field, Field { load, contestants }) in fields.iter_mut().enumerate() {
+        for contestant in contestants {
+            entrants.push(Entrant { field, load, contestant: contestant.as_mut() });
+        }
+    }
+    entrants
+}
+
+/// What each contestant takes for its field's increments, in rooms that are cleared and filled first. The fields are in one race.
+pub fn race(limiter: Limiter, fields: &mut [Field], timed: usize, times: usize) -> Vec<Duration> {
+    let mut calls: Vec<Calls> = fields.iter().map(|field| Calls::new(&field.load, timed)).collect();
+    let mut entrants = entrants(fields);
+    let mut least = Least::new(entrants.len(), timed.div_ceil(STRETCH));
     for turn in 0..times {
-        let fill = |contestant: &mut Box<dyn Contestant>| {
-            contestant.clear(limiter, load, filling[0].reading);
-            contestant.run(limiter, load, &filling)
-        };
-        let filled: Vec<u64> = contestants.iter_mut().map(fill).collect();
-        must_agree(contestants, &filled);
-        let stretches = increments.chunks(STRETCH);
-        let told = least.lap(contestants, stretches, turn, |contestant, stretch| {
-            time(limiter, load, contestant, stretch)
+        let fill = |entrant: &mut Entrant| entrant.fill(limiter, &calls[entrant.field].filling);
+        let filled: Vec<u64> = entrants.iter_mut().map(fill).collect();
+        must_agree_by_field(&entrants, &filled);
+        let told = least.lap(turn, |place, at| {
+            let Entrant { field, load, contestant } = &mut entrants[place];
+            time(limiter, load, *contestant, calls[*field].stretch(at))
         });
-        must_agree(contestants, &told);
-        later(&mut filling, span);
-        later(&mut increments, span);
+        must_agree_by_field(&entrants, &told);
+        calls.iter_mut().for_each(Calls::come_later);
     }
     least.sums()
 }
@@ -50,13 +110,15 @@ pub fn race_expired(
     times: usize,
 ) -> Vec<Duration> {
     let expired = Expired::new(limiter, load, timed);
-    let mut least = Least::new(contestants.len(), expired.rounds(load).len());
+    let rounds: Vec<&[Increment]> = expired.rounds(load).collect();
+    let mut least = Least::new(contestants.len(), rounds.len());
     for turn in 0..times {
-        let told = least.lap(contestants, expired.rounds(load), turn, |contestant, round| {
+        let told = least.lap(turn, |place, round| {
+            let contestant = contestants[place].as_mut();
             expired.restore(limiter, contestant);
-            time(limiter, load, contestant, round)
+            time(limiter, load, contestant, rounds[round])
         });
-        must_agree(contestants, &told);
+        must_agree(contestants.iter().map(|contestant| &**contestant), &told);
         must_leave_the_same(limiter, contestants);
     }
     least.sums()
@@ -92,19 +154,18 @@ impl Least {
         Least(vec![vec![Duration::MAX; stretches]; contestants])
     }
 
-    /// All stretches once; gives each contestant's answers, folded.
+    /// All stretches once, each by every contestant; gives each contestant's answers, folded.
     fn lap(
         &mut self,
-        contestants: &mut [Box<dyn Contestant>],
-        stretches: Chunks<Increment>,
         turn: usize,
-        mut timed: impl FnMut(&mut dyn Contestant, &[Increment]) -> (Duration, u64),
+        mut timed: impl FnMut(usize, usize) -> (Duration, u64),
     ) -> Vec<u64> {
-        let mut answers = vec![0; contestants.len()];
-        for (at, stretch) in stretches.enumerate() {
-            for place in 0..contestants.len() {
-                let place = (place + at + turn) % contestants.len();
-                let (took, told) = timed(contestants[place].as_mut(), stretch);
+        let (contestants, stretches) = (self.0.len(), self.0[0].len());
+        let mut answers = vec![0; contestants];
+        for at in 0..stretches {
+            for place in 0..contestants {
+                let place = (place + at + turn) % contestants;
+                let (took, told) = timed(place, at);
                 let least = &mut self.0[place][at];
                 *least = took.min(*least);
                 answers[place] ^= told.rotate_left(at as u32);
@@ -129,8 +190,18 @@ fn time(
     (start.elapsed(), told)
 }
 
-fn must_agree(contestants: &[Box<dyn Contestant>], answers: &[u64]) {
-    let decided = contestants.iter().zip(answers).filter(|(contestant, _)| contestant.decides());
+/// In each clock an answer may have another wait, so that each field has its own.
+fn must_agree_by_field(entrants: &[Entrant], answers: &[u64]) {
+    let mut answers = answers;
+    for field in entrants.chunk_by(|one, next| one.field == next.field) {
+        let (own, others) = answers.split_at(field.len());
+        must_agree(field.iter().map(|entrant| &*entrant.contestant), own);
+        answers = others;
+    }
+}
+
+fn must_agree<'a>(contestants: impl Iterator<Item = &'a dyn Contestant>, answers: &[u64]) {
+    let decided = contestants.zip(answers).filter(|(contestant, _)| contestant.decides());
     let is_same = decided.map(|(_, answers)| answers).all(|other| *other == answers[0]);
     assert!(is_same, "the answers differ: {answers:?}");
 }

@@ -2,10 +2,10 @@
 
 use twin::gateway::{Shot, ShotAnswer, empty_table, make_table, shot};
 use twin::room::empty_room;
-use twin::rules::{Decision, Refusal, Settings};
+use twin::rules::{ClockMode, Decision, Refusal, Settings};
 
 use crate::contestants::{Contestant, allowed, answers, refused, suppressed};
-use crate::load::{Increment, Limiter, Load};
+use crate::load::{Clock, Increment, Limiter, Load};
 
 /// A held shot's answer as a number.
 fn held() -> u64 {
@@ -26,8 +26,12 @@ pub struct TwinShots {
 impl TwinShots {
     pub fn new(load: &Load) -> Self {
         let (table, room) = memory(load);
-        let crate::load::Settings { window, bucket, cache, factor } = load.settings;
-        TwinShots { table, room, settings: Settings { window, bucket, cache, factor } }
+        let crate::load::Settings { window, bucket, cache, factor, clock } = load.settings;
+        let clock = match clock {
+            Clock::Milliseconds => ClockMode::Milliseconds,
+            Clock::Nanoseconds => ClockMode::Nanoseconds,
+        };
+        TwinShots { table, room, settings: Settings { window, bucket, cache, factor, clock } }
     }
 
     fn answer(result: Result<ShotAnswer, Refusal>) -> u64 {
@@ -77,6 +81,7 @@ pub mod archive {
             bucket: u64,
             cache: u64,
             factor: f64,
+            clock: u64,
             table: *mut u64,
             table_words: usize,
             room: *mut u64,
@@ -126,8 +131,8 @@ pub mod archive {
         }
 
         fn run(&mut self, _limiter: Limiter, load: &Load, increments: &[Increment]) -> u64 {
-            let crate::load::Settings { window, bucket, cache, factor } = load.settings;
-            let mut row = [0; 5];
+            let crate::load::Settings { window, bucket, cache, factor, clock } = load.settings;
+            let (clock, mut row) = (clock as u64, [0; 5]);
             answers(load, increments, |given, key| {
                 let Increment { reading, draw, number, .. } = *given;
                 let code = unsafe {
@@ -136,6 +141,7 @@ pub mod archive {
                         bucket,
                         cache,
                         factor,
+                        clock,
                         self.table.as_mut_ptr(),
                         self.table.len(),
                         self.room.as_mut_ptr(),

@@ -22,6 +22,7 @@ static const uint64_t window = FROSTAXLE_DEFAULT_WINDOW; /* 10 s */
 static const uint64_t bucket = FROSTAXLE_DEFAULT_BUCKET; /* 100 ms */
 static const uint64_t cache = FROSTAXLE_DEFAULT_CACHE;   /* 100 ms */
 static const double factor = 2.0;                        /* the hard limit is twice the soft one */
+static const uint64_t ticks = FROSTAXLE_DEFAULT_CLOCK;   /* readings in milliseconds */
 
 static const uint8_t controller[] = {'c', 't', 'l', '7'};
 static const uint8_t numbering[] = {'c', 't', 'l', '8'}; /* a controller that numbers its shots */
@@ -29,8 +30,8 @@ static const uint8_t numbering[] = {'c', 't', 'l', '8'}; /* a controller that nu
 /* One shot at the absolute limiter, 1 a second. Gives how long to wait, 0 if it was admitted. */
 static uint64_t shot(uint64_t reading, uint64_t count) {
     uint64_t row[FROSTAXLE_ROW_WORDS];
-    uint64_t refusal = frostaxle_absolute_inc(window, bucket, cache, factor, absolute, WORDS, reading, controller,
-                                              sizeof controller, 1.0, count, row);
+    uint64_t refusal = frostaxle_absolute_inc(window, bucket, cache, factor, ticks, absolute, WORDS, reading,
+                                              controller, sizeof controller, 1.0, count, row);
     printf("%6" PRIu64 " ms  %2" PRIu64 " shots: ", reading, count);
     if (refusal != FROSTAXLE_OK) {
         printf("refusal %" PRIu64 "\n", refusal);
@@ -70,7 +71,7 @@ static void suppressed_limiter(void) {
 
     printf("suppressed limiter, 1 a second soft, 2 a second hard\n");
     for (i = 0; i < sizeof calls / sizeof calls[0]; i++) {
-        frostaxle_suppressed_inc(window, bucket, cache, factor, suppressed, WORDS, calls[i].reading, controller,
+        frostaxle_suppressed_inc(window, bucket, cache, factor, ticks, suppressed, WORDS, calls[i].reading, controller,
                                  sizeof controller, 1.0, calls[i].count, calls[i].draw, row);
         printf("%6" PRIu64 " ms  %2" PRIu64 " shots: ", calls[i].reading, calls[i].count);
         if (row[0] != FROSTAXLE_OK)
@@ -80,7 +81,7 @@ static void suppressed_limiter(void) {
         else
             printf("%s at factor %.3f\n", row[3] ? "yes" : "no", frostaxle_double(row[2]));
     }
-    if (frostaxle_suppressed_get(window, bucket, cache, factor, suppressed, WORDS, 11700, controller,
+    if (frostaxle_suppressed_get(window, bucket, cache, factor, ticks, suppressed, WORDS, 11700, controller,
                                  sizeof controller, row) == FROSTAXLE_OK)
         printf(" 11700 ms  total %" PRIu64 ", declined %" PRIu64 ", factor %.3f\n", row[2], row[3],
                frostaxle_double(row[4]));
@@ -89,8 +90,9 @@ static void suppressed_limiter(void) {
 /* A shot by its number, one in 10 s soft and two hard. `heard` is 0 where the answer is lost on its way back. */
 static void numbered_shot(uint64_t reading, uint64_t number, int heard) {
     uint64_t row[FROSTAXLE_ROW_WORDS];
-    uint64_t refusal = frostaxle_gateway_shot(window, bucket, cache, factor, table, FROSTAXLE_TABLE_WORDS, suppressed,
-                                              WORDS, reading, numbering, sizeof numbering, number, 0.1, 0, row);
+    uint64_t refusal = frostaxle_gateway_shot(window, bucket, cache, factor, ticks, table, FROSTAXLE_TABLE_WORDS,
+                                              suppressed, WORDS, reading, numbering, sizeof numbering, number, 0.1, 0,
+                                              row);
     printf("%6" PRIu64 " ms  shot %" PRIu64 ": ", reading, number);
     if (refusal != FROSTAXLE_OK)
         printf("refusal %" PRIu64, refusal);
@@ -127,8 +129,8 @@ int main(void) {
     suppressed_limiter();
     numbered_shots();
     /* now and then: what nobody used for a minute goes */
-    if (frostaxle_provider_cleanup(window, bucket, cache, factor, absolute, WORDS, suppressed, WORDS, 100000, 60000,
-                                   row) != FROSTAXLE_OK)
+    if (frostaxle_provider_cleanup(window, bucket, cache, factor, ticks, absolute, WORDS, suppressed, WORDS, 100000,
+                                   60000, row) != FROSTAXLE_OK)
         return 1;
     printf("cleaned up\n");
     /* no cleanup touches the table; a new season empties it */

@@ -1,7 +1,7 @@
 //! Every history of up to three calls over a small alphabet, or a part of them.
 
 use twin::calls::{Call, Op};
-use twin::rules::{Comparator, Kind, Mode, Settings};
+use twin::rules::{ClockMode, Comparator, Kind, Mode, Settings};
 use twin::set::Wanted;
 
 use crate::compare::{Comparison, History};
@@ -108,19 +108,61 @@ fn words(
     }
 }
 
-/// Settings with a rate that makes limits of 0 to 4, and how far a reading may rise: to or over an edge.
-const CASES: [(Settings, f64, [u64; 3]); 4] = [
-    (Settings { window: 1, bucket: 100, cache: 100, factor: 1.0 }, 2.0, [0, 100, 1001]),
-    (Settings { window: 1, bucket: 100, cache: 101, factor: 2.0 }, 2.0, [0, 101, 1000]),
-    (Settings { window: 1, bucket: 1000, cache: 101, factor: 4.0 }, 0.5, [0, 101, 1001]),
-    (Settings { window: 1, bucket: 2000, cache: 1002, factor: 1.5 }, 1.4, [0, 1000, 1001]),
+/// Settings with a window of 1 s, a rate that makes limits of 0 to 4, and how far a reading may rise, in ticks: to or over an edge.
+#[derive(Clone, Copy)]
+struct Case {
+    bucket: u64,
+    cache: u64,
+    factor: f64,
+    rate: f64,
+    rises: [u64; 3],
+}
+
+const IN_MILLISECONDS: [Case; 4] = [
+    Case { bucket: 100, cache: 100, factor: 1.0, rate: 2.0, rises: [0, 100, 1001] },
+    Case { bucket: 100, cache: 101, factor: 2.0, rate: 2.0, rises: [0, 101, 1000] },
+    Case { bucket: 1000, cache: 101, factor: 4.0, rate: 0.5, rises: [0, 101, 1001] },
+    Case { bucket: 2000, cache: 1002, factor: 1.5, rate: 1.4, rises: [0, 1000, 1001] },
+];
+
+/// Edges that are missed by a tick, by all but a tick of a millisecond, or not at all.
+const IN_NANOSECONDS: [Case; 5] = [
+    Case {
+        bucket: 100,
+        cache: 100,
+        factor: 1.0,
+        rate: 2.0,
+        rises: [0, 100_999_999, 1_000_000_001],
+    },
+    Case {
+        bucket: 100,
+        cache: 102,
+        factor: 2.0,
+        rate: 2.0,
+        rises: [0, 101_999_999, 1_000_400_000],
+    },
+    Case {
+        bucket: 1000,
+        cache: 101,
+        factor: 4.0,
+        rate: 0.5,
+        rises: [0, 101_000_000, 1_000_999_999],
+    },
+    Case { bucket: 2000, cache: 1001, factor: 1.5, rate: 1.4, rises: [0, 999_999, 1_000_000_001] },
+    Case { bucket: 999, cache: 1, factor: 2.0, rate: 1.5, rises: [0, 1, 1_000_000_000] },
 ];
 
 /// The short histories; where some are left out, the seed says which.
 pub fn run(comparison: &mut Comparison, seed: u64) {
     let keys = [Key::new(b"a"), Key::new(b"b")];
     let mut next = seed % comparison.short;
-    for (settings, rate, rises) in CASES {
+    let clock = comparison.clock;
+    let cases: &[Case] = match clock {
+        ClockMode::Milliseconds => &IN_MILLISECONDS,
+        ClockMode::Nanoseconds => &IN_NANOSECONDS,
+    };
+    for Case { bucket, cache, factor, rate, rises } in cases.iter().copied() {
+        let settings = Settings { window: 1, bucket, cache, factor, clock };
         for ops in [absolute_ops(rate), suppressed_ops(rate)] {
             words(comparison, settings, &letters(&ops, &rises, &keys), &keys, &mut next);
         }

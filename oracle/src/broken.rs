@@ -2,7 +2,7 @@
 
 use twin::calls::{Call, Op, Rooms};
 use twin::room::{is_room, words_of};
-use twin::rules::{Comparator, Kind, Mode, Settings};
+use twin::rules::{ClockMode, Comparator, Kind, Mode, Settings};
 use twin::set::Wanted;
 
 use crate::compare::Comparison;
@@ -102,7 +102,10 @@ impl Scene<'_> {
         match dice.below(24) {
             0 => self.last.saturating_sub(1),
             1 => dice.pick(&[0, u64::MAX]),
-            _ => self.last.saturating_add(dice.pick(&rises)),
+            _ => {
+                let rise = dice.pick(&rises);
+                self.last.saturating_add(dice.ticks(self.settings.clock, rise))
+            }
         }
     }
 
@@ -409,13 +412,13 @@ fn around(
     }
 }
 
-/// So many damaged rooms, and every set of refusals together; one line.
-pub fn run(rooms: u64, seed: u64) -> Trials {
+/// So many damaged rooms in a clock mode, and every set of refusals together; one line.
+pub fn run(clock: ClockMode, rooms: u64, seed: u64) -> Trials {
     let mut trials = Trials::new(others());
     let mut dice = Dice::new(seed);
     let keys = key_pool();
-    let mut histories = Comparison::new(Others::new());
-    let settings = Settings::default();
+    let mut histories = Comparison::new(clock, Others::new());
+    let settings = Settings { clock, ..Settings::default() };
     for kind in [Kind::Absolute, Kind::Suppressed] {
         let beside = twin::room::empty_room(2, 2);
         let dice = &mut dice;
@@ -427,7 +430,7 @@ pub fn run(rooms: u64, seed: u64) -> Trials {
             around(&mut trials, &mut dice, settings, &rooms, &keys, &mut falls);
         }
     }
-    together::run(&mut trials, &mut dice);
+    together::run(&mut trials, &mut dice, clock);
     #[cfg(archive)]
     trials.count_faces(crate::faces::run());
     trials.differed += histories.differed;

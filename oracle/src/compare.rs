@@ -5,13 +5,14 @@ use std::fmt;
 
 use twin::calls::{Answer, Call, Limiters, Op, Rooms, Row, Twin};
 use twin::room::{Bucket, last_reading};
-use twin::rules::{Kind, Settings};
+use twin::rules::{ClockMode, Kind, Settings};
 
-use crate::expected::{Expected, UNUSED, expected, kind};
+use crate::expected::{At, Expected, UNUSED, expected, kind};
 use crate::original::Original;
 use crate::rate_zero;
 use crate::sample;
-use crate::state::{self, Key, LiveAt};
+use crate::state::{self, Key};
+use crate::taken_out;
 use crate::words;
 
 /// What a row holds where no bucket is put.
@@ -22,6 +23,8 @@ const SHOWN: u64 = 3;
 
 /// The counts, and the implementations over rooms besides the twin.
 pub struct Comparison {
+    /// The clock mode of its histories.
+    pub clock: ClockMode,
     pub others: Vec<Box<dyn Limiters>>,
     pub histories: u64,
     /// Calls put to the original and compared.
@@ -30,11 +33,13 @@ pub struct Comparison {
     pub with_others: u64,
     /// Refused calls: number and unchanged rooms judged.
     pub refused: u64,
+    /// Of the calls compared: the key has a bucket that is expired to the tick and does not look so at a first look.
+    pub between_looks: u64,
     /// Histories whose comparison with the original ended before their last call, by the reason.
     pub taken_out: u64,
     pub at_rate_zero: u64,
     pub differed: u64,
-    /// The random history under way: `judge history SEED` runs it alone.
+    /// The random history under way: `judge history SEED`, with its clock mode, runs it alone.
     pub seed: Option<u64>,
     /// The sample's lines, if they are kept.
     pub record: Option<String>,
@@ -54,12 +59,28 @@ impl fmt::Display for Comparison {
             1 => " (all short ones)".to_string(),
             some => format!(" (of the short ones 1 in {some} ONLY)"),
         };
+        let ended = match self.clock {
+            ClockMode::Milliseconds => "ended early by 01",
+            ClockMode::Nanoseconds => "left the original at an eviction for 10 or 12",
+        };
+        write!(f, "{histories} histories{short}, {calls} calls compared with the original")?;
+        if self.clock == ClockMode::Nanoseconds {
+            write!(f, " ({} of them between the two looks)", self.between_looks)?;
+        }
         write!(
             f,
-            "{histories} histories{short}, {calls} calls compared with the original, {refused} refusals judged, \
-             {taken_out} ended early by 01, {at_rate_zero} left the original at perceived rate zero; {}; {differed} differed",
+            ", {refused} refusals judged, {taken_out} {ended}, \
+             {at_rate_zero} left the original at perceived rate zero; {}; {differed} differed",
             who(&self.others, self.with_others)
         )
+    }
+}
+
+/// What a command has for the clock mode behind its other words.
+pub fn clock_word(clock: ClockMode) -> &'static str {
+    match clock {
+        ClockMode::Milliseconds => "",
+        ClockMode::Nanoseconds => " nanoseconds",
     }
 }
 
@@ -75,7 +96,8 @@ pub fn who(others: &[Box<dyn Limiters>], with: u64) -> String {
 /// Why the comparison of a history with the original ends.
 #[derive(Clone, Copy, PartialEq, Eq)]
 enum End {
-    /// Expired buckets were taken out to avoid 10 or 12, and what follows hangs on them. The history ends.
+    /// Expired buckets were taken out to avoid 10 or 12, and what follows hangs on them. In milliseconds the history ends; in nanoseconds,
+    /// where it does so at once, the others go on.
     TakenOut,
     /// A factor is worked out at perceived rate zero, where the original has a NaN. The others go on.
     RateZero,
@@ -98,7 +120,7 @@ pub struct History<'a> {
     pub keys: &'a [Key],
     pub rooms: Rooms,
     original: Original,
-    /// After a factor at perceived rate zero: the original is asked no more.
+    /// After a factor at perceived rate zero, or in nanoseconds an eviction for 10 or 12: the original is asked no more.
     is_past_original: bool,
     /// From an absolute increment that took expired buckets out: they are left out of both states.
     leaves_expired_out: bool,
@@ -142,16 +164,42 @@ impl<'a> History<'a> {
         history
     }
 
+    /// Puts a call to the twin; rooms and row as they were stand beside.
+    fn put(&mut self, settings: &Settings, reading: u64, call: Call<'a>) -> Answer {
+        self.row.resize(self.row_lengths[self.given.len() % 2], UNTOUCHED);
+        let History { rooms, before, row, row_before, .. } = self;
+        before.clone_from(rooms);
+        row_before.clone_from(row);
+        let answer = Twin.call(settings, rooms, reading, call, row);
+        self.given.push(Given { settings: *settings, reading, call, answer });
+        answer
+    }
+
+    /// Whether an eviction for 10 or 12, made now or before, ends the comparison here; else it is noted.
+    fn ends(&mut self, wanted: Expected, call: Call) -> bool {
+        let is_absolute_cleanup =
+            matches!(call.op, Op::CleanupBoth { .. } | Op::Cleanup { kind: Kind::Absolute, .. });
+        if self.leaves_expired_out && is_absolute_cleanup {
+            return true;
+        }
+        let Settings { window, bucket, clock, .. } = self.settings;
+        let ends_at_once = clock == ClockMode::Nanoseconds || bucket > 1000 * window;
+        if wanted.takes_out && !ends_at_once {
+            self.leaves_expired_out = true;
+        }
+        wanted.takes_out && ends_at_once
+    }
+
     /// The answer to the last call given.
     pub fn last_answer(&self) -> Answer {
         self.given.last().expect("a call").answer
     }
 
     /// The absolute room's own last reading tells what is expired there.
-    fn live(&self, kind: Kind) -> Option<LiveAt<'_>> {
+    fn live(&self, kind: Kind) -> Option<At<'_>> {
         let masks = self.leaves_expired_out && kind == Kind::Absolute;
         let reading = last_reading(&self.rooms.absolute);
-        masks.then_some(LiveAt { settings: &self.settings, reading })
+        masks.then_some(At { settings: &self.settings, reading })
     }
 
     fn agrees(&mut self, kind: Kind) -> bool {
@@ -166,13 +214,15 @@ impl<'a> History<'a> {
 }
 
 impl Comparison {
-    pub fn new(others: Vec<Box<dyn Limiters>>) -> Self {
+    pub fn new(clock: ClockMode, others: Vec<Box<dyn Limiters>>) -> Self {
         Comparison {
+            clock,
             others,
             histories: 0,
             calls: 0,
             with_others: 0,
             refused: 0,
+            between_looks: 0,
             taken_out: 0,
             at_rate_zero: 0,
             differed: 0,
@@ -198,8 +248,12 @@ impl Comparison {
 
     /// Tells how often each kind of call had each kind of answer.
     pub fn show_tally(&self) {
+        let clock = match self.clock {
+            ClockMode::Milliseconds => "",
+            ClockMode::Nanoseconds => ", in nanoseconds",
+        };
         for (name, times) in self.tally.iter().flatten() {
-            println!("{times:>10} {name}");
+            println!("{times:>10} {name}{clock}");
         }
     }
 
@@ -225,6 +279,7 @@ impl Comparison {
         let added = match wanted {
             Expected { takes_out: true, .. } => ", expired taken out first",
             Expected { at_rate_zero: true, .. } => ", at perceived rate zero",
+            Expected { between_looks: true, .. } => ", between the two looks",
             _ => "",
         };
         *tally.entry(format!("{:?} {call}: {told}{added}", kind(op))).or_default() += 1;
@@ -265,13 +320,8 @@ impl Comparison {
         if self.record.is_some() && wanted.at_rate_zero {
             return true;
         }
-        history.row.resize(history.row_lengths[history.given.len() % 2], UNTOUCHED);
-        let History { rooms, before, row, row_before, .. } = history;
-        before.clone_from(rooms);
-        row_before.clone_from(row);
-        let answer = Twin.call(settings, rooms, reading, call, row);
+        let answer = history.put(settings, reading, call);
         self.count_kind(&call.op, &answer, wanted);
-        history.given.push(Given { settings: *settings, reading, call, answer });
         let verdict = self
             .judge_others(history, settings, reading, call, answer)
             .and_then(|()| self.judge_refusal(history, wanted, answer))
@@ -279,16 +329,24 @@ impl Comparison {
                 true => Ok(None),
                 false => self.judge(history, wanted, reading, call, answer, with_original),
             });
+        self.conclude(history, verdict)
+    }
+
+    /// Counts what a call has come to; false where the history ends.
+    fn conclude(
+        &mut self,
+        history: &mut History,
+        verdict: Result<Option<End>, Difference>,
+    ) -> bool {
         match verdict {
             Ok(None) => true,
-            Ok(Some(End::TakenOut)) => {
-                self.taken_out += 1;
-                false
-            }
-            Ok(Some(End::RateZero)) => {
-                self.at_rate_zero += 1;
+            Ok(Some(end)) => {
+                match end {
+                    End::TakenOut => self.taken_out += 1,
+                    End::RateZero => self.at_rate_zero += 1,
+                }
                 history.is_past_original = true;
-                true
+                end == End::RateZero || self.clock == ClockMode::Nanoseconds
             }
             Err(difference) => {
                 self.differed += 1;
@@ -353,9 +411,7 @@ impl Comparison {
         answer: Answer,
         with_original: bool,
     ) -> Result<Option<End>, Difference> {
-        if wanted.at_rate_zero {
-            judge_at_rate_zero(history, reading, call, answer)?;
-        }
+        judge_by_second_reading(history, wanted, reading, call, answer)?;
         if !with_original {
             return Ok(None);
         }
@@ -371,29 +427,24 @@ impl Comparison {
         if wanted.at_rate_zero {
             return has_nan(history, reading, call).map(|()| Some(End::RateZero));
         }
-        let is_absolute_cleanup =
-            matches!(call.op, Op::CleanupBoth { .. } | Op::Cleanup { kind: Kind::Absolute, .. });
-        if history.leaves_expired_out && is_absolute_cleanup {
+        if history.ends(wanted, call) {
             return Ok(Some(End::TakenOut));
-        }
-        if wanted.takes_out {
-            if history.settings.bucket > 1000 * history.settings.window {
-                return Ok(Some(End::TakenOut));
-            }
-            history.leaves_expired_out = true;
         }
         self.calls += 1;
+        self.between_looks += u64::from(wanted.between_looks);
         judge_by_original(history, reading, call, answer)?;
-        let Some(record) = &mut self.record else {
-            return Ok(None);
-        };
-        // The sample holds no call whose states differ in expired buckets.
+        Ok(self.keep(history, reading, call, answer))
+    }
+
+    /// The sample, where it is kept, gets a line more. It holds no call whose states differ in expired buckets.
+    fn keep(&mut self, history: &History, reading: u64, call: Call, answer: Answer) -> Option<End> {
+        let record = self.record.as_mut()?;
         if history.leaves_expired_out {
-            return Ok(Some(End::TakenOut));
+            return Some(End::TakenOut);
         }
         let kind = kind(&call.op);
         record.push_str(&sample::call_line(&history.original, kind, reading, call, answer));
-        Ok(None)
+        None
     }
 }
 
@@ -408,17 +459,39 @@ pub fn first_other_word(twin: &Rooms, other: &Rooms) -> String {
     "all words are right".to_string()
 }
 
-/// Ticket 2's answer, and what the key holds after it.
-fn judge_at_rate_zero(
+/// Ticket 2's answer, or that after an eviction for 10 or 12, and what the key holds after it.
+fn judge_by_second_reading(
     history: &History,
+    wanted: Expected,
     reading: u64,
     call: Call,
     answer: Answer,
 ) -> Result<(), Difference> {
     let History { settings, before, rooms, .. } = history;
-    match rate_zero::fault(settings, before, rooms, reading, call, answer) {
+    match second_fault(wanted, settings, before, rooms, reading, call, answer) {
         None => Ok(()),
         Some(fault) => Err(Difference(fault)),
+    }
+}
+
+/// What is wrong with a call that the original answers otherwise or not at all, by a second reading of the rules.
+pub fn second_fault(
+    wanted: Expected,
+    settings: &Settings,
+    before: &Rooms,
+    after: &Rooms,
+    reading: u64,
+    call: Call,
+    answer: Answer,
+) -> Option<String> {
+    match wanted {
+        Expected { at_rate_zero: true, .. } => {
+            rate_zero::fault(settings, before, after, reading, call, answer)
+        }
+        Expected { takes_out: true, .. } => {
+            taken_out::fault(settings, before, after, reading, call, answer)
+        }
+        _ => None,
     }
 }
 
@@ -462,7 +535,7 @@ fn show(history: &History, seed: Option<u64>, difference: &Difference) {
     eprintln!("differs: {}", difference.0);
     eprintln!("  {:?}, slots {slots}, ring {ring}", history.settings);
     if let Some(seed) = seed {
-        eprintln!("  run it alone: judge history {seed}");
+        eprintln!("  run it alone: judge history {seed}{}", clock_word(history.settings.clock));
     }
     for given in &history.given {
         let Given { settings, reading, call, answer } = given;

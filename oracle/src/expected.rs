@@ -1,9 +1,9 @@
-//! Which refusal a call must meet, and where a factor is worked out at perceived rate zero, read from document 01 and ticket 2 on lists of
-//! buckets.
+//! Which refusal a call must meet, and where a factor is worked out at perceived rate zero, read from document 01 and tickets 2 and 8 on
+//! lists of buckets.
 
 use twin::calls::{Call, Op, Rooms};
 use twin::room::{Bucket, find, last_reading, slot, slots};
-use twin::rules::{Kind, Settings};
+use twin::rules::{ClockMode, Kind, Settings};
 
 use crate::original::Series;
 use crate::state::of_key;
@@ -22,17 +22,86 @@ pub struct Expected {
     pub takes_out: bool,
     /// A factor is worked out at perceived rate zero.
     pub at_rate_zero: bool,
+    /// The key has a bucket that is expired to the tick and does not look so at a first look.
+    pub between_looks: bool,
 }
 
 fn refused(refusal: u64) -> Expected {
     Expected { refusal, ..Expected::default() }
 }
 
+/// How many ticks a millisecond has.
+pub fn ticks(clock: ClockMode) -> u64 {
+    if clock == ClockMode::Nanoseconds { 1_000_000 } else { 1 }
+}
+
+/// A reading, and how ages are compared at it.
+#[derive(Clone, Copy)]
+pub struct At<'a> {
+    pub settings: &'a Settings,
+    pub reading: u64,
+}
+
+impl At<'_> {
+    /// An age in whole milliseconds, and the ticks beyond.
+    fn age(&self, time: u64) -> (u64, u64) {
+        let (age, ticks) = (self.reading - time, ticks(self.settings.clock));
+        (age / ticks, age % ticks)
+    }
+
+    /// Not expired, to the tick.
+    pub fn is_live(&self, bucket: &Bucket) -> bool {
+        self.age(bucket.time) <= (1000 * self.settings.window, 0)
+    }
+
+    /// Not expired at a first look, to which the ticks beyond are nothing.
+    fn looks_live(&self, bucket: &Bucket) -> bool {
+        self.age(bucket.time).0 <= 1000 * self.settings.window
+    }
+
+    pub fn live(&self, buckets: &[Bucket]) -> Vec<Bucket> {
+        buckets.iter().filter(|bucket| self.is_live(bucket)).copied().collect()
+    }
+
+    /// What is left where an eviction hangs on a first look at the oldest.
+    pub fn looked(&self, buckets: &[Bucket]) -> Vec<Bucket> {
+        let evicts = buckets.first().is_some_and(|oldest| !self.looks_live(oldest));
+        if evicts { self.live(buckets) } else { buckets.to_vec() }
+    }
+
+    /// What a suppressed call leaves that works a factor out. `get` alone takes no first look.
+    pub fn left(&self, op: &Op, buckets: &[Bucket]) -> Vec<Bucket> {
+        match op {
+            Op::SuppressedGet => self.live(buckets),
+            _ => self.looked(buckets),
+        }
+    }
+
+    fn joins(&self, newest: &Bucket) -> bool {
+        self.age(newest.time).0 <= self.settings.bucket
+    }
+
+    fn uses_cached(&self, time: u64) -> bool {
+        self.age(time).0 < self.settings.cache
+    }
+
+    /// A series of these buckets, once a count that is admitted has come to them.
+    pub fn counted(&self, limit: u64, mut buckets: Vec<Bucket>, count: Option<u64>) -> Series {
+        if let Some(count) = count {
+            match buckets.last_mut() {
+                Some(newest) if self.joins(newest) => newest.count += count,
+                _ => buckets.push(Bucket { count, declined: 0, time: self.reading }),
+            }
+        }
+        let declined = buckets.iter().map(|bucket| bucket.declined).sum();
+        Series { limit, total: sum(&buckets), declined, buckets }
+    }
+}
+
 /// The call and what it meets.
 struct Met<'a> {
-    settings: &'a Settings,
+    at: At<'a>,
     room: &'a [u64],
-    reading: u64,
     key: &'a [u8],
     series: Option<Series>,
     cached: Option<(u64, u64)>,
@@ -43,22 +112,13 @@ fn sum(buckets: &[Bucket]) -> u64 {
 }
 
 impl Met<'_> {
-    fn age(&self, time: u64) -> u64 {
-        self.reading - time
-    }
-
-    fn live(&self, buckets: &[Bucket]) -> Vec<Bucket> {
-        let window = 1000 * self.settings.window;
-        buckets.iter().filter(|bucket| self.age(bucket.time) <= window).copied().collect()
-    }
-
     /// 10 or 12 for a count that goes to these buckets, or 0.
     fn full(&self, buckets: &[Bucket], count: u64) -> u64 {
         let ring = self.room[1] as usize;
         if u128::from(sum(buckets)) + u128::from(count) > u128::from(TOP) {
             return 10;
         }
-        let joins = buckets.last().is_some_and(|b| self.age(b.time) <= self.settings.bucket);
+        let joins = buckets.last().is_some_and(|newest| self.at.joins(newest));
         if !joins && buckets.len() == ring { 12 } else { 0 }
     }
 
@@ -77,52 +137,86 @@ impl Met<'_> {
             return refused(self.new_series(count));
         };
         let limit = f64::from_bits(series.limit) as u64;
-        let live = self.live(&series.buckets);
+        let looked = self.at.looked(&series.buckets);
         let is_below = sum(&series.buckets) < limit;
-        if !is_below && sum(&live) >= limit {
+        if !is_below && sum(&looked) >= limit {
             return Expected::default();
         }
-        let held = if is_below { &series.buckets } else { &live };
+        let held = if is_below { &series.buckets } else { &looked };
         let takes_out = self.full(held, count) != 0;
+        let live = self.at.live(&series.buckets);
         let refusal = if takes_out { self.full(&live, count) } else { 0 };
         Expected { takes_out: takes_out && refusal == 0, ..refused(refusal) }
     }
 
     /// Whether a factor that is asked for is worked out, and at perceived rate zero: exactly at S = 0, H at least 1, some bucket, total 0.
-    fn is_at_rate_zero(&self) -> bool {
+    fn is_at_rate_zero(&self, op: &Op) -> bool {
         let Some(series) = &self.series else {
             return false;
         };
-        let live = self.live(&series.buckets);
+        let left = self.at.left(op, &series.buckets);
         let hard = f64::from_bits(series.limit);
-        let evicts = live.len() < series.buckets.len();
-        let uses_cached =
-            !evicts && self.cached.is_some_and(|(_, time)| self.age(time) < self.settings.cache);
-        let soft = (hard / self.settings.factor) as u64;
-        let is_zero = soft == 0 && hard as u64 >= 1 && !live.is_empty() && sum(&live) == 0;
+        let evicts = left.len() < series.buckets.len();
+        let uses_cached = !evicts && self.cached.is_some_and(|(_, time)| self.at.uses_cached(time));
+        let soft = (hard / self.at.settings.factor) as u64;
+        let is_zero = soft == 0 && hard as u64 >= 1 && !left.is_empty() && sum(&left) == 0;
         is_zero && !uses_cached
     }
 
-    fn suppressed_inc(&self, count: u64) -> Expected {
+    fn is_between_looks(&self) -> bool {
+        let buckets = self.series.iter().flat_map(|series| &series.buckets);
+        buckets.into_iter().any(|bucket| self.at.looks_live(bucket) && !self.at.is_live(bucket))
+    }
+
+    fn suppressed_inc(&self, op: &Op, count: u64) -> Expected {
         let Some(series) = &self.series else {
             return refused(self.new_series(count));
         };
-        let live = self.live(&series.buckets);
-        let full = self.full(&live, count);
+        let left = self.at.left(op, &series.buckets);
+        let full = self.full(&left, count);
         if full != 0 {
             return refused(full);
         }
         let hard = f64::from_bits(series.limit);
-        let declined: u64 = live.iter().map(|bucket| bucket.declined).sum();
-        let forecast = sum(&live) - declined + count;
-        let asks = forecast > (hard / self.settings.factor) as u64 && forecast < hard as u64;
-        Expected { at_rate_zero: asks && self.is_at_rate_zero(), ..Expected::default() }
+        let declined: u64 = left.iter().map(|bucket| bucket.declined).sum();
+        let forecast = sum(&left) - declined + count;
+        let asks = forecast > (hard / self.at.settings.factor) as u64 && forecast < hard as u64;
+        Expected { at_rate_zero: asks && self.is_at_rate_zero(op), ..Expected::default() }
+    }
+
+    /// What a call meets that meets none of 1 to 8.
+    fn late(&self, op: &Op) -> Expected {
+        match *op {
+            Op::AbsoluteInc { count, .. } => self.absolute_inc(count),
+            Op::SuppressedInc { draw, .. } if draw >= TOP => refused(9),
+            Op::SuppressedInc { count, .. } => self.suppressed_inc(op, count),
+            Op::SuppressedGet => {
+                Expected { at_rate_zero: self.is_at_rate_zero(op), ..Expected::default() }
+            }
+            // A key that needs a slot has no bucket.
+            Op::GetSuppressionFactor => {
+                Expected { at_rate_zero: self.is_at_rate_zero(op), ..refused(self.no_slot()) }
+            }
+            Op::Set { wanted, .. } => {
+                let is_new =
+                    self.series.is_none() && wanted.comparator.matches(0) && wanted.count > 0;
+                refused(match wanted.count {
+                    count if count > TOP => 10,
+                    _ if is_new => self.no_slot(),
+                    _ => 0,
+                })
+            }
+            // The lowest number goes first, and a set's count is judged before its comparator. Whether a slot is needed (11) hangs on it.
+            Op::NamelessSet { count, .. } => refused(if count > TOP { 10 } else { 14 }),
+            _ => Expected::default(),
+        }
     }
 }
 
 /// The first of 1 to 4, or 0.
 pub fn settings_fault(settings: &Settings) -> u64 {
-    let Settings { window, bucket, cache, factor } = *settings;
+    // Any clock mode is in range.
+    let Settings { window, bucket, cache, factor, clock: _ } = *settings;
     match () {
         _ if window == 0 || window > 1 << 25 => 1,
         _ if bucket == 0 || bucket > 1 << 32 => 2,
@@ -292,28 +386,7 @@ pub fn expected(settings: &Settings, rooms: &Rooms, reading: u64, call: Call) ->
     }
     let room = rooms.of(kind(&call.op));
     let (series, cached) = of_key(room, call.key);
-    let met = Met { settings, room, reading, key: call.key, series, cached };
-    match call.op {
-        Op::AbsoluteInc { count, .. } => met.absolute_inc(count),
-        Op::SuppressedInc { draw, .. } if draw >= TOP => refused(9),
-        Op::SuppressedInc { count, .. } => met.suppressed_inc(count),
-        Op::SuppressedGet => {
-            Expected { at_rate_zero: met.is_at_rate_zero(), ..Expected::default() }
-        }
-        // A key that needs a slot has no bucket.
-        Op::GetSuppressionFactor => {
-            Expected { at_rate_zero: met.is_at_rate_zero(), ..refused(met.no_slot()) }
-        }
-        Op::Set { wanted, .. } => {
-            let is_new = met.series.is_none() && wanted.comparator.matches(0) && wanted.count > 0;
-            refused(match wanted.count {
-                count if count > TOP => 10,
-                _ if is_new => met.no_slot(),
-                _ => 0,
-            })
-        }
-        // The lowest number goes first, and a set's count is judged before its comparator. Whether a slot is needed (11) hangs on it.
-        Op::NamelessSet { count, .. } => refused(if count > TOP { 10 } else { 14 }),
-        _ => Expected::default(),
-    }
+    let met = Met { at: At { settings, reading }, room, key: call.key, series, cached };
+    let is_read_out = matches!(call.op, Op::ReadOut { .. });
+    Expected { between_looks: !is_read_out && met.is_between_looks(), ..met.late(&call.op) }
 }

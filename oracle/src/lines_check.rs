@@ -49,6 +49,7 @@ fn settings(line: &str) -> Option<Settings> {
         bucket: number(bucket)?,
         factor: at_most_top(factor)?,
         cache: number(cache)?,
+        ..Settings::default()
     })
 }
 

@@ -43,7 +43,7 @@ fn times(dice: &mut Dice, settings: &Settings, last: u64, many: usize) -> Vec<u6
                 1 => dice.below(window + 2),
                 _ => dice.below(2 * window),
             };
-            last.saturating_sub(age)
+            last.saturating_sub(dice.ticks(settings.clock, age))
         })
         .collect();
     times.sort_unstable();
@@ -109,6 +109,15 @@ fn fill_series(
     body[..5].copy_from_slice(&[limit.to_bits(), total, declined_total, head as u64, many as u64]);
 }
 
+/// A cached factor, at an age beside the cache period or young.
+fn fill_factor(dice: &mut Dice, settings: &Settings, body: &mut [u64], last: u64) {
+    let below_one = 1.0 - f64::EPSILON / 2.0;
+    let factor = dice.pick(&[0.0, 1.0, 0.5, 0.25, 5e-324, 1e-16, below_one, 1.0 / 3.0]);
+    let age = dice.pick(&[0, settings.cache - 1, settings.cache, 1]);
+    body[5] = factor.to_bits();
+    body[6] = last.saturating_sub(dice.ticks(settings.clock, age));
+}
+
 /// A key as an entry has it: its length, then its bytes in four words.
 pub fn packed(key: &[u8]) -> [u64; 5] {
     let mut bytes = [0u8; 32];
@@ -146,19 +155,7 @@ fn sound_room(
             fill_series(dice, kind, settings, body, places.ring, last);
         }
         if uses & 2 != 0 {
-            let factor = dice.pick(&[
-                0.0,
-                1.0,
-                0.5,
-                0.25,
-                5e-324,
-                1e-16,
-                1.0 - f64::EPSILON / 2.0,
-                1.0 / 3.0,
-            ]);
-            let edges = [0, settings.cache - 1, settings.cache, 1];
-            body[5] = factor.to_bits();
-            body[6] = last.saturating_sub(dice.pick(&edges));
+            fill_factor(dice, settings, body, last);
         }
         // A free slot's key may be in play elsewhere.
         if uses == 0 {

@@ -4,6 +4,7 @@
 use twin::room::{Bucket, words_of};
 use twin::rules::{Kind, Settings};
 
+use crate::expected::ticks;
 use crate::loaded::limit;
 use crate::random::Dice;
 
@@ -58,8 +59,10 @@ fn shares(dice: &mut Dice, many: usize) -> Vec<u64> {
 impl Long {
     /// Buckets in order, over a part of the window or more than it; the totals are their sums.
     fn sound(dice: &mut Dice, kind: Kind, settings: &Settings, ring: usize, held: usize) -> Self {
-        let window = 1000 * settings.window;
+        let (window, n) = (1000 * settings.window, ticks(settings.clock));
         let widest = dice.pick(&[0, 1, settings.bucket + 1, 2 * window / held as u64, window]);
+        // All gaps together leave room for the damage.
+        let widest = (widest * n).min((1 << 62) / held as u64);
         let most = dice.pick(&[1, 2, 20]);
         let declines = kind == Kind::Suppressed && dice.once_in(2);
         let mut time = dice.pick(&[1, 1000, 1 << 40]);
@@ -70,7 +73,8 @@ impl Long {
             let declined = if declines { dice.below(count + 1) } else { 0 };
             buckets.push(Bucket { count, declined, time });
         }
-        let last = time + dice.pick(&[0, 0, 1, settings.bucket, window]);
+        let later = dice.pick(&[0, 0, 1, settings.bucket, window]);
+        let last = time + dice.ticks(settings.clock, later);
         let mut long = Long { ring, head: 0, buckets, total: 0, declined: 0, last };
         long.sum_up();
         long
@@ -288,7 +292,8 @@ impl Long {
             body[0] = limit(dice, kind, settings, self.total).to_bits();
             body[1..5].fill(0);
             body[5] = dice.pick(&[0.0, 0.5, 1.0f64]).to_bits();
-            body[6] = self.last.saturating_sub(dice.pick(&[0, settings.cache]));
+            let age = dice.pick(&[0, settings.cache]);
+            body[6] = self.last.saturating_sub(dice.ticks(settings.clock, age));
             if slot == own {
                 self.fill(body);
             }

@@ -52,17 +52,20 @@ mod shots_expected;
 mod shots_together;
 mod state;
 mod tables;
+mod taken_out;
 mod together;
 mod trial;
 mod units_check;
 mod words;
 
+use std::fmt::Display;
 use std::io::Write;
 
 use compare::Comparison;
 use input_lines::Program;
 use shots::Shots;
 use twin::calls::Limiters;
+use twin::rules::ClockMode;
 
 /// What the arguments ask for.
 fn main() {
@@ -76,47 +79,43 @@ fn main() {
             let input = input_lines::input(program, number(lines), number(seed));
             std::io::stdout().write_all(&input).expect("standard output");
         }
-        ["season", seed] => {
-            let mut shots = Shots::new();
+        ["season", seed, ref mode @ ..] => {
+            let mut shots = Shots::new(clock(mode));
             seasons::played(&mut shots, number(seed));
             println!("{shots}");
         }
         ["shots", calls, seed, ref wishes @ ..] if wishes.iter().all(|wish| *wish == "first") => {
-            let mut shots = Shots::new();
-            shots.most_differing = if wishes.is_empty() { 100 } else { 1 };
-            compare_shots(&mut shots, number(calls), number(seed));
-            println!("{shots}");
-            std::process::exit(i32::from(shots.differed() > 0));
+            let most_differing = if wishes.is_empty() { 100 } else { 1 };
+            let both = compare_shots(most_differing, number(calls), number(seed));
+            show(&both);
+            end(both.iter().map(Shots::differed).sum());
         }
-        ["history", seed] => {
-            let mut comparison = Comparison::new(others());
+        ["history", seed, ref mode @ ..] => {
+            let mut comparison = Comparison::new(clock(mode), others());
             random::run_one(&mut comparison, number(seed));
             println!("{comparison}");
         }
-        ["broken", rooms, seed] => {
-            let mut shots = Shots::new();
-            tables::run(&mut shots, number(rooms) / 10, number(seed));
-            let trials = broken::run(number(rooms), number(seed));
-            println!("{shots}\n{trials}");
-            std::process::exit(i32::from(trials.differed + shots.differed() > 0));
-        }
+        ["broken", rooms, seed] => break_rooms(number(rooms), number(seed)),
         [calls, seed, ref wishes @ ..]
             if wishes.iter().all(|wish| ["tally", "first", "few"].contains(wish)) =>
         {
-            let mut comparison = Comparison { short: 1, ..Comparison::new(others()) };
-            for wish in wishes {
-                match *wish {
-                    "tally" => comparison.tally = Some(Default::default()),
-                    "first" => comparison.most_differing = 1,
-                    _ => comparison.short = all_short::FEW,
-                }
-            }
-            compare(number(calls), number(seed), comparison);
+            compare(number(calls), number(seed), wishes);
         }
         _ => panic!(
-            "CALLS SEED [tally] [first] [few], history SEED, broken ROOMS SEED, shots CALLS SEED [first], season SEED, sample CALLS SEED, \
-             desk LINES SEED, or shot-lines LINES SEED"
+            "CALLS SEED [tally] [first] [few], history SEED [nanoseconds], broken ROOMS SEED, shots CALLS SEED [first], \
+             season SEED [nanoseconds], sample CALLS SEED, desk LINES SEED, or shot-lines LINES SEED"
         ),
+    }
+}
+
+const CLOCKS: [ClockMode; 2] = [ClockMode::Milliseconds, ClockMode::Nanoseconds];
+
+/// The clock mode that the last words of a command name.
+fn clock(words: &[&str]) -> ClockMode {
+    match words {
+        [] => ClockMode::Milliseconds,
+        ["nanoseconds"] => ClockMode::Nanoseconds,
+        _ => panic!("nanoseconds, or nothing more"),
     }
 }
 
@@ -131,27 +130,93 @@ fn others() -> Others {
     return vec![];
 }
 
-/// Seasons of shots, short and random, lines of them, damaged tables and refusals met together.
-fn compare_shots(shots: &mut Shots, calls: u64, seed: u64) {
-    short_seasons::run(shots, calls);
-    seasons::run(shots, calls, seed);
-    shots_check::run(shots, calls / 50_000, seed);
-    tables::run(shots, calls / 10, seed);
+/// A line for each clock mode.
+fn show(both: &[impl Display; 2]) {
+    for (clock, line) in CLOCKS.iter().zip(both) {
+        println!("in {}: {line}", format!("{clock:?}").to_lowercase());
+    }
 }
 
-/// Desk inputs, random histories and short ones, units; and shots. A line for the shots, and one for the others.
-fn compare(calls: u64, seed: u64, mut comparison: Comparison) {
-    desk_check::run(&mut comparison, calls / 10_000, seed);
-    random::run(&mut comparison, calls, seed);
-    all_short::run(&mut comparison, seed);
-    units_check::run(&mut comparison);
-    let mut shots = Shots::new();
-    // Where the first difference is asked for, one is enough.
-    if comparison.goes_on() {
-        shots.most_differing = comparison.most_differing;
-        compare_shots(&mut shots, calls / 5, seed);
+/// The process ends, well where nothing differed.
+fn end(differed: u64) -> ! {
+    std::process::exit(i32::from(differed > 0))
+}
+
+/// In each clock mode seasons of shots, short and random, damaged tables and refusals met together; in milliseconds lines of shots too.
+fn compare_shots(most_differing: u64, calls: u64, seed: u64) -> [Shots; 2] {
+    CLOCKS.map(|clock| {
+        let mut shots = Shots::new(clock);
+        shots.most_differing = most_differing;
+        short_seasons::run(&mut shots, calls);
+        seasons::run(&mut shots, calls, seed);
+        if clock == ClockMode::Milliseconds {
+            shots_check::run(&mut shots, calls / 50_000, seed);
+        }
+        tables::run(&mut shots, calls / 10, seed);
+        shots
+    })
+}
+
+/// In each clock mode damaged tables, damaged rooms, and every set of refusals.
+fn break_rooms(rooms: u64, seed: u64) -> ! {
+    let both = CLOCKS.map(|clock| {
+        let mut shots = Shots::new(clock);
+        tables::run(&mut shots, rooms / 10, seed);
+        (shots, broken::run(clock, rooms, seed))
+    });
+    let differed = both.iter().map(|(shots, trials)| shots.differed() + trials.differed).sum();
+    let [(shots, trials), (fine_shots, fine_trials)] = both;
+    show(&[shots, fine_shots]);
+    show(&[trials, fine_trials]);
+    end(differed)
+}
+
+fn comparison(clock: ClockMode, wishes: &[&str]) -> Comparison {
+    let mut comparison = Comparison { short: 1, ..Comparison::new(clock, others()) };
+    for wish in wishes {
+        match *wish {
+            "tally" => comparison.tally = Some(Default::default()),
+            "first" => comparison.most_differing = 1,
+            _ => comparison.short = all_short::FEW,
+        }
     }
-    comparison.show_tally();
-    println!("{shots}\n{comparison}");
-    std::process::exit(i32::from(comparison.differed + shots.differed() > 0));
+    comparison
+}
+
+/// A part of the comparison, with the run's calls and seed.
+type Part = fn(&mut Comparison, u64, u64);
+
+/// What is compared in each clock mode: random histories and short ones; desk inputs and units in milliseconds alone.
+const PARTS: [Part; 3] = [
+    |comparison, calls, seed| {
+        if comparison.clock == ClockMode::Milliseconds {
+            desk_check::run(comparison, calls / 10_000, seed);
+            units_check::run(comparison);
+        }
+    },
+    random::run,
+    |comparison, _, seed| all_short::run(comparison, seed),
+];
+
+/// All parts, and the shots; for each two lines.
+fn compare(calls: u64, seed: u64, wishes: &[&str]) -> ! {
+    let mut both = CLOCKS.map(|clock| comparison(clock, wishes));
+    // Where the first difference is asked for, one is enough, and nanoseconds mostly have it.
+    let goes_on = |both: &[Comparison; 2]| both.iter().all(Comparison::goes_on);
+    for part in PARTS {
+        for at in (0..both.len()).rev() {
+            if goes_on(&both) {
+                part(&mut both[at], calls, seed);
+            }
+        }
+    }
+    let shots = match goes_on(&both) {
+        true => compare_shots(both[0].most_differing, calls / 5, seed),
+        false => CLOCKS.map(Shots::new),
+    };
+    both.iter().for_each(Comparison::show_tally);
+    show(&shots);
+    show(&both);
+    let in_shots: u64 = shots.iter().map(Shots::differed).sum();
+    end(in_shots + both.iter().map(|one| one.differed).sum::<u64>())
 }

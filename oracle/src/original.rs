@@ -1,11 +1,11 @@
 //! The original behind the judge's calls.
 
 use std::sync::atomic::Ordering;
-use std::time::{Instant, set_reading};
+use std::time::{Instant, set_nanoseconds, set_reading};
 
 use twin::calls::{Answer, Call, Op, Row};
 use twin::room::Bucket;
-use twin::rules::{Comparator, Kind, Mode, Settings};
+use twin::rules::{ClockMode, Comparator, Kind, Mode, Settings};
 use twin::set::Wanted;
 
 use crate::builder::{CleanupConfig, ProviderConfig};
@@ -20,6 +20,7 @@ use crate::{
 /// A provider of the original, made past the builder, which would refuse a bucket longer than the window.
 pub struct Original {
     pub provider: LocalRateLimiterProvider,
+    clock: ClockMode,
 }
 
 /// A key's bytes as a text of the same order and length in characters.
@@ -101,11 +102,13 @@ impl Original {
             )
             .expect("a cache period"),
         };
-        Original { provider: LocalRateLimiterProvider::new(config, CleanupConfig::default()) }
+        let provider = LocalRateLimiterProvider::new(config, CleanupConfig::default());
+        Original { provider, clock: settings.clock }
     }
 
     /// The answer to a call that was not refused.
     pub fn call(&self, reading: u64, call: Call, row: &mut Row) -> Answer {
+        set_nanoseconds(self.clock == ClockMode::Nanoseconds);
         set_reading(reading);
         let text = text(call.key);
         let key = text.as_str();
@@ -131,6 +134,19 @@ impl Original {
             Op::GetSuppressionFactor => {
                 Answer::Factor(suppressed.get_suppression_factor(key).to_bits())
             }
+            Op::CleanupBoth { stale } => {
+                self.provider.cleanup(stale);
+                Answer::Done
+            }
+            Op::ReadOut { kind } => self.read_out(key, kind, row),
+            op => self.call_shared(key, op),
+        }
+    }
+
+    /// The calls that both limiters have.
+    fn call_shared(&self, key: &str, op: Op) -> Answer {
+        let (absolute, suppressed) = (self.provider.absolute(), self.provider.suppressed());
+        match op {
             Op::SetRateLimit { kind, rate } => {
                 let rate = rate_limit(rate);
                 let old = match kind {
@@ -149,7 +165,6 @@ impl Original {
                 Answer::Done
             }
             Op::Set { kind, wanted } => self.set(key, kind, wanted),
-            Op::NamelessSet { .. } => unreachable!("always refused"),
             Op::Cleanup { kind, stale } => {
                 match kind {
                     Kind::Absolute => absolute.cleanup(stale),
@@ -157,18 +172,16 @@ impl Original {
                 }
                 Answer::Done
             }
-            Op::CleanupBoth { stale } => {
-                self.provider.cleanup(stale);
-                Answer::Done
-            }
-            Op::ReadOut { kind } => {
-                let buckets = self.series(kind, key).unwrap_or_default().buckets;
-                for (place, bucket) in row.iter_mut().zip(&buckets) {
-                    *place = *bucket;
-                }
-                Answer::Buckets(buckets.len() as u64)
-            }
+            op => unreachable!("the original has no {op:?}"),
         }
+    }
+
+    fn read_out(&self, key: &str, kind: Kind, row: &mut Row) -> Answer {
+        let buckets = self.series(kind, key).unwrap_or_default().buckets;
+        for (place, bucket) in row.iter_mut().zip(&buckets) {
+            *place = *bucket;
+        }
+        Answer::Buckets(buckets.len() as u64)
     }
 
     fn set(&self, key: &str, kind: Kind, wanted: Wanted) -> Answer {

@@ -1,12 +1,13 @@
 //! Random histories that crowd the boundaries, from a generator of our own.
 
 use twin::calls::{Call, Nameless, Op, Rooms};
-use twin::room::{is_room, last_reading};
-use twin::rules::{Comparator, Kind, Mode, Settings};
+use twin::room::{is_room, last_reading, slot, slots};
+use twin::rules::{ClockMode, Comparator, Kind, Mode, Settings};
 use twin::set::Wanted;
 use twin::suppressed::get_suppression_factor;
 
 use crate::compare::{Comparison, History};
+use crate::expected::ticks;
 use crate::loaded::{damage, sound_rooms};
 use crate::original::Series;
 use crate::state::{Key, of_key};
@@ -41,10 +42,25 @@ impl Dice {
     pub fn once_in(&mut self, n: u64) -> bool {
         self.below(n) == 0
     }
+
+    /// So many milliseconds in ticks; where a millisecond has many, mostly with a part of the next.
+    pub fn ticks(&mut self, clock: ClockMode, ms: u64) -> u64 {
+        let n = ticks(clock);
+        if n == 1 {
+            return ms;
+        }
+        let any = self.below(n);
+        n * ms + self.pick(&[0, 0, 1, 2 * n / 5, n - 1, n - 1, any])
+    }
 }
 
-pub fn settings(dice: &mut Dice, is_steady: bool) -> Settings {
-    let window = dice.pick(&[1, 1, 2, 3, 7, 10, 10, 10, 30, 60, 3600, 33_554_432]);
+pub fn settings(dice: &mut Dice, clock: ClockMode, is_steady: bool) -> Settings {
+    // Where ticks are fine, a window of 1 s sets its two looks against the last second.
+    let windows = match clock {
+        ClockMode::Milliseconds => [1, 1, 2, 3, 7, 10, 10, 10, 30, 60, 3600, 33_554_432],
+        ClockMode::Nanoseconds => [1, 1, 1, 1, 2, 3, 7, 10, 10, 60, 3600, 33_554_432],
+    };
+    let window = dice.pick(&windows);
     let ms = 1000 * window;
     let bucket = match dice.below(8) {
         0..=3 => dice.pick(&[1, 2, 10, 100, 100, 500, 999, 1000]).min(ms),
@@ -66,6 +82,7 @@ pub fn settings(dice: &mut Dice, is_steady: bool) -> Settings {
         bucket: bucket.clamp(1, 4_294_967_296),
         cache: cache.clamp(1, 4_294_967_296),
         factor,
+        clock,
     }
 }
 
@@ -160,6 +177,24 @@ impl Source {
         self.dice.pick(&self.rates)
     }
 
+    /// Where ticks are fine, boundaries are sought from the times that the rooms hold. In milliseconds the draws stay as they are.
+    fn look_at(&mut self, settings: &Settings, rooms: &Rooms) {
+        if ticks(settings.clock) == 1 {
+            return;
+        }
+        let rooms = [&rooms.absolute, &rooms.suppressed];
+        let all = rooms.iter().flat_map(|room| (0..slots(room)).map(|at| slot(room, at)));
+        let mut times = Vec::new();
+        for slot in all.filter(|slot| slot.in_use()) {
+            let held = if slot.has_series() { slot.buckets() } else { 0 };
+            times.extend((0..held).map(|index| slot.bucket(index).time));
+            times.extend(slot.has_factor().then(|| slot.factor_time()));
+        }
+        if !times.is_empty() {
+            self.times = times;
+        }
+    }
+
     /// Zero, a boundary's length, or a boundary's age of an earlier time.
     pub fn reading(&mut self, settings: &Settings) -> u64 {
         let dice = &mut self.dice;
@@ -167,13 +202,15 @@ impl Source {
         if dice.once_in(80) {
             return self.now.saturating_sub(dice.pick(&[1, 2, 1000]));
         }
-        if self.is_steady && !dice.once_in(5) {
+        // Where ticks are fine there is more to seek at the edges; in milliseconds the draws stay as they are.
+        let is_fine = ticks(settings.clock) > 1;
+        if self.is_steady && !dice.once_in(if is_fine { 2 } else { 5 }) {
             let rise = dice.below(2 * settings.cache.min(1000) + 1);
-            self.now = self.now.saturating_add(rise);
+            self.now = self.now.saturating_add(dice.ticks(settings.clock, rise));
             return self.now;
         }
         let around = |edge: u64, dice: &mut Dice| (edge + dice.below(4)).saturating_sub(1);
-        let age = match dice.below(14) {
+        let age = match dice.below(if is_fine { 18 } else { 14 }) {
             0..=2 => 0,
             3 => dice.pick(&[1, 2, 10]),
             4 | 5 => around(bucket, dice),
@@ -183,8 +220,10 @@ impl Source {
             10 => window / dice.pick(&[2, 3, 5, 10]),
             11 => dice.below(300),
             12 => dice.below(2 * window),
-            _ => bucket / 2,
+            13 => bucket / 2,
+            _ => window,
         };
+        let age = dice.ticks(settings.clock, age);
         let from = if dice.once_in(2) { self.now } else { dice.pick(&self.times) };
         let reading = from.checked_add(age).filter(|reading| *reading >= self.now);
         self.now = reading.unwrap_or(self.now);
@@ -235,10 +274,13 @@ impl Source {
         }
     }
 
-    fn stale(&mut self) -> u64 {
-        let age = self.now - self.dice.pick(&self.times).min(self.now);
+    /// In milliseconds: the age of an earlier time, or beside it; now and then more than the readings have room for.
+    fn stale(&mut self, settings: &Settings) -> u64 {
+        let n = ticks(settings.clock);
+        let age = (self.now - self.dice.pick(&self.times).min(self.now)) / n;
         match self.dice.below(8) {
-            0 => self.dice.pick(&[0, 1, 500, u64::MAX]),
+            0 if n == 1 => self.dice.pick(&[0, 1, 500, u64::MAX]),
+            0 => self.dice.pick(&[0, 1, u64::MAX / n, u64::MAX / n + 1, u64::MAX]),
             1..=3 => age,
             4 | 5 => age.saturating_add(1),
             6 => age.saturating_sub(1),
@@ -321,8 +363,8 @@ impl Source {
             73..76 => Op::Delete { kind },
             76 => Op::Clear { kind },
             77..91 => Op::Set { kind, wanted: self.wanted(&series, &edges) },
-            91..95 => Op::Cleanup { kind, stale: self.stale() },
-            95..97 => Op::CleanupBoth { stale: self.stale() },
+            91..95 => Op::Cleanup { kind, stale: self.stale(settings) },
+            95..97 => Op::CleanupBoth { stale: self.stale(settings) },
             _ => Op::ReadOut { kind },
         }
     }
@@ -331,7 +373,7 @@ impl Source {
 /// A start near the top of the readings, at 0, or anywhere.
 pub fn first_reading(dice: &mut Dice, settings: &Settings) -> u64 {
     match dice.below(10) {
-        0 => u64::MAX - dice.below(4000 * settings.window),
+        0 => u64::MAX - dice.below(4000 * settings.window * ticks(settings.clock)),
         1 => dice.any() >> 1,
         2 => 1,
         _ => 0,
@@ -359,15 +401,18 @@ fn start<'a>(
     History::from_rooms(settings, rooms, keys)
 }
 
-/// A random history, unless the comparison ends it.
-fn played<'a>(
-    comparison: &mut Comparison,
-    keys: &'a [Key],
-    seed: u64,
-) -> Option<(History<'a>, Source)> {
+/// How a random history goes on: with how many keys, for how many calls, and whether they go to both rooms.
+struct Course {
+    keys: u64,
+    calls: u64,
+    both: bool,
+}
+
+/// A random history before its first call.
+fn begun<'a>(comparison: &Comparison, keys: &'a [Key], seed: u64) -> (History<'a>, Source, Course) {
     let mut dice = Dice::new(seed);
     let is_steady = dice.once_in(3);
-    let mut settings = settings(&mut dice, is_steady);
+    let mut settings = settings(&mut dice, comparison.clock, is_steady);
     // The sample's draws stay as they are.
     let is_slow = !is_steady && comparison.record.is_none() && dice.once_in(6);
     let rates = match () {
@@ -379,44 +424,67 @@ fn played<'a>(
     };
     let now = first_reading(&mut dice, &settings);
     let empty = comparison.record.is_some();
-    let mut history = start(&mut dice, settings, keys, now, empty);
+    let history = start(&mut dice, settings, keys, now, empty);
     let most_keys = if is_steady { 2 } else { history.rooms.absolute[0] + 2 };
-    let in_play = dice.below(most_keys) + 1;
-    let length = dice.pick(&[3, 10, 20, 40, 80]);
-    let both = dice.below(3);
-    let is_suppressed = both == 1;
-    let mut source = Source { dice, rates, times: vec![now], now, is_suppressed, is_steady };
+    let keys = dice.below(most_keys) + 1;
+    let calls = dice.pick(&[3, 10, 20, 40, 80]);
+    let rooms = dice.below(3);
+    let source =
+        Source { dice, rates, times: vec![now], now, is_suppressed: rooms == 1, is_steady };
+    (history, source, Course { keys, calls, both: rooms == 2 })
+}
+
+/// The next call of a random history; false where the comparison ends it.
+fn step(
+    comparison: &mut Comparison,
+    history: &mut History,
+    source: &mut Source,
+    course: &Course,
+) -> bool {
+    if course.both {
+        source.is_suppressed = source.dice.once_in(2);
+    }
+    let settings = history.settings;
+    source.look_at(&settings, &history.rooms);
+    let reading = source.reading(&settings);
+    let mut key: &[u8] = &history.keys[source.dice.below(course.keys) as usize].bytes;
+    if source.dice.once_in(150) {
+        key = &LONG_KEY;
+    }
+    // The sample has no refused call: its draws stay as they are.
+    let op = match comparison.record.is_none() && source.dice.once_in(100) {
+        true => source.nameless_set(),
+        false => source.op(&settings, &history.rooms, key),
+    };
+    let given = match source.dice.once_in(150) {
+        true => bad_settings(&mut source.dice, &settings),
+        false => settings,
+    };
+    let goes_on = comparison.step(history, &given, reading, Call { key, op });
+    let last = last_reading(&history.rooms.absolute).max(last_reading(&history.rooms.suppressed));
+    source.now = source.now.max(last);
+    goes_on
+}
+
+/// A random history, unless the comparison ends it.
+fn played<'a>(
+    comparison: &mut Comparison,
+    keys: &'a [Key],
+    seed: u64,
+) -> Option<(History<'a>, Source)> {
+    let (mut history, mut source, course) = begun(comparison, keys, seed);
     comparison.begin(&history);
-    for _ in 0..length {
-        if both == 2 {
-            source.is_suppressed = source.dice.once_in(2);
-        }
-        let reading = source.reading(&settings);
-        let mut key: &[u8] = &keys[source.dice.below(in_play) as usize].bytes;
-        if source.dice.once_in(150) {
-            key = &LONG_KEY;
-        }
-        // The sample has no refused call: its draws stay as they are.
-        let op = match comparison.record.is_none() && source.dice.once_in(100) {
-            true => source.nameless_set(),
-            false => source.op(&settings, &history.rooms, key),
-        };
-        let given = match source.dice.once_in(150) {
-            true => bad_settings(&mut source.dice, &settings),
-            false => settings,
-        };
-        if !comparison.step(&mut history, &given, reading, Call { key, op }) {
+    for _ in 0..course.calls {
+        if !step(comparison, &mut history, &mut source, &course) {
             return None;
         }
-        let last =
-            last_reading(&history.rooms.absolute).max(last_reading(&history.rooms.suppressed));
-        source.now = source.now.max(last);
     }
     Some((history, source))
 }
 
 /// One more call, once words are damaged.
 fn on_damaged(comparison: &mut Comparison, mut history: History, mut source: Source) {
+    source.look_at(&history.settings, &history.rooms);
     let reading = source.reading(&history.settings);
     let keys = history.keys;
     let key: &[u8] = &source.dice.pick(&[&keys[0], &keys[1], &keys[2]]).bytes;

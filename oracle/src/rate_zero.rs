@@ -1,9 +1,9 @@
 //! A factor worked out at perceived rate zero. The original has a NaN there; ticket 2 says what is answered, and so what the key holds.
 
 use twin::calls::{Answer, Call, Op, Rooms};
-use twin::room::Bucket;
 use twin::rules::Settings;
 
+use crate::expected::At;
 use crate::state::of_key;
 
 /// The factor that an answer tells, if it tells one.
@@ -26,8 +26,8 @@ pub fn due(op: Op) -> Answer {
     }
 }
 
-/// What is wrong with the answer, or with the key's state after it: expired buckets are out, an increment's count is in, and factor 0
-/// is cached with the reading.
+/// What is wrong with the answer, or with the key's state after it: the buckets that the call finds expired are out, an increment's count
+/// is in, and factor 0 is cached with the reading.
 pub fn fault(
     settings: &Settings,
     before: &Rooms,
@@ -40,17 +40,11 @@ pub fn fault(
     if answer != due {
         return Some(format!("{due:?} is due at perceived rate zero"));
     }
-    let mut series = of_key(&before.suppressed, call.key).0.expect("a key with a bucket");
-    series.buckets.retain(|bucket| reading - bucket.time <= 1000 * settings.window);
-    (series.total, series.declined) = (0, 0);
-    if let Op::SuppressedInc { count, .. } = call.op {
-        series.total = count;
-        match series.buckets.last_mut() {
-            Some(newest) if reading - newest.time <= settings.bucket => newest.count += count,
-            _ => series.buckets.push(Bucket { count, declined: 0, time: reading }),
-        }
-    }
-    let due = (Some(series), Some((0, reading)));
+    let series = of_key(&before.suppressed, call.key).0.expect("a key with a bucket");
+    let at = At { settings, reading };
+    let left = at.left(&call.op, &series.buckets);
+    let count = if let Op::SuppressedInc { count, .. } = call.op { Some(count) } else { None };
+    let due = (Some(at.counted(series.limit, left, count)), Some((0, reading)));
     let held = of_key(&after.suppressed, call.key);
     (held != due).then(|| format!("at perceived rate zero {due:?} is due, and {held:?} is held"))
 }

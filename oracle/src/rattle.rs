@@ -3,7 +3,7 @@
 use twin::calls::{Answer, Asked, Call, Limiters, Nameless, Op, Rooms, Row};
 use twin::gateway::Shot;
 use twin::room::Bucket;
-use twin::rules::{Comparator, Kind, Mode, Settings};
+use twin::rules::{ClockMode, Comparator, Kind, Mode, Settings};
 use twin::set::Wanted;
 
 /// The archive's functions: settings, a room, what the call asks for, mostly with a reading first, and the row of five words for
@@ -16,6 +16,7 @@ macro_rules! faces {
                 bucket: u64,
                 cache: u64,
                 factor: f64,
+                clock: u64,
                 room: *mut u64,
                 words: usize,
                 $($argument: $type,)*
@@ -122,6 +123,16 @@ fn comparator_numbers(comparator: Comparator) -> (u64, u64) {
     }
 }
 
+/// What stands for nanoseconds on the C face: any number but 0, by turns.
+const NANOSECONDS: [u64; 4] = [1, 256, 1 << 32, u64::MAX];
+
+fn clock_number(clock: ClockMode, reading: u64) -> u64 {
+    match clock {
+        ClockMode::Milliseconds => 0,
+        ClockMode::Nanoseconds => NANOSECONDS[reading as usize % NANOSECONDS.len()],
+    }
+}
+
 /// One call under way: its settings, reading and key, the lent rooms and the row.
 struct Face<'a> {
     settings: Settings,
@@ -135,12 +146,13 @@ struct Face<'a> {
 /// A function of the archive on one of the rooms, with what follows the room.
 macro_rules! ask {
     ($face:ident.$room:ident, $function:ident $(, $argument:expr)*) => {{
-        let Settings { window, bucket, cache, factor } = $face.settings;
+        let Settings { window, bucket, cache, factor, clock } = $face.settings;
+        let clock = clock_number(clock, $face.reading);
         let (room, row) = ($face.$room.words(), $face.row.words());
         let (start, words) = (room.as_mut_ptr(), room.len());
         // The room, the key and the row live through the call, and only the call has them.
         unsafe {
-            $function(window, bucket, cache, factor, start, words $(, $argument)*, row.as_mut_ptr())
+            $function(window, bucket, cache, factor, clock, start, words $(, $argument)*, row.as_mut_ptr())
         }
     }};
 }
@@ -237,25 +249,10 @@ impl<'a> Face<'a> {
     }
 
     fn cleanup_both(&mut self, stale: u64) -> u64 {
-        let Settings { window, bucket, cache, factor } = self.settings;
-        let (absolute, suppressed) = (self.absolute.words(), self.suppressed.words());
+        let suppressed = self.suppressed.words();
         let (start, words) = (suppressed.as_mut_ptr(), suppressed.len());
-        let row = self.row.words().as_mut_ptr();
-        unsafe {
-            frostaxle_provider_cleanup(
-                window,
-                bucket,
-                cache,
-                factor,
-                absolute.as_mut_ptr(),
-                absolute.len(),
-                start,
-                words,
-                self.reading,
-                stale,
-                row,
-            )
-        }
+        let reading = self.reading;
+        ask!(self.absolute, frostaxle_provider_cleanup, start, words, reading, stale)
     }
 
     /// Makes the call; gives the number that the function returns.
@@ -436,12 +433,13 @@ fn gateway_row(
     let (start, words, told) = (table.as_mut_ptr(), table.len(), row.words().as_mut_ptr());
     let number = match asked {
         Asked::Shot(Shot { controller, number, rate, draw }) => unsafe {
-            let Settings { window, bucket, cache, factor } = *settings;
+            let Settings { window, bucket, cache, factor, clock } = *settings;
+            let clock = clock_number(clock, reading);
             let (name, length) = (controller.as_ptr(), controller.len());
             let (suppressed, many) = (room.as_mut_ptr(), room.len());
             frostaxle_gateway_shot(
-                window, bucket, cache, factor, start, words, suppressed, many, reading, name,
-                length, number, rate, draw, told,
+                window, bucket, cache, factor, clock, start, words, suppressed, many, reading,
+                name, length, number, rate, draw, told,
             )
         },
         Asked::NewSeason => unsafe { frostaxle_gateway_new_season(start, words, told) },

@@ -3,16 +3,16 @@
 
 use twin::calls::{Answer, Call, Op};
 use twin::replay::answer_numbers;
-use twin::rules::{Comparator, Kind, Mode, Settings};
+use twin::rules::{ClockMode, Comparator, Kind, Mode, Settings};
 use twin::set::Wanted;
 
 use crate::compare::{Comparison, History};
 use crate::original::Original;
 use crate::random;
 
-/// `h slots ring window bucket cache factor`: a history starts from empty rooms.
+/// `h slots ring window bucket cache factor`: a history starts from empty rooms. Readings are in milliseconds.
 pub fn history_line(history: &History) -> String {
-    let Settings { window, bucket, cache, factor } = history.settings;
+    let Settings { window, bucket, cache, factor, .. } = history.settings;
     let (slots, ring) = (history.rooms.absolute[0], history.rooms.absolute[1]);
     format!("h {slots} {ring} {window} {bucket} {cache} {}\n", factor.to_bits())
 }
@@ -120,7 +120,7 @@ pub fn call_line(
 
 /// Prints the list: so many calls from this seed.
 pub fn print(calls: u64, seed: u64) {
-    let mut comparison = Comparison::new(vec![]);
+    let mut comparison = Comparison::new(ClockMode::Milliseconds, vec![]);
     comparison.record = Some(String::new());
     random::run(&mut comparison, calls, seed);
     assert_eq!(comparison.differed, 0);

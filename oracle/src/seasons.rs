@@ -6,9 +6,10 @@ use std::collections::HashSet;
 use twin::calls::{Answer, Asked, Call, Op, Rooms};
 use twin::gateway::{Shot, TOP_NUMBER, empty_table};
 use twin::room::{empty_room, is_room};
-use twin::rules::{Comparator, Kind, Mode, Settings, TOP};
+use twin::rules::{ClockMode, Comparator, Kind, Mode, Settings, TOP};
 use twin::set::Wanted;
 
+use crate::compare::clock_word;
 use crate::loaded::{damage, packed, sound_rooms};
 use crate::random::{
     Dice, LONG_KEY, Source, bad_settings, first_reading, key_pool, rate, settings, slow_rate,
@@ -131,11 +132,11 @@ fn last_number(table: &[u64], controller: &[u8]) -> u64 {
 }
 
 impl Season {
-    fn new(seed: u64) -> Self {
+    fn new(clock: ClockMode, seed: u64) -> Self {
         let mut dice = Dice::new(seed);
         let is_crowd = dice.once_in(10);
         let is_steady = dice.once_in(2);
-        let mut settings = settings(&mut dice, is_steady);
+        let mut settings = settings(&mut dice, clock, is_steady);
         // Shots count 1: limits that a few of them reach, also with a soft limit of 0.
         let small = match dice.once_in(4) {
             true => slow_rate(&mut dice, &mut settings),
@@ -286,7 +287,7 @@ impl Season {
 
 /// A random season, and what it leaves.
 pub fn played(shots: &mut Shots, seed: u64) -> Season {
-    let mut season = Season::new(seed);
+    let mut season = Season::new(shots.clock, seed);
     let length = match season.controllers.len() > MOST {
         true => 200,
         false => season.source.dice.pick(&[5, 20, 40, 80]),
@@ -298,7 +299,7 @@ pub fn played(shots: &mut Shots, seed: u64) -> Season {
         turn += 1;
     }
     if shots.differed() > differed {
-        eprintln!("  in its season: judge season {seed}");
+        eprintln!("  in its season: judge season {seed}{}", clock_word(shots.clock));
     }
     season
 }

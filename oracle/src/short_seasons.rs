@@ -2,13 +2,17 @@
 
 use twin::calls::{Asked, Call, Op};
 use twin::gateway::{Shot, empty_table};
-use twin::rules::{Kind, Settings};
+use twin::rules::{ClockMode, Kind, Settings};
 
+use crate::expected::ticks;
 use crate::seasons::{Log, rooms};
 use crate::shots::{ALLOWED, DONE, HELD, Memory, NO, RESENT, Shots, YES};
 
 /// S is 1 and H 3: of one controller the second shot is admitted by its draw, and the fourth is too many.
-const SETTINGS: Settings = Settings { window: 10, bucket: 100, cache: 100, factor: 3.0 };
+fn settings(clock: ClockMode) -> Settings {
+    Settings { factor: 3.0, clock, ..Settings::default() }
+}
+
 const RATE: f64 = 0.1;
 
 const TOP: u64 = 1 << 53;
@@ -33,8 +37,9 @@ enum Letter {
     Room(Op),
 }
 
-fn letters() -> Vec<Letter> {
-    let kind = Kind::Suppressed;
+/// The rises: none, past joining, past the window, of which the last is not past it at a first look where ticks are fine.
+fn letters(clock: ClockMode) -> Vec<Letter> {
+    let (kind, n) = (Kind::Suppressed, ticks(clock));
     let mut letters = vec![
         Letter::NewSeason,
         Letter::Early,
@@ -45,7 +50,8 @@ fn letters() -> Vec<Letter> {
     ];
     for controller in [&b"a"[..], b"b"] {
         for number in 1..4 {
-            for (draw, rise) in [(0, 0), (TOP - 1, 101), (0, 10_001)] {
+            let past_window = 10_000 * n + n.div_ceil(3);
+            for (draw, rise) in [(0, 0), (TOP - 1, 101 * n), (0, past_window)] {
                 letters.push(Letter::Shot { controller, number, draw, rise });
             }
         }
@@ -56,6 +62,7 @@ fn letters() -> Vec<Letter> {
 /// What a season has come to.
 #[derive(Clone)]
 struct Stand {
+    settings: Settings,
     memory: Memory,
     log: Log,
     now: u64,
@@ -63,7 +70,7 @@ struct Stand {
 
 impl Stand {
     fn shoot(&mut self, shots: &mut Shots, shot: Shot, reading: u64) {
-        let answer = shots.put(&SETTINGS, &mut self.memory, reading, Asked::Shot(shot));
+        let answer = shots.put(&self.settings, &mut self.memory, reading, Asked::Shot(shot));
         self.log.judge(shots, shot, answer);
     }
 
@@ -78,12 +85,12 @@ impl Stand {
                 self.shoot(shots, shot, self.now.saturating_sub(1));
             }
             Letter::NewSeason => {
-                shots.put(&SETTINGS, &mut self.memory, self.now, Asked::NewSeason);
+                shots.put(&self.settings, &mut self.memory, self.now, Asked::NewSeason);
                 self.log = Log::default();
             }
             Letter::Room(op) => {
                 let call = Call { key: b"a", op };
-                shots.beside.put(&SETTINGS, &mut self.memory.rooms, self.now, call);
+                shots.beside.put(&self.settings, &mut self.memory.rooms, self.now, call);
             }
         }
     }
@@ -109,8 +116,9 @@ pub fn run(shots: &mut Shots, calls: u64) {
     let length = if calls < MANY { 3 } else { 4 };
     for slots in [1, 2] {
         let memory = Memory { table: empty_table(), rooms: rooms(slots, 2) };
-        let begun = Stand { memory, log: Log::default(), now: 0 };
-        follow(shots, &letters(), &begun, length);
+        let settings = settings(shots.clock);
+        let begun = Stand { settings, memory, log: Log::default(), now: 0 };
+        follow(shots, &letters(shots.clock), &begun, length);
     }
     shots.end_part("short seasons", &COMES);
 }

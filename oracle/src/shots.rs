@@ -3,7 +3,7 @@
 use std::fmt;
 
 use twin::calls::{Answer, Asked, Limiters, Rooms, Twin};
-use twin::rules::Settings;
+use twin::rules::{ClockMode, Settings};
 
 use crate::compare::{first_other_word, who};
 use crate::expected::UNUSED;
@@ -69,6 +69,8 @@ fn name(outcome: usize) -> String {
 
 /// The counts, and the implementations besides the twin.
 pub struct Shots {
+    /// The clock mode of its seasons.
+    pub clock: ClockMode,
     others: Vec<Box<dyn Limiters>>,
     /// The calls on the room between shots.
     pub beside: Trials,
@@ -100,9 +102,10 @@ impl fmt::Display for Shots {
 }
 
 impl Shots {
-    pub fn new() -> Self {
+    pub fn new(clock: ClockMode) -> Self {
         let none = Memory { table: vec![], rooms: Rooms { absolute: vec![], suppressed: vec![] } };
         Shots {
+            clock,
             others: others(),
             beside: Trials::new(others()),
             seasons: 0,

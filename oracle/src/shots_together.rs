@@ -3,13 +3,13 @@
 
 use twin::calls::{Answer, Asked, Rooms};
 use twin::gateway::{Shot, empty_table};
-use twin::rules::Kind;
+use twin::rules::{ClockMode, Kind};
 
 use crate::loaded::packed;
 use crate::random::{Dice, bad_rate};
 use crate::seasons::rooms;
 use crate::shots::{HELD, Memory, NO, RATE_ZERO, Shots, YES};
-use crate::together::{Faults, LAST, NO_RATE, RATE, TOP, Unfit, room, settings, spoil};
+use crate::together::{Faults, NO_RATE, RATE, TOP, Unfit, key, reading, room, settings, spoil};
 
 /// How the shot's number and its controller stand to the table.
 #[derive(Clone, Copy, PartialEq)]
@@ -94,18 +94,9 @@ fn decided(faults: Faults) -> Answer {
     Answer::Suppressed { factor: factor.to_bits(), admitted }
 }
 
-/// The room's key: long, without a slot, or the first slot's.
-fn controller(faults: Faults) -> &'static [u8] {
-    match (faults.has(7), faults.has(11)) {
-        (true, _) => &[b'a'; 33],
-        (_, true) => b"zz",
-        _ => b"a",
-    }
-}
-
 /// The suppressed room of refusals met together; for 10 the first slot's total is at the top.
-fn room_of(faults: Faults) -> Vec<u64> {
-    let mut room = room(Kind::Suppressed, faults);
+fn room_of(clock: ClockMode, faults: Faults) -> Vec<u64> {
+    let mut room = room(clock, Kind::Suppressed, faults);
     if faults.has(10) {
         for at in [1, 2, 8, 10] {
             room[15 + at] = TOP;
@@ -114,13 +105,23 @@ fn room_of(faults: Faults) -> Vec<u64> {
     room
 }
 
+/// The shot's number.
+fn number(dice: &mut Dice, faults: Faults, standing: Standing) -> u64 {
+    match (faults.has(19), standing) {
+        (true, _) => dice.pick(&[0, 1 << 32, u64::MAX]),
+        (_, Standing::Lower) => dice.pick(&[1, NUMBER - 1]),
+        (_, Standing::Held) => NUMBER,
+        _ => dice.pick(&[NUMBER + 1, (1 << 32) - 1]),
+    }
+}
+
 fn one(shots: &mut Shots, dice: &mut Dice, faults: Faults, standing: Standing) {
-    let controller = controller(faults);
+    let (clock, controller) = (shots.clock, key(faults));
     let is_long = faults.has(7);
     let in_table: &[u8] = if is_long { b"a" } else { controller };
     let mut memory = Memory {
         table: table(dice, standing, in_table),
-        rooms: Rooms { suppressed: room_of(faults), ..rooms(1, 1) },
+        rooms: Rooms { suppressed: room_of(clock, faults), ..rooms(1, 1) },
     };
     let is_named = !is_long && !faults.has(11);
     let is_table_unfit = faults.has(5) && dice.once_in(2);
@@ -134,18 +135,13 @@ fn one(shots: &mut Shots, dice: &mut Dice, faults: Faults, standing: Standing) {
         }
         false => {}
     }
-    let number = match (faults.has(19), standing) {
-        (true, _) => dice.pick(&[0, 1 << 32, u64::MAX]),
-        (_, Standing::Lower) => dice.pick(&[1, NUMBER - 1]),
-        (_, Standing::Held) => NUMBER,
-        _ => dice.pick(&[NUMBER + 1, (1 << 32) - 1]),
-    };
+    let number = number(dice, faults, standing);
     let rate = if faults.has(8) { bad_rate(dice) } else { RATE };
     let draw = dice.pick(&if faults.has(9) { [TOP, u64::MAX] } else { [0, TOP - 1] });
-    let reading = if faults.has(6) { dice.pick(&[LAST - 1, LAST - 100]) } else { LAST };
+    let reading = reading(dice, clock, faults);
     let shot = Shot { controller, number, rate, draw };
     let due = due(faults, standing, is_table_unfit);
-    let settings = settings(dice, faults);
+    let settings = settings(dice, clock, faults);
     let told = shots.put(&settings, &mut memory, reading, Asked::Shot(shot));
     let is_due = match due {
         None => told == Answer::Held,

@@ -1,8 +1,9 @@
 //! A limiter's whole state as one list of numbers, from the original and from a room's words.
 
 use twin::room::{Bucket, find, slot, slots};
-use twin::rules::{Kind, Settings};
+use twin::rules::Kind;
 
+use crate::expected::At;
 use crate::original::{Original, Series};
 
 /// A key as bytes, for rooms, and as a text, for the original.
@@ -18,22 +19,10 @@ impl Key {
     }
 }
 
-/// Leaves out the buckets that are expired at a reading.
-#[derive(Clone, Copy)]
-pub struct LiveAt<'a> {
-    pub settings: &'a Settings,
-    pub reading: u64,
-}
-
-impl LiveAt<'_> {
-    fn keeps(&self, bucket: &Bucket) -> bool {
-        !self.settings.expired(self.reading - bucket.time)
-    }
-}
-
-fn put_series(series: Series, live: Option<LiveAt>, out: &mut Vec<u64>) {
+/// A series; `live` leaves out the buckets that are expired then.
+fn put_series(series: Series, live: Option<At>, out: &mut Vec<u64>) {
     let Series { limit, total, declined, buckets } = series;
-    let gone = |bucket: &&Bucket| live.is_some_and(|live| !live.keeps(bucket));
+    let gone = |bucket: &&Bucket| live.is_some_and(|at| !at.is_live(bucket));
     let expired: u64 = buckets.iter().filter(gone).map(|bucket| bucket.count).sum();
     out.extend([limit, total - expired, declined]);
     for bucket in buckets.iter().filter(|bucket| !gone(bucket)) {
@@ -45,7 +34,7 @@ fn put_series(series: Series, live: Option<LiveAt>, out: &mut Vec<u64>) {
 fn put_key(
     series: Option<Series>,
     cached: Option<(u64, u64)>,
-    live: Option<LiveAt>,
+    live: Option<At>,
     out: &mut Vec<u64>,
 ) {
     out.push(u64::from(series.is_some()) + 2 * u64::from(cached.is_some()));
@@ -62,7 +51,7 @@ pub fn of_original(
     original: &Original,
     kind: Kind,
     keys: &[Key],
-    live: Option<LiveAt>,
+    live: Option<At>,
     out: &mut Vec<u64>,
 ) {
     out.clear();
@@ -91,7 +80,7 @@ pub fn of_key(room: &[u64], key: &[u8]) -> (Option<Series>, Option<(u64, u64)>) 
 }
 
 /// A room's state over the keys in play, and that it holds no others.
-pub fn of_room(room: &[u64], keys: &[Key], live: Option<LiveAt>, out: &mut Vec<u64>) {
+pub fn of_room(room: &[u64], keys: &[Key], live: Option<At>, out: &mut Vec<u64>) {
     out.clear();
     for key in keys {
         let (series, cached) = of_key(room, &key.bytes);

@@ -59,11 +59,14 @@ impl Scene<'_> {
     }
 
     fn reading(&mut self, last: u64) -> u64 {
-        let bucket = self.season.settings.bucket;
+        let Settings { bucket, clock, .. } = self.season.settings;
         match self.dice.below(24) {
             0 => last.saturating_sub(1),
             1 => self.dice.pick(&[0, u64::MAX]),
-            _ => last.saturating_add(self.dice.pick(&[0, 0, 1, bucket, bucket + 1, 60_000])),
+            _ => {
+                let rise = self.dice.pick(&[0, 0, 1, bucket, bucket + 1, 60_000]);
+                last.saturating_add(self.dice.ticks(clock, rise))
+            }
         }
     }
 

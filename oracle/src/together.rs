@@ -3,23 +3,27 @@
 
 use twin::calls::{Answer, Call, Nameless, Op, Rooms};
 use twin::room::empty_room;
-use twin::rules::{Comparator, Kind, Mode, Settings};
+use twin::rules::{ClockMode, Comparator, Kind, Mode, Settings};
 use twin::set::Wanted;
 
-use crate::expected::{has_key, kind};
+use crate::expected::{has_key, kind, ticks};
 use crate::random::{Dice, bad_rate, nameless};
 use crate::rate_zero;
 use crate::trial::Trials;
 
 pub const TOP: u64 = 1 << 53;
-pub const LAST: u64 = 1000;
 
 /// How often each set is tried on each call, with other words at fault.
 const TIMES: u64 = 3;
 
 /// S is 0 and H over 2^53, so that one count can meet 10 and ask for a factor.
-const SETTINGS: Settings =
-    Settings { window: 10, bucket: 100, cache: 100, factor: (1u64 << 60) as f64 };
+const SETTINGS: Settings = Settings {
+    window: 10,
+    bucket: 100,
+    cache: 100,
+    factor: (1u64 << 60) as f64,
+    clock: ClockMode::Milliseconds,
+};
 pub const RATE: f64 = 0.0625;
 
 /// Stands in the form of a call, each of which draws its own.
@@ -43,6 +47,17 @@ impl Faults {
 pub enum Unfit {
     Lengths,
     Slot,
+}
+
+/// The last reading of the rooms.
+pub fn last(clock: ClockMode) -> u64 {
+    1000 * ticks(clock)
+}
+
+/// The last reading, or for 6 an earlier one, be it by a tick.
+pub fn reading(dice: &mut Dice, clock: ClockMode, faults: Faults) -> u64 {
+    let last = last(clock);
+    if faults.has(6) { dice.pick(&[last - 1, last - 100]) } else { last }
 }
 
 fn calls() -> Vec<Op> {
@@ -73,9 +88,10 @@ fn calls() -> Vec<Op> {
 }
 
 /// The room's two slots, of keys `a` and `b`: one bucket that is past joining. 12: the ring is full; perceived rate zero: its counts are 0.
-pub fn room(kind: Kind, faults: Faults) -> Vec<u64> {
+pub fn room(clock: ClockMode, kind: Kind, faults: Faults) -> Vec<u64> {
     let mut room = empty_room(2, 2);
-    room[2] = LAST;
+    room[2] = last(clock);
+    let time = last(clock) - 200 * ticks(clock);
     let count = u64::from(kind == Kind::Absolute || !faults.has(NO_RATE));
     let declined = if kind == Kind::Absolute { 0 } else { count };
     let limit = match kind {
@@ -87,9 +103,18 @@ pub fn room(kind: Kind, faults: Faults) -> Vec<u64> {
         room[3 + 6 * slot..][..3].copy_from_slice(&[1, 1, u64::from(name)]);
         let body = &mut room[15 + 13 * slot..][..13];
         body[..5].copy_from_slice(&[limit.to_bits(), count, declined, 1, buckets]);
-        body[7..].copy_from_slice(&[0, count, 0, declined, 800, 800]);
+        body[7..].copy_from_slice(&[0, count, 0, declined, time, time]);
     }
     room
+}
+
+/// The key: long, without a slot, or the first slot's.
+pub fn key(faults: Faults) -> &'static [u8] {
+    match (faults.has(7), faults.has(11)) {
+        (true, _) => &[b'a'; 33],
+        (_, true) => b"zz",
+        _ => b"a",
+    }
 }
 
 /// The call with its numbers at fault: 8, 9 and 10.
@@ -121,8 +146,8 @@ fn with_faults(dice: &mut Dice, op: Op, faults: Faults) -> Op {
     }
 }
 
-pub fn settings(dice: &mut Dice, faults: Faults) -> Settings {
-    let mut settings = SETTINGS;
+pub fn settings(dice: &mut Dice, clock: ClockMode, faults: Faults) -> Settings {
+    let mut settings = Settings { clock, ..SETTINGS };
     if faults.has(1) {
         settings.window = dice.pick(&[0, 33_554_433, u64::MAX]);
     }
@@ -184,40 +209,34 @@ fn factor_due(op: &Op, faults: Faults) -> Option<f64> {
     }
 }
 
-fn one(trials: &mut Trials, dice: &mut Dice, op: Op, faults: Faults) {
+fn one(trials: &mut Trials, dice: &mut Dice, clock: ClockMode, op: Op, faults: Faults) {
     let unfit = dice.pick(&[Unfit::Lengths, Unfit::Slot]);
     let mut rooms = Rooms {
-        absolute: room(Kind::Absolute, faults),
-        suppressed: room(Kind::Suppressed, faults),
+        absolute: room(clock, Kind::Absolute, faults),
+        suppressed: room(clock, Kind::Suppressed, faults),
     };
     // The provider's cleanup meets 5 and 6 in either room.
     let at_fault = match op {
         Op::CleanupBoth { .. } => dice.pick(&[Kind::Absolute, Kind::Suppressed]),
         _ => kind(&op),
     };
-    let reading = if faults.has(6) { dice.pick(&[LAST - 1, LAST - 100]) } else { LAST };
+    let reading = reading(dice, clock, faults);
     if matches!(op, Op::CleanupBoth { .. }) && faults.has(6) && dice.once_in(2) {
         let other = if at_fault == Kind::Absolute { Kind::Suppressed } else { Kind::Absolute };
-        rooms.of_mut(other)[2] = 850;
+        rooms.of_mut(other)[2] -= 150 * ticks(clock);
     }
-    if faults.has(5) {
-        let room = match at_fault {
-            Kind::Absolute => &mut rooms.absolute,
-            Kind::Suppressed => &mut rooms.suppressed,
-        };
-        spoil(dice, room, unfit);
+    match at_fault {
+        _ if !faults.has(5) => {}
+        Kind::Absolute => spoil(dice, &mut rooms.absolute, unfit),
+        Kind::Suppressed => spoil(dice, &mut rooms.suppressed, unfit),
     }
-    let key: &[u8] = match (faults.has(7), faults.has(11)) {
-        (true, _) => &[b'a'; 33],
-        (_, true) => b"zz",
-        _ => b"a",
-    };
+    let key = key(faults);
     let op = with_faults(dice, op, faults);
     let last = if matches!(op, Op::NamelessSet { .. }) { 14 } else { 0 };
     let lowest = (1..13)
         .find(|number| faults.has(*number) && meets(&op, faults, *number, unfit))
         .unwrap_or(last);
-    let told = trials.put(&settings(dice, faults), &mut rooms, reading, Call { key, op });
+    let told = trials.put(&settings(dice, clock, faults), &mut rooms, reading, Call { key, op });
     let is_due = match (lowest, told) {
         (0, Answer::Refused(_)) => false,
         (0, told) => rate_zero::factor(told) == factor_due(&op, faults),
@@ -230,11 +249,11 @@ fn one(trials: &mut Trials, dice: &mut Dice, op: Op, faults: Faults) {
 }
 
 /// Every set of refusals on every call; a set's first bit is perceived rate zero.
-pub fn run(trials: &mut Trials, dice: &mut Dice) {
+pub fn run(trials: &mut Trials, dice: &mut Dice, clock: ClockMode) {
     for op in calls() {
         for set in 0..1 << 13 {
             for _ in 0..TIMES {
-                one(trials, dice, op, Faults(set));
+                one(trials, dice, clock, op, Faults(set));
             }
         }
     }

@@ -7,9 +7,8 @@ use std::hash::{DefaultHasher, Hash, Hasher};
 use twin::calls::{Answer, Call, Limiters, Op, Rooms, Row, Twin};
 use twin::rules::{Kind, Settings};
 
-use crate::compare::{UNTOUCHED, first_other_word, who};
+use crate::compare::{UNTOUCHED, first_other_word, second_fault, who};
 use crate::expected::{UNUSED, expected};
-use crate::rate_zero;
 
 /// How many differing calls are printed.
 const SHOWN: u64 = 3;
@@ -119,16 +118,16 @@ impl Trials {
         let refusal = if let Answer::Refused(number) = answer { number } else { 0 };
         self.calls += 1;
         self.by_number[refusal as usize] += 1;
-        let mut fault = None;
-        if refusal != wanted.refusal || refusal == UNUSED {
-            fault = Some(format!("refusal {} expected", wanted.refusal));
+        self.at_rate_zero += u64::from(wanted.at_rate_zero);
+        let fault = if refusal != wanted.refusal || refusal == UNUSED {
+            Some(format!("refusal {} expected", wanted.refusal))
         } else if refusal != 0 && (*rooms != self.before || row != untouched) {
-            fault = Some("a refusal changes words".to_string());
-        } else if wanted.at_rate_zero {
-            self.at_rate_zero += 1;
-            fault = rate_zero::fault(settings, &self.before, rooms, reading, call, answer);
-        }
-        fault = fault.or_else(|| self.others_fault(settings, rooms, reading, call, answer, &row));
+            Some("a refusal changes words".to_string())
+        } else {
+            second_fault(wanted, settings, &self.before, rooms, reading, call, answer)
+        };
+        let fault =
+            fault.or_else(|| self.others_fault(settings, rooms, reading, call, answer, &row));
         if let Some(fault) = fault {
             self.differed += 1;
             if self.differed <= SHOWN {

@@ -12,15 +12,19 @@ fn rejected(slot: Slot, settings: &Settings, reading: u64) -> Decision {
         0 => (0, 0),
         _ => {
             let oldest = slot.bucket(0);
-            (settings.window_ms() - (reading - oldest.time), oldest.count)
+            let age = settings.clock.whole(reading - oldest.time);
+            (settings.window_ms() - age, oldest.count)
         }
     };
     Decision::Rejected { window: settings.window, wait, left }
 }
 
-/// What the test takes out: nothing while the stored total is below the limit, else the expired.
-fn tried(slot: Slot, expired: Gone) -> Gone {
-    if slot.total() < cut_limit(slot) { Gone::default() } else { expired }
+/// What the test takes out: nothing while the stored total is below the limit, else the expired that go at a first look.
+fn tried(slot: Slot, expired: Gone, settings: &Settings, reading: u64) -> Gone {
+    if slot.total() < cut_limit(slot) {
+        return Gone::default();
+    }
+    slot.first_look(expired, settings, reading)
 }
 
 /// Whether the total is below the limit once `gone` is out.
@@ -36,17 +40,18 @@ fn inc_known(
     count: u64,
 ) -> Result<Decision, Refusal> {
     let stands = slot.read();
-    let mut gone = tried(stands, expired);
+    let mut gone = tried(stands, expired, settings, reading);
     if !is_below(stands, gone) {
         slot.cut(gone);
         return Ok(rejected(slot.read(), settings, reading));
     }
     if crowded(stands, gone, settings, reading, count).is_err() {
+        // All that are expired to the tick, whatever the first look said.
         gone = expired;
         crowded(stands, gone, settings, reading, count)?;
     }
     slot.cut(gone);
-    slot.join_or_add(count, 0, reading, settings.bucket);
+    slot.join_or_add(count, 0, settings, reading);
     Ok(Decision::Allowed)
 }
 
@@ -87,7 +92,7 @@ pub fn is_allowed(
         None => Decision::Allowed,
         Some(at) => {
             let mut slot = slot_mut(room, at);
-            let gone = tried(slot.read(), found.expired);
+            let gone = tried(slot.read(), found.expired, settings, reading);
             slot.cut(gone);
             if is_below(slot.read(), Gone::default()) {
                 Decision::Allowed

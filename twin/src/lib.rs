@@ -1,5 +1,5 @@
 //! The two limiters and the gateway above them as an ordinary Rust program over the same fixed words, written from document 01
-//! and ticket 12.
+//! and tickets 2, 7, 8 and 12.
 //! docs/WORDS.md says which words each call writes.
 
 pub mod absolute;

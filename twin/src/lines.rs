@@ -93,7 +93,7 @@ fn read_settings(line: &[u8]) -> Result<Settings, Refusal> {
     let factor = up_to_top(line.named(b" factor=")?)?;
     let cache = line.named(b" cache=")?;
     line.end()?;
-    let settings = Settings { window, bucket, cache, factor };
+    let settings = Settings { window, bucket, cache, factor, ..Settings::default() };
     settings.judge()?;
     Ok(settings)
 }

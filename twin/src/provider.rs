@@ -18,7 +18,7 @@ pub fn cleanup(
     if let Some(refusal) = verdicts.iter().filter_map(|v| v.err()).min_by_key(|r| r.0) {
         return Err(refusal);
     }
-    sweep(absolute, reading, stale);
-    sweep(suppressed, reading, stale);
+    sweep(settings.clock, absolute, reading, stale);
+    sweep(settings.clock, suppressed, reading, stale);
     Ok(())
 }

@@ -122,7 +122,8 @@ fn outcome(
 fn prepare(settings: &mut Settings, rooms: &mut Rooms, line: &str) {
     if line.starts_with('h') {
         let [slots, ring, window, bucket, cache, factor] = numbers(line);
-        *settings = Settings { window, bucket, cache, factor: f64::from_bits(factor) };
+        let factor = f64::from_bits(factor);
+        *settings = Settings { window, bucket, cache, factor, ..Settings::default() };
         *rooms = Rooms::empty(slots as usize, ring as usize);
     }
     if line.starts_with('w') {

@@ -206,16 +206,18 @@ impl<'a> Slot<'a> {
     }
 
     /// Whether an increment joins the newest bucket once the oldest `gone` are out.
-    pub fn joins(&self, gone: u64, reading: u64, bucket_ms: u64) -> bool {
-        self.newest(gone).is_some_and(|newest| reading - newest.time <= bucket_ms)
+    pub fn joins(&self, gone: u64, settings: &Settings, reading: u64) -> bool {
+        self.newest(gone).is_some_and(|newest| settings.joins(reading - newest.time))
     }
 
-    /// The counts at age at most 1000 ms, from the newest on.
-    pub fn last_second(&self, reading: u64) -> u64 {
-        (0..self.buckets())
+    /// The counts at a cut age of at most 1000 ms, from the newest on, once the oldest `gone` are out: of a window of 1 s a bucket that is
+    /// expired by less than a millisecond would be among them.
+    pub fn last_second(&self, gone: u64, settings: &Settings, reading: u64) -> u64 {
+        let longest = settings.longest_in_last_second();
+        (gone..self.buckets())
             .rev()
             .map(|index| self.bucket(index))
-            .take_while(|bucket| reading - bucket.time <= 1000)
+            .take_while(|bucket| reading - bucket.time <= longest)
             .map(|bucket| bucket.count)
             .sum()
     }
@@ -229,9 +231,10 @@ impl<'a> Slot<'a> {
     /// one of them, all are; with no bucket the totals are 0.
     #[inline]
     pub fn expired(&self, settings: &Settings, reading: u64) -> Gone {
+        let longest = settings.longest_live();
         let is_expired = |index: u64| {
             let time = self.times[self.cell(index)];
-            settings.expired(reading.saturating_sub(time))
+            reading.saturating_sub(time) > longest
         };
         if self.buckets() == 0 || is_expired(self.buckets() - 1) {
             return self.all();
@@ -244,9 +247,15 @@ impl<'a> Slot<'a> {
         gone
     }
 
-    /// The cached factor, if there is one at age below `cache_ms`.
-    pub fn cached(&self, reading: u64, cache_ms: u64) -> Option<f64> {
-        (self.has_factor() && reading - self.factor_time() < cache_ms)
+    /// Of the expired buckets those that go at a first look: all, or none where the oldest bucket does not look expired.
+    pub fn first_look(&self, expired: Gone, settings: &Settings, reading: u64) -> Gone {
+        let evicts = expired.buckets > 0 && settings.looks_expired(reading - self.bucket(0).time);
+        if evicts { expired } else { Gone::default() }
+    }
+
+    /// The cached factor, if there is one that may be used.
+    pub fn cached(&self, settings: &Settings, reading: u64) -> Option<f64> {
+        (self.has_factor() && settings.uses_cached(reading - self.factor_time()))
             .then(|| f64::from_bits(self.factor_bits()))
     }
 }
@@ -329,6 +338,17 @@ impl Found {
     /// The slot, if its key has a series.
     pub fn series(&self, room: &[u64]) -> Option<usize> {
         self.slot.filter(|at| slot(room, *at).has_series())
+    }
+
+    /// The same for a call that takes a first look: what does not go then is not expired to it.
+    pub fn at_first_look(self, settings: &Settings, room: &[u64], reading: u64) -> Self {
+        match self.slot {
+            Some(at) if self.expired.buckets > 0 => {
+                let expired = slot(room, at).first_look(self.expired, settings, reading);
+                Found { expired, ..self }
+            }
+            _ => self,
+        }
     }
 }
 
@@ -472,8 +492,8 @@ impl SlotMut<'_> {
     }
 
     /// An increment joins the newest bucket at age at most b; else it adds one.
-    pub fn join_or_add(&mut self, count: u64, declined: u64, reading: u64, bucket_ms: u64) {
-        if self.read().joins(0, reading, bucket_ms) {
+    pub fn join_or_add(&mut self, count: u64, declined: u64, settings: &Settings, reading: u64) {
+        if self.read().joins(0, settings, reading) {
             self.raise(self.fixed[BUCKETS] - 1, count, declined);
         } else {
             self.add(count, declined, reading);
@@ -537,7 +557,7 @@ pub fn crowded(
     count: u64,
 ) -> Result<(), Refusal> {
     refuse_if(count > TOP - (slot.total() - gone.count), 10)?;
-    let adds = !slot.joins(gone.buckets, reading, settings.bucket);
+    let adds = !slot.joins(gone.buckets, settings, reading);
     refuse_if(adds && slot.buckets() - gone.buckets == slot.ring(), 12)
 }
 

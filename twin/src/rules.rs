@@ -22,7 +22,40 @@ pub enum Kind {
     Suppressed,
 }
 
-/// W, b, C and F.
+/// What a tick is. Readings, bucket times and the cached factor's time are in ticks.
+#[derive(Clone, Copy, Debug, Default, PartialEq, Eq)]
+pub enum ClockMode {
+    #[default]
+    Milliseconds,
+    Nanoseconds,
+}
+
+impl ClockMode {
+    /// n, the number of ticks in a millisecond.
+    pub fn ticks(self) -> u64 {
+        match self {
+            ClockMode::Milliseconds => 1,
+            ClockMode::Nanoseconds => 1_000_000,
+        }
+    }
+
+    /// An age cut to whole milliseconds.
+    pub fn whole(self, age: u64) -> u64 {
+        age / self.ticks()
+    }
+
+    /// So many milliseconds, in ticks: a cut age is below them exactly where the age is.
+    pub fn exactly(self, ms: u64) -> u64 {
+        ms * self.ticks()
+    }
+
+    /// The greatest age that is so many milliseconds once it is cut: to compare with it spares the division.
+    pub fn at_most(self, ms: u64) -> u64 {
+        self.exactly(ms) + (self.ticks() - 1)
+    }
+}
+
+/// W, b, C, F and the clock mode.
 #[derive(Clone, Copy, Debug, PartialEq)]
 pub struct Settings {
     /// W, whole seconds.
@@ -33,11 +66,12 @@ pub struct Settings {
     pub cache: u64,
     /// F.
     pub factor: f64,
+    pub clock: ClockMode,
 }
 
 impl Default for Settings {
     fn default() -> Self {
-        Settings { window: 10, bucket: 100, cache: 100, factor: 1.0 }
+        Settings { window: 10, bucket: 100, cache: 100, factor: 1.0, clock: ClockMode::default() }
     }
 }
 
@@ -55,9 +89,29 @@ impl Settings {
         1000 * self.window
     }
 
-    /// A bucket is expired when its age is over 1000 W ms.
-    pub fn expired(&self, age: u64) -> bool {
-        age > self.window_ms()
+    /// The greatest age of a live bucket. A bucket is expired when its age, to the tick, is over 1000 W ms.
+    pub fn longest_live(&self) -> u64 {
+        self.clock.exactly(self.window_ms())
+    }
+
+    /// Whether the oldest bucket at this age makes a call evict that looks at it first: ages are cut there.
+    pub fn looks_expired(&self, age: u64) -> bool {
+        age > self.clock.at_most(self.window_ms())
+    }
+
+    /// An increment joins the newest bucket at a cut age of at most b.
+    pub fn joins(&self, age: u64) -> bool {
+        age <= self.clock.at_most(self.bucket)
+    }
+
+    /// A cached factor is used at a cut age below C.
+    pub fn uses_cached(&self, age: u64) -> bool {
+        age < self.clock.exactly(self.cache)
+    }
+
+    /// The greatest age in the last second, where ages are cut.
+    pub fn longest_in_last_second(&self) -> u64 {
+        self.clock.at_most(1000)
     }
 
     /// The limit that a series stores: rate * W, or rate * F * W in that order.

@@ -4,7 +4,7 @@ use crate::room::{
     Bucket, Gone, Slot, SlotMut, find, is_room, judge, judge_key, judge_slot, last_reading,
     scan_slot, slot, slot_mut, slots, store_reading, vacant,
 };
-use crate::rules::{Kind, Refusal, Settings, judge_rate, refuse_if};
+use crate::rules::{ClockMode, Kind, Refusal, Settings, judge_rate, refuse_if};
 
 /// The slot a new series goes to: the key's own, or the lowest free one, taken.
 pub fn series_slot<'a>(
@@ -102,18 +102,19 @@ pub fn judge_cleanup(
     refuse_if(reading < last, 6)
 }
 
-/// Whether a series has a newest bucket whose age is not over the stale time.
-fn is_fresh(slot: Slot, reading: u64, stale: u64) -> bool {
-    slot.newest(0).is_some_and(|newest| reading - newest.time <= stale)
+/// Whether a series has a newest bucket whose cut age is not over the stale time.
+fn is_fresh(slot: Slot, clock: ClockMode, reading: u64, stale: u64) -> bool {
+    slot.newest(0).is_some_and(|newest| clock.whole(reading - newest.time) <= stale)
 }
 
-/// The cleanup of a room that is judged.
-pub fn sweep(room: &mut [u64], reading: u64, stale: u64) {
+/// The cleanup of a room that is judged. Any stale time may be asked for: ages are divided, since it may be too great to be multiplied.
+pub fn sweep(clock: ClockMode, room: &mut [u64], reading: u64, stale: u64) {
     for at in 0..slots(room) {
         let mut slot = slot_mut(room, at);
         let stands = slot.read();
-        let drops_series = stands.has_series() && !is_fresh(stands, reading, stale);
-        let drops_factor = stands.has_factor() && reading - stands.factor_time() >= stale;
+        let drops_series = stands.has_series() && !is_fresh(stands, clock, reading, stale);
+        let drops_factor =
+            stands.has_factor() && clock.whole(reading - stands.factor_time()) >= stale;
         if drops_series {
             slot.drop_series();
         }
@@ -133,7 +134,7 @@ pub fn cleanup(
     stale: u64,
 ) -> Result<(), Refusal> {
     judge_cleanup(kind, settings, room, reading)?;
-    sweep(room, reading, stale);
+    sweep(settings.clock, room, reading, stale);
     Ok(())
 }
 

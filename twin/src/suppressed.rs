@@ -16,7 +16,7 @@ pub struct Snapshot {
     pub factor: f64,
 }
 
-/// Where the key stands once its expired buckets are out. A key without a series stands at `limit` with no bucket.
+/// Where the key stands once the expired buckets that the call found are out. A key without a series stands at `limit` with no bucket.
 fn standing(
     settings: &Settings,
     room: &[u64],
@@ -28,7 +28,7 @@ fn standing(
     let cached = found
         .slot
         .filter(|_| expired.buckets == 0)
-        .and_then(|at| slot(room, at).cached(reading, settings.cache));
+        .and_then(|at| slot(room, at).cached(settings, reading));
     match found.series(room) {
         None => Standing { hard: limit, total: 0, declined: 0, buckets: 0, cached },
         Some(at) => {
@@ -44,9 +44,10 @@ fn standing(
     }
 }
 
-/// The counts of the key's last second.
-fn last_second(room: &[u64], found: &Found, reading: u64) -> u64 {
-    found.series(room).map_or(0, |at| slot(room, at).last_second(reading))
+/// The counts of the key's last second, of the buckets that stay.
+fn last_second(settings: &Settings, room: &[u64], found: &Found, reading: u64) -> u64 {
+    let gone = found.expired.buckets;
+    found.series(room).map_or(0, |at| slot(room, at).last_second(gone, settings, reading))
 }
 
 /// What an increment decides, whether it is admitted, and what it caches.
@@ -103,6 +104,7 @@ pub fn inc(
     let found = judge(KIND, settings, room, reading, key)?;
     judge_rate(rate)?;
     refuse_if(draw >= TOP, 9)?;
+    let found = found.at_first_look(settings, room, reading);
     match found.series(room) {
         Some(at) => crowded(slot(room, at), found.expired, settings, reading, count)?,
         None => refuse_if(count > TOP, 10)?,
@@ -112,7 +114,7 @@ pub fn inc(
     }
     let limit = settings.limit(KIND, rate);
     let stands = standing(settings, room, &found, reading, limit);
-    let last_second = || last_second(room, &found, reading);
+    let last_second = || last_second(settings, room, &found, reading);
     let outcome = decide(settings, &stands, last_second, count, draw);
     let is_new = found.series(room).is_none();
     let mut slot = series_slot(room, found.slot, key)?;
@@ -124,7 +126,7 @@ pub fn inc(
         slot.cache(factor, reading);
     }
     let declined = if outcome.admitted { 0 } else { count };
-    slot.join_or_add(count, declined, reading, settings.bucket);
+    slot.join_or_add(count, declined, settings, reading);
     store_reading(room, reading);
     Ok(outcome.decision)
 }
@@ -132,7 +134,7 @@ pub fn inc(
 /// The factor of a slot in use: cached below age C, else fresh and cached.
 fn factor_of(settings: &Settings, room: &mut [u64], found: &Found, at: usize, reading: u64) -> f64 {
     let worked = standing(settings, room, found, reading, 0.0)
-        .factor(settings, || last_second(room, found, reading));
+        .factor(settings, || last_second(settings, room, found, reading));
     let is_lone = found.series(room).is_none();
     let mut slot = slot_mut(room, at);
     evict(&mut slot, found.expired);
@@ -172,7 +174,7 @@ pub fn get_suppression_factor(
     reading: u64,
     key: &[u8],
 ) -> Result<f64, Refusal> {
-    let found = judge(KIND, settings, room, reading, key)?;
+    let found = judge(KIND, settings, room, reading, key)?.at_first_look(settings, room, reading);
     let factor = match found.slot {
         Some(at) => factor_of(settings, room, &found, at, reading),
         None => {

@@ -77,7 +77,8 @@ pub struct Bucket {
     pub count: u64,
     /// How much of the count was declined; 0 in an absolute room.
     pub declined: u64,
-    /// The reading at which it was added.
+    /// The reading at which it was added, in ticks: [`ClockMode::duration`](crate::ClockMode::duration) says how long
+    /// that is.
     pub time: u64,
 }
 

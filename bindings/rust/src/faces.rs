@@ -14,6 +14,7 @@ extern "C" {
         bucket: u64,
         cache: u64,
         factor: f64,
+        clock: u64,
         room: *const u64,
         room_len: usize,
         key: *const u8,
@@ -27,6 +28,7 @@ extern "C" {
         bucket: u64,
         cache: u64,
         factor: f64,
+        clock: u64,
         room: *const u64,
         room_len: usize,
         key: *const u8,
@@ -40,6 +42,7 @@ extern "C" {
         bucket: u64,
         cache: u64,
         factor: f64,
+        clock: u64,
         absolute: *mut u64,
         absolute_len: usize,
         suppressed: *mut u64,
@@ -56,6 +59,7 @@ extern "C" {
         bucket: u64,
         cache: u64,
         factor: f64,
+        clock: u64,
         table: *mut u64,
         table_len: usize,
         room: *mut u64,
@@ -82,6 +86,7 @@ macro_rules! faces {
                 bucket: u64,
                 cache: u64,
                 factor: f64,
+                clock: u64,
                 room: *mut u64,
                 room_len: usize,
                 reading: u64,
@@ -144,6 +149,7 @@ mod tests {
                         100,
                         100,
                         1.0,
+                        0,
                         room.as_mut_ptr(),
                         room.len(),
                         0,
@@ -166,6 +172,7 @@ mod tests {
                     100,
                     100,
                     1.0,
+                    0,
                     room.as_mut_ptr(),
                     room.len(),
                     0,
@@ -179,6 +186,26 @@ mod tests {
                 )
             };
             assert_eq!((number, row, room), (lowest, [lowest, 0, 0, 0, 0], made));
+        }
+    }
+
+    /// Clock 0 is milliseconds, any other number nanoseconds. The safe types say 0 and 1.
+    #[test]
+    fn clocks() {
+        for (clock, live) in [(0, 0), (1, 3), (2, 3), (u64::MAX, 3)] {
+            let mut room = [0_u64; 19];
+            let (at, len) = (room.as_mut_ptr(), room.len());
+            let key = b"ctl7";
+            let mut row = [9_u64; 5];
+            // SAFETY: the pointers and lengths are those of live slices that do not overlap.
+            unsafe {
+                frostaxle_make(at, len, 1, 1);
+                frostaxle_absolute_inc(10, 100, 100, 1.0, clock, at, len, 0, key.as_ptr(), 4, 1.0, 3, &mut row);
+                assert_eq!(row, [0, 1, 0, 0, 0]);
+                // just past the window in milliseconds, and far from its end in nanoseconds
+                frostaxle_absolute_get(10, 100, 100, 1.0, clock, at, len, 10_001, key.as_ptr(), 4, &mut row);
+            }
+            assert_eq!(row, [0, 1, live, 0, 0]);
         }
     }
 

@@ -1,5 +1,6 @@
 //! A gateway over a table and a suppressed limiter's room that it owns.
 use crate::answer::{self, Shot};
+use crate::clock::Reading;
 use crate::faces::{self, Row};
 use crate::limiters::{Settings, Suppressed};
 use crate::refusal::Refusal;
@@ -53,16 +54,37 @@ impl Gateway {
     /// away may be sent again under its number, until a later one is admitted.
     ///
     /// [`Refusal::BadNumber`], [`Refusal::OldNumber`] and [`Refusal::TableFull`] are judged first, in this order; then,
-    /// unless the shot is held, what the increment judges, with the table beside the room.
+    /// unless the shot is held, what the increment judges, with the table beside the room. The reading is the increment's:
+    /// a shot that is held is told so even at one that is too large.
     pub fn shot(
         &mut self,
-        reading: u64,
+        reading: impl Into<Reading>,
         controller: &[u8],
         number: u64,
         rate: f64,
         draw: u64,
     ) -> Result<Shot, Refusal> {
         let settings = self.suppressed.settings;
+        let too_large = match reading.into().ticks(settings.clock_mode) {
+            Ok(reading) => return self.ask(settings, reading, controller, number, rate, draw),
+            Err(too_large) => too_large,
+        };
+        // without a window none gets to the limiter, and what number and table tell is told whatever the reading
+        match self.ask(Settings { window_seconds: 0, ..settings }, 0, controller, number, rate, draw) {
+            Err(Refusal::BadWindow) => Err(too_large),
+            told => told,
+        }
+    }
+
+    fn ask(
+        &mut self,
+        settings: Settings,
+        reading: u64,
+        controller: &[u8],
+        number: u64,
+        rate: f64,
+        draw: u64,
+    ) -> Result<Shot, Refusal> {
         let table = self.table.words_mut();
         let room = self.suppressed.room.words_mut();
         let mut row: Row = [0; 5];
@@ -74,6 +96,7 @@ impl Gateway {
                 settings.bucket_millis,
                 settings.cache_millis,
                 settings.hard_limit_factor,
+                settings.clock_mode.number(),
                 table.as_mut_ptr(),
                 table.len(),
                 room.as_mut_ptr(),
@@ -94,7 +117,7 @@ impl Gateway {
     pub fn new_season(&mut self) -> Result<(), Refusal> {
         let table = self.table.words_mut();
         let mut row: Row = [0; 5];
-        // SAFETY: as in `shot`.
+        // SAFETY: as in `ask`.
         unsafe { faces::frostaxle_gateway_new_season(table.as_mut_ptr(), table.len(), &mut row) };
         answer::values(row).map(|_| ())
     }

@@ -11,9 +11,10 @@
 //! # Ok::<(), frostaxle::Refusal>(())
 //! ```
 //!
-//! A reading is your clock in whole milliseconds, from any start; in one room it may not go back. A key is 0 to 32 bytes;
-//! a longer one is refused. A rate is per second; a key's limit is stored at its first increment or set. Every call
-//! returns: with its answer, or with a [`Refusal`], and then the room is as it was.
+//! A reading is your clock, from any start: a [`Duration`](std::time::Duration), or a number of ticks, which are
+//! milliseconds unless the settings' [`ClockMode`] says nanoseconds. In one room it may not go back. A key is 0 to 32
+//! bytes; a longer one is refused. A rate is per second; a key's limit is stored at its first increment or set. Every
+//! call returns: with its answer, or with a [`Refusal`], and then the room is as it was.
 //!
 //! A [`Gateway`] knows a controller's shots by their numbers: one that is sent again because its answer was lost is not
 //! admitted twice.
@@ -28,6 +29,7 @@
 //!     --out-dir target bindings/rust/examples/gateway.rs
 //! ```
 mod answer;
+mod clock;
 mod faces;
 mod gateway;
 mod limiters;
@@ -35,6 +37,7 @@ mod refusal;
 mod room;
 
 pub use answer::{Bucket, Comparator, Decision, Preservation, SetOutcome, Shot, Snapshot};
+pub use clock::{ClockMode, Reading};
 pub use gateway::Gateway;
 pub use limiters::{Absolute, Provider, Settings, Suppressed};
 pub use refusal::Refusal;

@@ -1,5 +1,6 @@
 //! The limiters over rooms that they own.
 use crate::answer::{self, Bucket, Comparator, Decision, Preservation, SetOutcome, Snapshot};
+use crate::clock::{ClockMode, Reading};
 use crate::faces::{self, Row};
 use crate::refusal::Refusal;
 use crate::room::Room;
@@ -15,18 +16,35 @@ pub struct Settings {
     pub cache_millis: u64,
     /// The hard limit over the soft one, finite and at least 1.
     pub hard_limit_factor: f64,
+    /// What a tick of readings and bucket times is.
+    pub clock_mode: ClockMode,
+}
+
+impl Settings {
+    /// The same with another clock mode.
+    pub fn clock_mode(self, clock_mode: ClockMode) -> Settings {
+        Settings { clock_mode, ..self }
+    }
 }
 
 impl Default for Settings {
     fn default() -> Self {
-        Settings { window_seconds: 10, bucket_millis: 100, cache_millis: 100, hard_limit_factor: 1.0 }
+        Settings {
+            window_seconds: 10,
+            bucket_millis: 100,
+            cache_millis: 100,
+            hard_limit_factor: 1.0,
+            clock_mode: ClockMode::Milliseconds,
+        }
     }
 }
 
-/// Calls a face with the settings, the room and the reading of `$self`, and gives the answer row.
+/// Calls a face with the settings and the room of `$self` and a reading, and gives the answer row. A reading that is too
+/// large is refused at once.
 macro_rules! call {
     ($self:ident, $face:ident, $reading:expr $(, $own:expr)*) => {{
         let settings = $self.settings;
+        let reading = Reading::ticks($reading.into(), settings.clock_mode)?;
         let room = $self.room.words_mut();
         let mut row: Row = [0; 5];
         // SAFETY: the face is proved to read and write only within the lent lengths, for any words and numbers. Each
@@ -37,9 +55,10 @@ macro_rules! call {
                 settings.bucket_millis,
                 settings.cache_millis,
                 settings.hard_limit_factor,
+                settings.clock_mode.number(),
                 room.as_mut_ptr(),
                 room.len(),
-                $reading,
+                reading,
                 $($own,)*
                 &mut row,
             )
@@ -85,6 +104,7 @@ macro_rules! shared {
                         settings.bucket_millis,
                         settings.cache_millis,
                         settings.hard_limit_factor,
+                        settings.clock_mode.number(),
                         room.as_ptr(),
                         room.len(),
                         key.as_ptr(),
@@ -97,25 +117,30 @@ macro_rules! shared {
             }
 
             /// Gives a known key another limit, and its old rate back; none for an unknown key.
-            pub fn set_rate_limit(&mut self, reading: u64, key: &[u8], rate: f64) -> Result<Option<f64>, Refusal> {
+            pub fn set_rate_limit(
+                &mut self,
+                reading: impl Into<Reading>,
+                key: &[u8],
+                rate: f64,
+            ) -> Result<Option<f64>, Refusal> {
                 let row = call!(self, $set_rate_limit, reading, key.as_ptr(), key.len(), rate);
                 Ok(answer::known(row)?.map(f64::from_bits))
             }
 
             /// Forgets a key, and gives what it had; none for an unknown key.
-            pub fn delete(&mut self, reading: u64, key: &[u8]) -> Result<Option<u64>, Refusal> {
+            pub fn delete(&mut self, reading: impl Into<Reading>, key: &[u8]) -> Result<Option<u64>, Refusal> {
                 answer::known(call!(self, $delete, reading, key.as_ptr(), key.len()))
             }
 
             /// Forgets every key.
-            pub fn clear(&mut self, reading: u64) -> Result<(), Refusal> {
+            pub fn clear(&mut self, reading: impl Into<Reading>) -> Result<(), Refusal> {
                 answer::values(call!(self, $clear, reading)).map(|_| ())
             }
 
             /// If the comparator is met, sets the key's limit and its total, in one bucket; count 0 forgets the key.
             pub fn set_if(
                 &mut self,
-                reading: u64,
+                reading: impl Into<Reading>,
                 key: &[u8],
                 rate: f64,
                 count: u64,
@@ -128,7 +153,7 @@ macro_rules! shared {
             /// The same, but the buckets stay: the difference is added to one end, or taken from the other.
             pub fn set_if_preserve_history(
                 &mut self,
-                reading: u64,
+                reading: impl Into<Reading>,
                 key: &[u8],
                 rate: f64,
                 count: u64,
@@ -151,7 +176,7 @@ macro_rules! shared {
             }
 
             /// Forgets keys without a bucket, or whose newest one is older than `stale` milliseconds.
-            pub fn cleanup(&mut self, reading: u64, stale: u64) -> Result<(), Refusal> {
+            pub fn cleanup(&mut self, reading: impl Into<Reading>, stale: u64) -> Result<(), Refusal> {
                 answer::values(call!(self, $cleanup, reading, stale)).map(|_| ())
             }
         }
@@ -167,17 +192,17 @@ pub struct Absolute {
 
 impl Absolute {
     /// Counts `count` for a key, where it is allowed.
-    pub fn inc(&mut self, reading: u64, key: &[u8], rate: f64, count: u64) -> Result<Decision, Refusal> {
+    pub fn inc(&mut self, reading: impl Into<Reading>, key: &[u8], rate: f64, count: u64) -> Result<Decision, Refusal> {
         answer::decision(call!(self, frostaxle_absolute_inc, reading, key.as_ptr(), key.len(), rate, count))
     }
 
     /// What an increment would be told now, without counting.
-    pub fn is_allowed(&mut self, reading: u64, key: &[u8]) -> Result<Decision, Refusal> {
+    pub fn is_allowed(&mut self, reading: impl Into<Reading>, key: &[u8]) -> Result<Decision, Refusal> {
         answer::decision(call!(self, frostaxle_absolute_is_allowed, reading, key.as_ptr(), key.len()))
     }
 
     /// A key's live total, 0 for an unknown key.
-    pub fn get(&mut self, reading: u64, key: &[u8]) -> Result<u64, Refusal> {
+    pub fn get(&mut self, reading: impl Into<Reading>, key: &[u8]) -> Result<u64, Refusal> {
         let [total, _, _] = answer::values(call!(self, frostaxle_absolute_get, reading, key.as_ptr(), key.len()))?;
         Ok(total)
     }
@@ -203,17 +228,24 @@ pub struct Suppressed {
 
 impl Suppressed {
     /// Counts, and decides by the forecast and `draw`, evenly drawn from 0 to 2^53 - 1.
-    pub fn inc(&mut self, reading: u64, key: &[u8], rate: f64, count: u64, draw: u64) -> Result<Decision, Refusal> {
+    pub fn inc(
+        &mut self,
+        reading: impl Into<Reading>,
+        key: &[u8],
+        rate: f64,
+        count: u64,
+        draw: u64,
+    ) -> Result<Decision, Refusal> {
         answer::decision(call!(self, frostaxle_suppressed_inc, reading, key.as_ptr(), key.len(), rate, count, draw))
     }
 
     /// A key's live totals and its factor; zeros for an unknown key.
-    pub fn get(&mut self, reading: u64, key: &[u8]) -> Result<Snapshot, Refusal> {
+    pub fn get(&mut self, reading: impl Into<Reading>, key: &[u8]) -> Result<Snapshot, Refusal> {
         answer::snapshot(call!(self, frostaxle_suppressed_get, reading, key.as_ptr(), key.len()))
     }
 
     /// A key's factor, which is cached; an unknown key takes a slot for it.
-    pub fn get_suppression_factor(&mut self, reading: u64, key: &[u8]) -> Result<f64, Refusal> {
+    pub fn get_suppression_factor(&mut self, reading: impl Into<Reading>, key: &[u8]) -> Result<f64, Refusal> {
         let [factor, _, _] =
             answer::values(call!(self, frostaxle_suppressed_get_suppression_factor, reading, key.as_ptr(), key.len()))?;
         Ok(f64::from_bits(factor))
@@ -252,8 +284,9 @@ impl Provider {
     }
 
     /// Cleans both rooms or neither.
-    pub fn cleanup(&mut self, reading: u64, stale: u64) -> Result<(), Refusal> {
+    pub fn cleanup(&mut self, reading: impl Into<Reading>, stale: u64) -> Result<(), Refusal> {
         let settings = self.absolute.settings;
+        let reading = reading.into().ticks(settings.clock_mode)?;
         let absolute = self.absolute.room.words_mut();
         let suppressed = self.suppressed.room.words_mut();
         let mut row: Row = [0; 5];
@@ -264,6 +297,7 @@ impl Provider {
                 settings.bucket_millis,
                 settings.cache_millis,
                 settings.hard_limit_factor,
+                settings.clock_mode.number(),
                 absolute.as_mut_ptr(),
                 absolute.len(),
                 suppressed.as_mut_ptr(),

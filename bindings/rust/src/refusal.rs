@@ -25,6 +25,9 @@ pub enum Refusal {
     BadNumber,
     OldNumber,
     TableFull,
+    /// A reading given as a [`Duration`](std::time::Duration) has 2^64 ticks or more. The binding tells this itself, so it
+    /// has no number; it goes before all refusals but those of a shot's own number and table.
+    ReadingTooLarge,
     /// A number, or with 0 a case of an answer, that this binding has no name for: it was made for another archive.
     Other(u64),
 }
@@ -53,7 +56,7 @@ impl Refusal {
         Refusal::NAMED.into_iter().find(|refusal| refusal.number() == number).unwrap_or(Refusal::Other(number))
     }
 
-    /// The refusal's number.
+    /// The refusal's number, 0 for one that has none.
     pub fn number(self) -> u64 {
         match self {
             Refusal::BadWindow => 1,
@@ -72,6 +75,7 @@ impl Refusal {
             Refusal::BadNumber => 19,
             Refusal::OldNumber => 20,
             Refusal::TableFull => 21,
+            Refusal::ReadingTooLarge => 0,
             Refusal::Other(number) => number,
         }
     }
@@ -94,6 +98,7 @@ impl Refusal {
             Refusal::BadNumber => "the shot's number is not 1 to 2^32 - 1",
             Refusal::OldNumber => "the shot's number is below the last admitted of its controller",
             Refusal::TableFull => "the controller is not in the table, which has 64",
+            Refusal::ReadingTooLarge => "the reading is a time of 2^64 ticks or more",
             Refusal::Other(_) => "an answer that this binding does not know",
         }
     }
@@ -101,7 +106,10 @@ impl Refusal {
 
 impl fmt::Display for Refusal {
     fn fmt(&self, f: &mut fmt::Formatter<'_>) -> fmt::Result {
-        write!(f, "{} (refusal {})", self.words(), self.number())
+        match self {
+            Refusal::ReadingTooLarge => f.write_str(self.words()),
+            _ => write!(f, "{} (refusal {})", self.words(), self.number()),
+        }
     }
 }
 
@@ -119,8 +127,10 @@ mod tests {
             assert_eq!(refusal.number(), number);
             assert!(refusal.to_string().ends_with(&format!("(refusal {number})")));
         }
-        for number in (15..=18).chain([13, 22]) {
+        for number in (15..=18).chain([0, 13, 22]) {
             assert_eq!(Refusal::of(number), Refusal::Other(number));
         }
+        assert_eq!(Refusal::ReadingTooLarge.number(), 0);
+        assert_eq!(Refusal::ReadingTooLarge.to_string(), "the reading is a time of 2^64 ticks or more");
     }
 }

@@ -304,7 +304,7 @@ fn settings_out_of_range() {
         refuses(Settings { hard_limit_factor, ..double() }, |_| (), call, Refusal::BadFactor);
     }
     // the lowest number is given
-    let all = Settings { window_seconds: 0, bucket_millis: 0, cache_millis: 0, hard_limit_factor: 0.0 };
+    let all = Settings { window_seconds: 0, bucket_millis: 0, cache_millis: 0, hard_limit_factor: 0.0, ..double() };
     refuses(all, |_| (), call, Refusal::BadWindow);
 }
 

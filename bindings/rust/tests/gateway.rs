@@ -99,7 +99,8 @@ fn a_lost_answer() {
 #[test]
 fn held_whatever_else() {
     let table = with(1).into_parts().0;
-    let settings = Settings { window_seconds: 0, bucket_millis: 0, cache_millis: 0, hard_limit_factor: f64::NAN };
+    let nothing = Settings { window_seconds: 0, bucket_millis: 0, cache_millis: 0, ..Settings::default() };
+    let settings = Settings { hard_limit_factor: f64::NAN, ..nothing };
     let mut gateway = Gateway::new(settings, table, Room::from_words(vec![1, 2]));
     assert_eq!(gateway.shot(0, &key(0), 5, f64::NAN, u64::MAX), Ok(Shot::Held));
     refuses(&mut gateway, 0, &key(0), 4, f64::NAN, u64::MAX, Refusal::OldNumber);

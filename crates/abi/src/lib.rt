@@ -130,6 +130,7 @@ pub extern "C" fn frostaxle_absolute_inc(
     bucket: u64,
     cache: u64,
     factor: f64,
+    clock: u64,
     room: &mut [u64],
     reading: u64,
     key: &[u8],
@@ -138,10 +139,10 @@ pub extern "C" fn frostaxle_absolute_inc(
     row: &mut [u64; 5],
 ) -> u64
     ensures { λ n. ⌜ Faced (shown decisionRow
-        (AbsoluteCalls.inc (settings window bucket cache factor) (now (room .entry)) reading (now (key .entry)) (rated rate) count)) n (now (row .exit))
+        (AbsoluteCalls.inc (settings window bucket cache factor clock) (now (room .entry)) reading (now (key .entry)) (rated rate) count)) n (now (row .exit))
         (now (room .exit)) ⌝ }
 {
-    let settings = inputs::settings(window, bucket, cache, factor);
+    let settings = inputs::settings(window, bucket, cache, factor, clock);
     let answer = absolute::inc(settings, room, reading, key, RateLimit(rate), count);
     rows::give(rows::decision_row(answer), row)
 }
@@ -153,16 +154,17 @@ pub extern "C" fn frostaxle_absolute_is_allowed(
     bucket: u64,
     cache: u64,
     factor: f64,
+    clock: u64,
     room: &mut [u64],
     reading: u64,
     key: &[u8],
     row: &mut [u64; 5],
 ) -> u64
     ensures { λ n. ⌜ Faced (shown decisionRow
-        (AbsoluteCalls.isAllowed (settings window bucket cache factor) (now (room .entry)) reading (now (key .entry)))) n (now (row .exit))
+        (AbsoluteCalls.isAllowed (settings window bucket cache factor clock) (now (room .entry)) reading (now (key .entry)))) n (now (row .exit))
         (now (room .exit)) ⌝ }
 {
-    let settings = inputs::settings(window, bucket, cache, factor);
+    let settings = inputs::settings(window, bucket, cache, factor, clock);
     let answer = absolute::is_allowed(settings, room, reading, key);
     rows::give(rows::decision_row(answer), row)
 }
@@ -174,15 +176,16 @@ pub extern "C" fn frostaxle_absolute_get(
     bucket: u64,
     cache: u64,
     factor: f64,
+    clock: u64,
     room: &mut [u64],
     reading: u64,
     key: &[u8],
     row: &mut [u64; 5],
 ) -> u64
-    ensures { λ n. ⌜ Faced (shown totalRow (AbsoluteCalls.get (settings window bucket cache factor) (now (room .entry)) reading (now (key .entry)))) n
+    ensures { λ n. ⌜ Faced (shown totalRow (AbsoluteCalls.get (settings window bucket cache factor clock) (now (room .entry)) reading (now (key .entry)))) n
         (now (row .exit)) (now (room .exit)) ⌝ }
 {
-    let settings = inputs::settings(window, bucket, cache, factor);
+    let settings = inputs::settings(window, bucket, cache, factor, clock);
     let answer = absolute::get(settings, room, reading, key);
     rows::give(rows::total_row(answer), row)
 }
@@ -193,16 +196,17 @@ pub extern "C" fn frostaxle_absolute_set_rate_limit(
     bucket: u64,
     cache: u64,
     factor: f64,
+    clock: u64,
     room: &mut [u64],
     reading: u64,
     key: &[u8],
     rate: f64,
     row: &mut [u64; 5],
 ) -> u64
-    ensures { λ n. ⌜ Faced (shown oldRateRow (setRateLimit Absolute (settings window bucket cache factor) (now (room .entry)) reading (now (key .entry))
+    ensures { λ n. ⌜ Faced (shown oldRateRow (setRateLimit Absolute (settings window bucket cache factor clock) (now (room .entry)) reading (now (key .entry))
         (rated rate))) n (now (row .exit)) (now (room .exit)) ⌝ }
 {
-    let settings = inputs::settings(window, bucket, cache, factor);
+    let settings = inputs::settings(window, bucket, cache, factor, clock);
     let answer = absolute::set_rate_limit(settings, room, reading, key, RateLimit(rate));
     rows::give(rows::old_rate_row(answer), row)
 }
@@ -213,15 +217,16 @@ pub extern "C" fn frostaxle_absolute_delete(
     bucket: u64,
     cache: u64,
     factor: f64,
+    clock: u64,
     room: &mut [u64],
     reading: u64,
     key: &[u8],
     row: &mut [u64; 5],
 ) -> u64
-    ensures { λ n. ⌜ Faced (shown deleteRow (Delete.delete Absolute (settings window bucket cache factor) (now (room .entry)) reading
+    ensures { λ n. ⌜ Faced (shown deleteRow (Delete.delete Absolute (settings window bucket cache factor clock) (now (room .entry)) reading
         (now (key .entry)))) n (now (row .exit)) (now (room .exit)) ⌝ }
 {
-    let settings = inputs::settings(window, bucket, cache, factor);
+    let settings = inputs::settings(window, bucket, cache, factor, clock);
     let answer = absolute::delete(settings, room, reading, key);
     rows::give(rows::delete_row(answer), row)
 }
@@ -232,14 +237,15 @@ pub extern "C" fn frostaxle_absolute_clear(
     bucket: u64,
     cache: u64,
     factor: f64,
+    clock: u64,
     room: &mut [u64],
     reading: u64,
     row: &mut [u64; 5],
 ) -> u64
-    ensures { λ n. ⌜ Faced (shown doneRow (Clear.clear (settings window bucket cache factor) (now (room .entry)) reading)) n (now (row .exit))
+    ensures { λ n. ⌜ Faced (shown doneRow (Clear.clear (settings window bucket cache factor clock) (now (room .entry)) reading)) n (now (row .exit))
         (now (room .exit)) ⌝ }
 {
-    let settings = inputs::settings(window, bucket, cache, factor);
+    let settings = inputs::settings(window, bucket, cache, factor, clock);
     let answer = absolute::clear(settings, room, reading);
     rows::give(rows::done_row(answer), row)
 }
@@ -250,6 +256,7 @@ pub extern "C" fn frostaxle_absolute_set_if(
     bucket: u64,
     cache: u64,
     factor: f64,
+    clock: u64,
     room: &mut [u64],
     reading: u64,
     key: &[u8],
@@ -259,10 +266,10 @@ pub extern "C" fn frostaxle_absolute_set_if(
     operand: u64,
     row: &mut [u64; 5],
 ) -> u64
-    ensures { λ n. ⌜ Faced (shownSet Absolute (settings window bucket cache factor) (now (room .entry)) reading (now (key .entry)) (rated rate)
+    ensures { λ n. ⌜ Faced (shownSet Absolute (settings window bucket cache factor clock) (now (room .entry)) reading (now (key .entry)) (rated rate)
         (comparisonOf comparator operand) count replacing) n (now (row .exit)) (now (room .exit)) ⌝ }
 {
-    let settings = inputs::settings(window, bucket, cache, factor);
+    let settings = inputs::settings(window, bucket, cache, factor, clock);
     let comparison = inputs::comparison_of(comparator, operand);
     let mode = Mode::Named(HistoryUpdateMode::Replace);
     set(
@@ -285,6 +292,7 @@ pub extern "C" fn frostaxle_absolute_set_if_preserve_history(
     bucket: u64,
     cache: u64,
     factor: f64,
+    clock: u64,
     room: &mut [u64],
     reading: u64,
     key: &[u8],
@@ -295,10 +303,10 @@ pub extern "C" fn frostaxle_absolute_set_if_preserve_history(
     preservation: u64,
     row: &mut [u64; 5],
 ) -> u64
-    ensures { λ n. ⌜ Faced (shownSet Absolute (settings window bucket cache factor) (now (room .entry)) reading (now (key .entry)) (rated rate)
+    ensures { λ n. ⌜ Faced (shownSet Absolute (settings window bucket cache factor clock) (now (room .entry)) reading (now (key .entry)) (rated rate)
         (comparisonOf comparator operand) count (preserving preservation)) n (now (row .exit)) (now (room .exit)) ⌝ }
 {
-    let settings = inputs::settings(window, bucket, cache, factor);
+    let settings = inputs::settings(window, bucket, cache, factor, clock);
     let comparison = inputs::comparison_of(comparator, operand);
     let mode = inputs::preserving(preservation);
     set(
@@ -322,15 +330,16 @@ pub extern "C" fn frostaxle_absolute_cleanup(
     bucket: u64,
     cache: u64,
     factor: f64,
+    clock: u64,
     room: &mut [u64],
     reading: u64,
     stale: u64,
     row: &mut [u64; 5],
 ) -> u64
-    ensures { λ n. ⌜ Faced (shown doneRow (Cleanup.cleanup Absolute (settings window bucket cache factor) (now (room .entry)) reading stale)) n
+    ensures { λ n. ⌜ Faced (shown doneRow (Cleanup.cleanup Absolute (settings window bucket cache factor clock) (now (room .entry)) reading stale)) n
         (now (row .exit)) (now (room .exit)) ⌝ }
 {
-    let settings = inputs::settings(window, bucket, cache, factor);
+    let settings = inputs::settings(window, bucket, cache, factor, clock);
     let answer = absolute::cleanup(settings, room, reading, stale);
     rows::give(rows::done_row(answer), row)
 }
@@ -344,6 +353,7 @@ pub extern "C" fn frostaxle_suppressed_inc(
     bucket: u64,
     cache: u64,
     factor: f64,
+    clock: u64,
     room: &mut [u64],
     reading: u64,
     key: &[u8],
@@ -353,10 +363,10 @@ pub extern "C" fn frostaxle_suppressed_inc(
     row: &mut [u64; 5],
 ) -> u64
     ensures { λ n. ⌜ Faced (shown decisionRow
-        (SuppressedCalls.inc (settings window bucket cache factor) (now (room .entry)) reading (now (key .entry)) (rated rate) count draw)) n
+        (SuppressedCalls.inc (settings window bucket cache factor clock) (now (room .entry)) reading (now (key .entry)) (rated rate) count draw)) n
         (now (row .exit)) (now (room .exit)) ⌝ }
 {
-    let settings = inputs::settings(window, bucket, cache, factor);
+    let settings = inputs::settings(window, bucket, cache, factor, clock);
     let answer = suppressed::inc(settings, room, reading, key, RateLimit(rate), count, draw);
     rows::give(rows::decision_row(answer), row)
 }
@@ -368,15 +378,16 @@ pub extern "C" fn frostaxle_suppressed_get(
     bucket: u64,
     cache: u64,
     factor: f64,
+    clock: u64,
     room: &mut [u64],
     reading: u64,
     key: &[u8],
     row: &mut [u64; 5],
 ) -> u64
-    ensures { λ n. ⌜ Faced (shown snapshotRow (SuppressedCalls.get (settings window bucket cache factor) (now (room .entry)) reading (now (key .entry)))) n
-        (now (row .exit)) (now (room .exit)) ⌝ }
+    ensures { λ n. ⌜ Faced (shown snapshotRow (SuppressedCalls.get (settings window bucket cache factor clock) (now (room .entry)) reading
+        (now (key .entry)))) n (now (row .exit)) (now (room .exit)) ⌝ }
 {
-    let settings = inputs::settings(window, bucket, cache, factor);
+    let settings = inputs::settings(window, bucket, cache, factor, clock);
     let answer = suppressed::get(settings, room, reading, key);
     rows::give(rows::snapshot_row(answer), row)
 }
@@ -388,15 +399,16 @@ pub extern "C" fn frostaxle_suppressed_get_suppression_factor(
     bucket: u64,
     cache: u64,
     factor: f64,
+    clock: u64,
     room: &mut [u64],
     reading: u64,
     key: &[u8],
     row: &mut [u64; 5],
 ) -> u64
-    ensures { λ n. ⌜ Faced (shown factorRow (SuppressedCalls.getFactor (settings window bucket cache factor) (now (room .entry)) reading
+    ensures { λ n. ⌜ Faced (shown factorRow (SuppressedCalls.getFactor (settings window bucket cache factor clock) (now (room .entry)) reading
         (now (key .entry)))) n (now (row .exit)) (now (room .exit)) ⌝ }
 {
-    let settings = inputs::settings(window, bucket, cache, factor);
+    let settings = inputs::settings(window, bucket, cache, factor, clock);
     let answer = suppressed::get_suppression_factor(settings, room, reading, key);
     rows::give(rows::factor_row(answer), row)
 }
@@ -407,16 +419,17 @@ pub extern "C" fn frostaxle_suppressed_set_rate_limit(
     bucket: u64,
     cache: u64,
     factor: f64,
+    clock: u64,
     room: &mut [u64],
     reading: u64,
     key: &[u8],
     rate: f64,
     row: &mut [u64; 5],
 ) -> u64
-    ensures { λ n. ⌜ Faced (shown oldRateRow (setRateLimit Suppressed (settings window bucket cache factor) (now (room .entry)) reading (now (key .entry))
+    ensures { λ n. ⌜ Faced (shown oldRateRow (setRateLimit Suppressed (settings window bucket cache factor clock) (now (room .entry)) reading (now (key .entry))
         (rated rate))) n (now (row .exit)) (now (room .exit)) ⌝ }
 {
-    let settings = inputs::settings(window, bucket, cache, factor);
+    let settings = inputs::settings(window, bucket, cache, factor, clock);
     let answer = suppressed::set_rate_limit(settings, room, reading, key, RateLimit(rate));
     rows::give(rows::old_rate_row(answer), row)
 }
@@ -427,15 +440,16 @@ pub extern "C" fn frostaxle_suppressed_delete(
     bucket: u64,
     cache: u64,
     factor: f64,
+    clock: u64,
     room: &mut [u64],
     reading: u64,
     key: &[u8],
     row: &mut [u64; 5],
 ) -> u64
-    ensures { λ n. ⌜ Faced (shown deleteRow (Delete.delete Suppressed (settings window bucket cache factor) (now (room .entry)) reading
+    ensures { λ n. ⌜ Faced (shown deleteRow (Delete.delete Suppressed (settings window bucket cache factor clock) (now (room .entry)) reading
         (now (key .entry)))) n (now (row .exit)) (now (room .exit)) ⌝ }
 {
-    let settings = inputs::settings(window, bucket, cache, factor);
+    let settings = inputs::settings(window, bucket, cache, factor, clock);
     let answer = suppressed::delete(settings, room, reading, key);
     rows::give(rows::delete_row(answer), row)
 }
@@ -446,14 +460,15 @@ pub extern "C" fn frostaxle_suppressed_clear(
     bucket: u64,
     cache: u64,
     factor: f64,
+    clock: u64,
     room: &mut [u64],
     reading: u64,
     row: &mut [u64; 5],
 ) -> u64
-    ensures { λ n. ⌜ Faced (shown doneRow (Clear.clear (settings window bucket cache factor) (now (room .entry)) reading)) n (now (row .exit))
+    ensures { λ n. ⌜ Faced (shown doneRow (Clear.clear (settings window bucket cache factor clock) (now (room .entry)) reading)) n (now (row .exit))
         (now (room .exit)) ⌝ }
 {
-    let settings = inputs::settings(window, bucket, cache, factor);
+    let settings = inputs::settings(window, bucket, cache, factor, clock);
     let answer = suppressed::clear(settings, room, reading);
     rows::give(rows::done_row(answer), row)
 }
@@ -464,6 +479,7 @@ pub extern "C" fn frostaxle_suppressed_set_if(
     bucket: u64,
     cache: u64,
     factor: f64,
+    clock: u64,
     room: &mut [u64],
     reading: u64,
     key: &[u8],
@@ -473,10 +489,10 @@ pub extern "C" fn frostaxle_suppressed_set_if(
     operand: u64,
     row: &mut [u64; 5],
 ) -> u64
-    ensures { λ n. ⌜ Faced (shownSet Suppressed (settings window bucket cache factor) (now (room .entry)) reading (now (key .entry)) (rated rate)
+    ensures { λ n. ⌜ Faced (shownSet Suppressed (settings window bucket cache factor clock) (now (room .entry)) reading (now (key .entry)) (rated rate)
         (comparisonOf comparator operand) count replacing) n (now (row .exit)) (now (room .exit)) ⌝ }
 {
-    let settings = inputs::settings(window, bucket, cache, factor);
+    let settings = inputs::settings(window, bucket, cache, factor, clock);
     let comparison = inputs::comparison_of(comparator, operand);
     let mode = Mode::Named(HistoryUpdateMode::Replace);
     set(
@@ -499,6 +515,7 @@ pub extern "C" fn frostaxle_suppressed_set_if_preserve_history(
     bucket: u64,
     cache: u64,
     factor: f64,
+    clock: u64,
     room: &mut [u64],
     reading: u64,
     key: &[u8],
@@ -509,10 +526,10 @@ pub extern "C" fn frostaxle_suppressed_set_if_preserve_history(
     preservation: u64,
     row: &mut [u64; 5],
 ) -> u64
-    ensures { λ n. ⌜ Faced (shownSet Suppressed (settings window bucket cache factor) (now (room .entry)) reading (now (key .entry)) (rated rate)
+    ensures { λ n. ⌜ Faced (shownSet Suppressed (settings window bucket cache factor clock) (now (room .entry)) reading (now (key .entry)) (rated rate)
         (comparisonOf comparator operand) count (preserving preservation)) n (now (row .exit)) (now (room .exit)) ⌝ }
 {
-    let settings = inputs::settings(window, bucket, cache, factor);
+    let settings = inputs::settings(window, bucket, cache, factor, clock);
     let comparison = inputs::comparison_of(comparator, operand);
     let mode = inputs::preserving(preservation);
     set(
@@ -536,15 +553,16 @@ pub extern "C" fn frostaxle_suppressed_cleanup(
     bucket: u64,
     cache: u64,
     factor: f64,
+    clock: u64,
     room: &mut [u64],
     reading: u64,
     stale: u64,
     row: &mut [u64; 5],
 ) -> u64
-    ensures { λ n. ⌜ Faced (shown doneRow (Cleanup.cleanup Suppressed (settings window bucket cache factor) (now (room .entry)) reading stale)) n
+    ensures { λ n. ⌜ Faced (shown doneRow (Cleanup.cleanup Suppressed (settings window bucket cache factor clock) (now (room .entry)) reading stale)) n
         (now (row .exit)) (now (room .exit)) ⌝ }
 {
-    let settings = inputs::settings(window, bucket, cache, factor);
+    let settings = inputs::settings(window, bucket, cache, factor, clock);
     let answer = suppressed::cleanup(settings, room, reading, stale);
     rows::give(rows::done_row(answer), row)
 }
@@ -558,16 +576,17 @@ pub extern "C" fn frostaxle_provider_cleanup(
     bucket: u64,
     cache: u64,
     factor: f64,
+    clock: u64,
     absolute: &mut [u64],
     suppressed: &mut [u64],
     reading: u64,
     stale: u64,
     row: &mut [u64; 5],
 ) -> u64
-    ensures { λ n. ⌜ Faced (shownBoth (Provider.cleanup (settings window bucket cache factor) (now (absolute .entry))
+    ensures { λ n. ⌜ Faced (shownBoth (Provider.cleanup (settings window bucket cache factor clock) (now (absolute .entry))
         (now (suppressed .entry)) reading stale)) n (now (row .exit)) (now (absolute .exit), now (suppressed .exit)) ⌝ }
 {
-    let settings = inputs::settings(window, bucket, cache, factor);
+    let settings = inputs::settings(window, bucket, cache, factor, clock);
     let answer = provider::cleanup(settings, absolute, suppressed, reading, stale);
     rows::give(rows::done_row(answer), row)
 }
@@ -593,6 +612,7 @@ pub extern "C" fn frostaxle_gateway_shot(
     bucket: u64,
     cache: u64,
     factor: f64,
+    clock: u64,
     table: &mut [u64],
     room: &mut [u64],
     reading: u64,
@@ -602,10 +622,10 @@ pub extern "C" fn frostaxle_gateway_shot(
     draw: u64,
     row: &mut [u64; 5],
 ) -> u64
-    ensures { λ n. ⌜ Faced (shownGateway (Gateway.shot (settings window bucket cache factor) (now (table .entry)) (now (room .entry)) reading
+    ensures { λ n. ⌜ Faced (shownGateway (Gateway.shot (settings window bucket cache factor clock) (now (table .entry)) (now (room .entry)) reading
         (now (controller .entry)) number (rated rate) draw)) n (now (row .exit)) (now (table .exit), now (room .exit)) ⌝ }
 {
-    let s = inputs::settings(window, bucket, cache, factor);
+    let s = inputs::settings(window, bucket, cache, factor, clock);
     let rated = RateLimit(rate);
     let answer = gateway::shot(s, table, room, reading, controller, number, rated, draw);
     rows::give(rows::shot_row(answer), row)
@@ -646,14 +666,15 @@ pub extern "C" fn frostaxle_absolute_bucket(
     bucket: u64,
     cache: u64,
     factor: f64,
+    clock: u64,
     room: &[u64],
     key: &[u8],
     at: usize,
     row: &mut [u64; 5],
 ) -> u64
-    ensures { λ n. ⌜ Given (bucketRow Absolute (settings window bucket cache factor) (now (room .entry)) (now (key .entry)) at) n (now (row .exit)) ⌝ }
+    ensures { λ n. ⌜ Given (bucketRow Absolute (settings window bucket cache factor clock) (now (room .entry)) (now (key .entry)) at) n (now (row .exit)) ⌝ }
 {
-    let settings = inputs::settings(window, bucket, cache, factor);
+    let settings = inputs::settings(window, bucket, cache, factor, clock);
     rows::give(bucket_row(RoomKind::Absolute, settings, room, key, at), row)
 }
 
@@ -663,14 +684,15 @@ pub extern "C" fn frostaxle_suppressed_bucket(
     bucket: u64,
     cache: u64,
     factor: f64,
+    clock: u64,
     room: &[u64],
     key: &[u8],
     at: usize,
     row: &mut [u64; 5],
 ) -> u64
-    ensures { λ n. ⌜ Given (bucketRow Suppressed (settings window bucket cache factor) (now (room .entry)) (now (key .entry)) at) n (now (row .exit)) ⌝ }
+    ensures { λ n. ⌜ Given (bucketRow Suppressed (settings window bucket cache factor clock) (now (room .entry)) (now (key .entry)) at) n (now (row .exit)) ⌝ }
 {
-    let settings = inputs::settings(window, bucket, cache, factor);
+    let settings = inputs::settings(window, bucket, cache, factor, clock);
     rows::give(
         bucket_row(RoomKind::Suppressed, settings, room, key, at),
         row,

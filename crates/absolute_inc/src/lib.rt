@@ -23,27 +23,28 @@ pub fn inc(
 ) -> RateLimitDecision
     ensures { λ r. ⌜ Told (Calls.inc settings (now (room .entry)) reading (now (key .entry)) rate count) r (now (room .exit)) ⌝ }
 {
-    let window = settings.window_size;
-    let bucket = settings.bucket_size;
     let fault = judge::fault(settings, room);
     if fault != 0 {
         return RateLimitDecision::Refused(fault);
     }
-    let x = opened::open_at(room, judge::address(room, key), reading, window.0);
+    let window = settings.window_ticks();
+    let x = opened::open_at(room, judge::address(room, key), reading, window);
     let misfit = judge::misfit(RoomKind::Absolute, settings, room, reading, key, x);
     if misfit != 0 {
         return RateLimitDecision::Refused(misfit);
     }
     let at = plan::place(room, x);
     let limit = common::cut_limit(x.limit);
-    let may = allows(limit, x);
-    let out = clears(room, limit, bucket.0, reading, count, x);
-    let number = late(room, bucket.0, reading, rate, count, at, may, out, x);
+    let looked = opened::first_look(settings.look_ticks(), reading, x);
+    let may = allows(limit, looked);
+    let join = settings.join_ticks();
+    let out = clears(room, limit, join, reading, count, x);
+    let number = late(room, join, reading, rate, count, at, may, out, x);
     if number != 0 {
         return RateLimitDecision::Refused(number);
     }
-    let answer = decided(window, reading, may, x);
-    let change = inc_change(rate, window, count, may, out, x);
-    change::apply(room, at, key, bucket.0, reading, change);
+    let answer = decided(settings, reading, may, looked);
+    let change = inc_change(rate, settings.window_size, count, may, out, x, looked);
+    change::apply(room, at, key, join, reading, change);
     answer
 }

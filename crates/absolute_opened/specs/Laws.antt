@@ -10,10 +10,10 @@ use Rattle.plan.specs.Plan.{evicting, opening}
 use Rattle.absolute_opened.specs.Opened.{leaving, pickChange, incChange}
 
 -- a known key that is allowed
-pub counts-change : (limit c : ℕ) (may out : Bool) (x : Slot) → x .series ≡ true → may ≡ true →
-    incChange limit c may out x ≡ Update (leaving out x (Increment c 0))
+pub counts-change : (limit c : ℕ) (may out : Bool) (x y : Slot) → x .series ≡ true → may ≡ true →
+    incChange limit c may out x y ≡ Update (leaving out x (Increment c 0))
 unfolding incChange
-counts-change limit c may out x e f =
-    ap (λ (y : Bool). pickChange y (pickChange may (Update (leaving out x (Increment c 0))) (Update (evicting x Nothing)))
+counts-change limit c may out x y e f =
+    ap (λ (z : Bool). pickChange z (pickChange may (Update (leaving out x (Increment c 0))) (Update (evicting y Nothing)))
     (Take (opening limit (Increment c 0) 0 0 1))) e ∙
-    ap (λ (y : Bool). pickChange y (Update (leaving out x (Increment c 0))) (Update (evicting x Nothing))) f
+    ap (λ (z : Bool). pickChange z (Update (leaving out x (Increment c 0))) (Update (evicting y Nothing))) f

@@ -1,5 +1,5 @@
 -- An absolute increment's late refusals, and what each call changes, as the code decides them on a key's slot x that is opened at
--- reading t; n is the key's limit cut to a whole number, r the ring, b the bucket size, c the count. They are the rules'
+-- reading t; n is the key's limit cut to a whole number, r the ring, b the longest age that joins, c the count. They are the rules'
 -- (`absolute_verdicts/specs/Seen.antt`), and no contract of a call names them but for the edits.
 -- Assumes nothing.
 use mathlib.Core.Bool.{Bool, true, false, not, _&&_, _||_}
@@ -51,9 +51,9 @@ getChange x = pickChange (x .series) (Update (evicting x Nothing)) Keep
 abbrev pub askChange : Bool → Slot → Change
 askChange again x = pickChange again (getChange x) Keep
 
--- `inc`: an unknown key's series begins ("Limit = rate * W, stored at the key's first increment"); a rejection leaves the live buckets
-unfoldable pub incChange : ℕ → ℕ → Bool → Bool → Slot → Change
-incChange limit c may out x =
+-- `inc`: an unknown key's series begins ("Limit = rate * W, stored at the key's first increment"); a rejection leaves what the first look does, which is y
+unfoldable pub incChange : ℕ → ℕ → Bool → Bool → Slot → Slot → Change
+incChange limit c may out x y =
     pickChange (x .series)
-    (pickChange may (Update (leaving out x (Increment c 0))) (Update (evicting x Nothing)))
+    (pickChange may (Update (leaving out x (Increment c 0))) (Update (evicting y Nothing)))
     (Take (opening limit (Increment c 0) 0 0 1))

@@ -128,7 +128,7 @@ pub fn ask_change(again: bool, x: Slot) -> Change
     get_change(x)
 }
 
-// What `inc` changes: a series begins, or counts, or loses its expired buckets to a rejection.
+// What `inc` changes: a series begins, or counts, or loses to a rejection what the first look finds expired; `looked` is the slot as it leaves it.
 pub fn inc_change(
     rate: RateLimit,
     window: WindowSize,
@@ -136,8 +136,9 @@ pub fn inc_change(
     may: bool,
     out: bool,
     x: Slot,
+    looked: Slot,
 ) -> Change
-    ensures { λ r. ⌜ r ≡ incChange (absoluteWord (rate .0) (window .0)) count may out x ⌝ }
+    ensures { λ r. ⌜ r ≡ incChange (absoluteWord (rate .0) (window .0)) count may out x looked ⌝ }
 {
     let series = x.series;
     let then = Then::Increment { count, declined: 0 };
@@ -146,7 +147,7 @@ pub fn inc_change(
         return Change::Take(plan::opening(limit, then, 0, 0, layout::SERIES));
     }
     if !may {
-        return Change::Update(plan::evicting(x, Then::Nothing));
+        return Change::Update(plan::evicting(looked, Then::Nothing));
     }
     Change::Update(leaving(out, x, then))
 }

@@ -16,7 +16,6 @@ use settings::Settings;
 pub fn get(settings: Settings, room: &mut [u64], reading: u64, key: &[u8]) -> TotalAnswer
     ensures { λ r. ⌜ Told (Calls.get settings (now (room .entry)) reading (now (key .entry))) r (now (room .exit)) ⌝ }
 {
-    let bucket = settings.bucket_size;
     let j = judge::judge(RoomKind::Absolute, settings, room, reading, key);
     let code = j.code;
     if code != 0 {
@@ -24,7 +23,8 @@ pub fn get(settings: Settings, room: &mut [u64], reading: u64, key: &[u8]) -> To
     }
     let x = j.slot;
     let pass = x.pass;
-    change::apply(room, x.at, key, bucket.0, reading, get_change(x));
+    let join = settings.join_ticks();
+    change::apply(room, x.at, key, join, reading, get_change(x));
     TotalAnswer::Total(pass.live_total)
 }
 
@@ -37,8 +37,6 @@ pub fn is_allowed(
 ) -> RateLimitDecision
     ensures { λ r. ⌜ Told (Calls.isAllowed settings (now (room .entry)) reading (now (key .entry))) r (now (room .exit)) ⌝ }
 {
-    let window = settings.window_size;
-    let bucket = settings.bucket_size;
     let j = judge::judge(RoomKind::Absolute, settings, room, reading, key);
     let code = j.code;
     if code != 0 {
@@ -46,8 +44,10 @@ pub fn is_allowed(
     }
     let x = j.slot;
     let limit = common::cut_limit(x.limit);
-    let answer = decided(window, reading, allows(limit, x), x);
+    let looked = opened::first_look(settings.look_ticks(), reading, x);
+    let answer = decided(settings, reading, allows(limit, looked), looked);
     let again = evicts(limit, x);
-    change::apply(room, x.at, key, bucket.0, reading, ask_change(again, x));
+    let join = settings.join_ticks();
+    change::apply(room, x.at, key, join, reading, ask_change(again, looked));
     answer
 }

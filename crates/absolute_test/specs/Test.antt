@@ -7,7 +7,7 @@ use lib.Dec.{ltb}
 use Rattle.answers.specs.declared.RateLimitDecision.{RateLimitDecision}
 use Rattle.answers.specs.declared.RateLimitDecision.the-variants.{Allowed, Rejected}
 use Rattle.common.specs.declared.units.WindowSize.{WindowSize}
-use Rattle.rules.specs.Buckets.{windowTicks}
+use Rattle.settings.specs.Clock.{ageInMilliseconds, windowInMilliseconds}
 use Rattle.rules.specs.Absolute.{below, pickDecision}
 use Rattle.opened.specs.declared.Slot.{Slot}
 
@@ -27,11 +27,12 @@ evicts n x = not (below n (x .total))
 unfoldable pub allowedAt : ℕ → Slot → Bool
 allowedAt n x = not (x .series) || below n (totalIf (evicts n x) x)
 
-unfoldable pub rejectedAt : WindowSize → ℕ → Slot → RateLimitDecision
-rejectedAt window t x =
+-- k is the number of ticks in a millisecond
+unfoldable pub rejectedAt : ℕ → WindowSize → ℕ → Slot → RateLimitDecision
+rejectedAt k window t x =
     pickDecision (ltb (x .pass .expired) (x .pass .buckets))
-    (Rejected window (windowTicks (window .0) - (t - x .pass .oldest .time)) (x .pass .oldest .count))
+    (Rejected window (windowInMilliseconds (window .0) - ageInMilliseconds k t (x .pass .oldest .time)) (x .pass .oldest .count))
     (Rejected window 0 0)
 
-unfoldable pub decidedAt : WindowSize → ℕ → Bool → Slot → RateLimitDecision
-decidedAt window t may x = pickDecision may Allowed (rejectedAt window t x)
+unfoldable pub decidedAt : ℕ → WindowSize → ℕ → Bool → Slot → RateLimitDecision
+decidedAt k window t may x = pickDecision may Allowed (rejectedAt k window t x)

@@ -1,11 +1,13 @@
 // The absolute limiter's test on a key's slot as a value: who is allowed, and what a rejection says.
 ghost use mathlib.Core.Path.{_≡_};
 ghost use Prim.Native.Nat.{_≤_};
+ghost use Rattle.settings.specs.Settings.{windowIn};
+ghost use Rattle.settings.specs.Clock.{ticksIn};
 ghost use Rattle.rules.specs.Absolute.{below};
 ghost use Rattle.absolute_test.specs.Test.{goneIf, totalIf, evicts, allowedAt, rejectedAt, decidedAt};
 use answers::RateLimitDecision;
-use common::WindowSize;
 use opened::Slot;
+use settings::Settings;
 
 // How many buckets are gone, where the expired ones are out or not.
 pub fn gone_if(out: bool, x: Slot) -> usize
@@ -52,11 +54,13 @@ pub fn allows(limit: u64, x: Slot) -> bool
     is_below(limit, total_if(evicts(limit, x), x))
 }
 
-// A rejection, with the wait for the oldest live bucket and its count.
-fn rejected(window: WindowSize, reading: u64, x: Slot) -> RateLimitDecision
-    requires { ⌜ window .0 ≤ 33554432 ⌝ }
-    ensures { λ r. ⌜ r ≡ rejectedAt window reading x ⌝ }
+// A rejection, with the wait for the oldest bucket that is left and its count; the wait is in milliseconds.
+fn rejected(settings: Settings, reading: u64, x: Slot) -> RateLimitDecision
+    requires { ⌜ windowIn settings ≤ 33554432 ⌝ }
+    ensures { λ r. ⌜ r ≡ rejectedAt (ticksIn settings) (settings .«window_size») reading x ⌝ }
 {
+    let window = settings.window_size;
+    let clock = settings.clock_mode;
     let pass = x.pass;
     let buckets = pass.buckets;
     let expired = pass.expired;
@@ -71,20 +75,20 @@ fn rejected(window: WindowSize, reading: u64, x: Slot) -> RateLimitDecision
     RateLimitDecision::Rejected {
         window_size: window,
         retry_after: ring::less(
-            second::TICKS_PER_SECOND * window.0,
-            ring::less(reading, oldest.time),
+            settings::MILLISECONDS_PER_SECOND * window.0,
+            ring::less(reading, oldest.time) / clock.ticks_per_millisecond(),
         ),
         remaining_after_waiting: oldest.count,
     }
 }
 
 // The decision of a key that may or may not.
-pub fn decided(window: WindowSize, reading: u64, may: bool, x: Slot) -> RateLimitDecision
-    requires { ⌜ window .0 ≤ 33554432 ⌝ }
-    ensures { λ r. ⌜ r ≡ decidedAt window reading may x ⌝ }
+pub fn decided(settings: Settings, reading: u64, may: bool, x: Slot) -> RateLimitDecision
+    requires { ⌜ windowIn settings ≤ 33554432 ⌝ }
+    ensures { λ r. ⌜ r ≡ decidedAt (ticksIn settings) (settings .«window_size») reading may x ⌝ }
 {
     if may {
         return RateLimitDecision::Allowed;
     }
-    rejected(window, reading, x)
+    rejected(settings, reading, x)
 }

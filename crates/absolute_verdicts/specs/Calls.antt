@@ -3,7 +3,7 @@
 -- Assumes nothing.
 use mathlib.Core.List.{List, []}
 use Prim.Native.Nat.{ℕ}
-use Rattle.settings.specs.Settings.{bucketIn}
+use Rattle.settings.specs.Clock.{joinTicks}
 use Rattle.settings.specs.declared.Settings.{Settings}
 use Rattle.answers.specs.declared.RateLimitDecision.{RateLimitDecision}
 use Rattle.answers.specs.declared.RateLimitDecision.the-variants as decision
@@ -17,7 +17,7 @@ use Rattle.rules.specs.Absolute.{testsAgain, wholeLimit, allowed, decided, outF
 use Rattle.room.specs.Room.{ringOf}
 use Rattle.change.specs.Words.{applied}
 use Rattle.judge.specs.Held.{heldIn, noneFree}
-use Rattle.judge.specs.Judge.{slotIn}
+use Rattle.judge.specs.Judge.{slotIn, lookedIn}
 use Rattle.judge.specs.Verdict.{Verdict, verdict, call}
 use Rattle.plan.specs.Plan.{placeOf}
 use Rattle.absolute_opened.specs.Opened.{getChange, askChange, incChange}
@@ -27,14 +27,15 @@ unfoldable pub get : Settings → List ℕ → ℕ → List ℕ → Verdict Tota
 get s w t key =
     let x = slotIn s w t key in
     call total.Refused Absolute s w t key []
-    (verdict (total.Total (counts (liveOf s t (heldIn w key)))) (applied w (x .at) key (bucketIn s) t (getChange x)))
+    (verdict (total.Total (counts (liveOf s t (heldIn w key)))) (applied w (x .at) key (joinTicks s) t (getChange x)))
 
 unfoldable pub isAllowed : Settings → List ℕ → ℕ → List ℕ → Verdict RateLimitDecision
 isAllowed s w t key =
     let h = heldIn w key in
     let x = slotIn s w t key in
     call decision.Refused Absolute s w t key []
-    (verdict (decided s t h) (applied w (x .at) key (bucketIn s) t (askChange (testsAgain (wholeLimit h) (h .buckets)) x)))
+    (verdict (decided s t h)
+    (applied w (x .at) key (joinTicks s) t (askChange (testsAgain (wholeLimit h) (h .buckets)) (lookedIn s w t key))))
 
 -- by c at rate
 unfoldable pub inc : Settings → List ℕ → ℕ → List ℕ → RateLimit → ℕ → Verdict RateLimitDecision
@@ -43,4 +44,5 @@ inc s w t key rate c =
     let x = slotIn s w t key in
     call decision.Refused Absolute s w t key (incTurns s (ringOf w) (noneFree w) t rate c h)
     (verdict (decided s t h)
-    (applied w (placeOf w x) key (bucketIn s) t (incChange (limitIn Absolute s rate) c (allowed s t h) (outFor s (ringOf w) t c h) x)))
+    (applied w (placeOf w x) key (joinTicks s) t
+    (incChange (limitIn Absolute s rate) c (allowed s t h) (outFor s (ringOf w) t c h) x (lookedIn s w t key))))

@@ -3,17 +3,16 @@
 use mathlib.Core.Path.{_≡_, refl, sym, ap, ap₂, subst, _∙_}
 use mathlib.Core.Bool.{Bool, true, false, not, _&&_, cond, false≢true}
 use mathlib.Core.List.{List}
-use Prim.Native.Nat.{ℕ, _+_, _-_, _≤_, _<_}
+use Prim.Native.Nat.{ℕ, _+_, _-_, _<_}
 use native.Mathlib.Omega.{arith}
-use lib.ListN.{length, drop, length-drop}
+use lib.ListN.{length, drop}
 use lib.Dec.{leb, ltb}
-use borrow.Author.Tests.{ltb-true, ltb-false, leb-false, lt-ltb, le-ltb}
-use Rattle.base.specs.Decides.{and-true}
+use borrow.Author.Tests.{ltb-true, ltb-false, leb-false}
 use Rattle.common.specs.Limits.{cutWord}
 use Rattle.common.specs.Refusals.{first, all-false}
-use Rattle.settings.specs.Settings.{bucketIn}
+use Rattle.settings.specs.Clock.{lookTicks, joinTicks}
 use Rattle.settings.specs.declared.Settings.{Settings}
-use Rattle.rules.specs.Buckets.{newest, joins}
+use Rattle.rules.specs.Buckets.{newest}
 use Rattle.ring.specs.declared.Bucket.{Bucket}
 use Rattle.layout.specs.Layout.{mostTotal}
 use Rattle.ring.specs.Ring.{counts, sumOf, buckets}
@@ -26,11 +25,13 @@ use Rattle.edit.specs.Bodies.{Fits}
 use Rattle.rules.specs.declared.RoomKind.the-variants.{Absolute}
 use Rattle.opened.specs.declared.Slot.{Slot}
 use Rattle.opened.specs.Sound.{addressed}
-use Rattle.judge.specs.Judge.{Passed, slotIn}
+use Rattle.opened.specs.Look.{look-series}
+use Rattle.judge.specs.Judge.{Passed, slotIn, lookedIn}
 use Rattle.plan.specs.Plan.{placeOf, lacksAt, fullAfter, evicting, opening}
+use Rattle.plan.specs.Looked.{known-looked}
 use Rattle.plan.specs.Seen.{full-after}
 use Rattle.plan.specs.Known.{Known, found, none, series-known, keeping-edits, evicting-edits, opening-edits}
-use Rattle.rules.specs.Both.{passes, ringFull}
+use Rattle.rules.specs.Both.{overdue, passes, ringFull}
 use Rattle.absolute_verdicts.specs.Opened.{mayIn}
 use Rattle.absolute_verdicts.specs.Seen.{has-series}
 use Rattle.absolute_opened.specs.Opened.{leaving, incRefusals, pickChange, getChange, askChange, incChange}
@@ -63,34 +64,46 @@ module _ (s : Settings) (w : List ℕ) (t : ℕ) (key : List ℕ) (p : Passed Ab
       go true h = ltb-true _ _ h
       go false h = absurd (false≢true (sym (ap (λ (y : Slot). y .series) (none Absolute s w t key p (ltb-false _ _ h))) ∙ e))
 
-  pub known : slotIn s w t key .series ≡ true → Known Absolute s w t (addressed w key) (slotIn s w t key)
+  pub known : slotIn s w t key .series ≡ true → Known Absolute s w t (addressed w key) true (slotIn s w t key)
   known e = series-known Absolute s w t (addressed w key) (slotIn s w t key) (found Absolute s w t key p (known-inside e)) (p .later) e
 
-  -- taking the expired buckets out
-  pub evict-applies : slotIn s w t key .series ≡ true → Applies w (slotIn s w t key .at) (bucketIn s) t (Update (evicting (slotIn s w t key) Nothing))
-  evict-applies e =
-      let k = known e in
-      subst (λ (n : ℕ). EditsAt w n (bucketIn s) t (evicting (slotIn s w t key) Nothing)) (sym (k .at-is))
-      (evicting-edits Absolute s w t (addressed w key) (slotIn s w t key) (p .room) k (bucketIn s) (evicting (slotIn s w t key) Nothing) refl refl refl refl tt)
+  -- taking the expired buckets out, of the slot as it is or as a first look leaves it
+  evicts-at : (out : Bool) (x : Slot) → (slotIn s w t key .series ≡ true → Known Absolute s w t (addressed w key) out x) →
+      slotIn s w t key .series ≡ true → Applies w (slotIn s w t key .at) (joinTicks s) t (Update (evicting x Nothing))
+  evicts-at out x f e =
+      subst (λ (n : ℕ). EditsAt w n (joinTicks s) t (evicting x Nothing)) (sym (known e .at-is))
+      (evicting-edits Absolute s w t (addressed w key) out x (p .room) (f e) (joinTicks s) (evicting x Nothing) refl refl refl refl tt)
+
+  pub evict-applies : slotIn s w t key .series ≡ true → Applies w (slotIn s w t key .at) (joinTicks s) t (Update (evicting (slotIn s w t key) Nothing))
+  evict-applies = evicts-at true (slotIn s w t key) known
+
+  pub known-look : slotIn s w t key .series ≡ true →
+      Known Absolute s w t (addressed w key) (overdue s t (buckets (ringOf w) (bodyOf w (addressed w key)))) (lookedIn s w t key)
+  known-look e = known-looked Absolute s w t (addressed w key) (slotIn s w t key) (known e)
+
+  pub look-applies : slotIn s w t key .series ≡ true → Applies w (slotIn s w t key .at) (joinTicks s) t (Update (evicting (lookedIn s w t key) Nothing))
+  look-applies = evicts-at (overdue s t (buckets (ringOf w) (bodyOf w (addressed w key)))) (lookedIn s w t key) known-look
 
   -- where it is said, or nothing
-  picked-applies : (y : Bool) → (y ≡ true → slotIn s w t key .series ≡ true) →
-      Applies w (slotIn s w t key .at) (bucketIn s) t (pickChange y (Update (evicting (slotIn s w t key) Nothing)) Keep)
-  picked-applies true f = evict-applies (f refl)
-  picked-applies false f = p .room
+  picked-applies : (x : Slot) (y : Bool) → (y ≡ true → Applies w (slotIn s w t key .at) (joinTicks s) t (Update (evicting x Nothing))) →
+      Applies w (slotIn s w t key .at) (joinTicks s) t (pickChange y (Update (evicting x Nothing)) Keep)
+  picked-applies x true f = f refl
+  picked-applies x false f = p .room
 
-  pub get-applies : Applies w (slotIn s w t key .at) (bucketIn s) t (getChange (slotIn s w t key))
+  pub get-applies : Applies w (slotIn s w t key .at) (joinTicks s) t (getChange (slotIn s w t key))
   unfolding getChange
-  get-applies = picked-applies (slotIn s w t key .series) (λ e. e)
+  get-applies = picked-applies (slotIn s w t key) (slotIn s w t key .series) evict-applies
 
-  pub ask-applies : (again : Bool) → Applies w (slotIn s w t key .at) (bucketIn s) t (askChange again (slotIn s w t key))
-  ask-applies true = get-applies
+  pub ask-applies : (again : Bool) → Applies w (slotIn s w t key .at) (joinTicks s) t (askChange again (lookedIn s w t key))
+  unfolding getChange
+  ask-applies true =
+      picked-applies (lookedIn s w t key) (lookedIn s w t key .series) (λ e. look-applies (sym (look-series (lookTicks s) t (slotIn s w t key)) ∙ e))
   ask-applies false = p .room
 
   -- an increment that is not refused, with the expired buckets out or not
   pub leaving-applies : (c : ℕ) (out : Bool) → slotIn s w t key .series ≡ true → passes c (totalIf out (slotIn s w t key)) ≡ false →
-      fullAfter (ringOf w) (bucketIn s) t (goneIf out (slotIn s w t key)) (slotIn s w t key) ≡ false →
-      EditsAt w (addressed w key) (bucketIn s) t (leaving out (slotIn s w t key) (Increment c 0))
+      fullAfter (ringOf w) (joinTicks s) t (goneIf out (slotIn s w t key)) (slotIn s w t key) ≡ false →
+      EditsAt w (addressed w key) (joinTicks s) t (leaving out (slotIn s w t key) (Increment c 0))
   leaving-applies c out e o f = go out o f
     where
       xs : List Bucket
@@ -100,27 +113,27 @@ module _ (s : Settings) (w : List ℕ) (t : ℕ) (key : List ℕ) (p : Passed Ab
       n = known e .measured .buckets-are ∙ sym (view-length (ringOf w) (bodyOf w (addressed w key)))
 
       go : (z : Bool) → passes c (totalIf z (slotIn s w t key)) ≡ false →
-          fullAfter (ringOf w) (bucketIn s) t (goneIf z (slotIn s w t key)) (slotIn s w t key) ≡ false →
-          EditsAt w (addressed w key) (bucketIn s) t (leaving z (slotIn s w t key) (Increment c 0))
+          fullAfter (ringOf w) (joinTicks s) t (goneIf z (slotIn s w t key)) (slotIn s w t key) ≡ false →
+          EditsAt w (addressed w key) (joinTicks s) t (leaving z (slotIn s w t key) (Increment c 0))
       go true o f =
           let k = known e in
-          evicting-edits Absolute s w t (addressed w key) (slotIn s w t key) (p .room) k (bucketIn s)
+          evicting-edits Absolute s w t (addressed w key) true (slotIn s w t key) (p .room) k (joinTicks s)
           (evicting (slotIn s w t key) (Increment c 0)) refl refl refl refl
-          (fits-after (ringOf w) (bucketIn s) t c (slotIn s w t key .pass .expired) (slotIn s w t key) (buckets (ringOf w) (bodyOf w (addressed w key))) n
+          (fits-after (ringOf w) (joinTicks s) t c (slotIn s w t key .pass .expired) (slotIn s w t key) (buckets (ringOf w) (bodyOf w (addressed w key))) n
           (k .measured .newest-is) (ap (passes c) (sym (k .measured .total)) ∙ o) f)
       go false o f =
           let k = known e in
-          keeping-edits Absolute s w t (addressed w key) (slotIn s w t key) (p .room) k (bucketIn s)
+          keeping-edits Absolute s w t (addressed w key) true (slotIn s w t key) (p .room) k (joinTicks s)
           (leaving false (slotIn s w t key) (Increment c 0)) refl refl refl refl
-          (fits-after (ringOf w) (bucketIn s) t c 0 (slotIn s w t key) (buckets (ringOf w) (bodyOf w (addressed w key))) n (k .measured .newest-is)
+          (fits-after (ringOf w) (joinTicks s) t c 0 (slotIn s w t key) (buckets (ringOf w) (bodyOf w (addressed w key))) n (k .measured .newest-is)
           (ap (passes c) (sym (k .total-is ∙ k .now .total)) ∙ o) f)
 
   -- an unknown key's series begins
   pub opening-applies : (limit c total : ℕ) → passes c total ≡ false → vacant w < slotsOf w →
-      EditsAt w (vacant w) (bucketIn s) t (opening limit (Increment c 0) 0 0 1)
+      EditsAt w (vacant w) (joinTicks s) t (opening limit (Increment c 0) 0 0 1)
   unfolding passes sumOf
   opening-applies limit c total o h =
-      opening-edits w (vacant w) (p .room) h (bucketIn s) t limit 0 0 1 (Increment c 0)
+      opening-edits w (vacant w) (p .room) h (joinTicks s) t limit 0 0 1 (Increment c 0)
       (record { least = omega arith; total = omega (arith, ltb-false mostTotal (total + c) o); free = λ z. omega (arith, p .room .some) })
 
   -- its place: its slot, or a free one
@@ -135,26 +148,26 @@ module _ (s : Settings) (w : List ℕ) (t : ℕ) (key : List ℕ) (p : Passed Ab
 
   -- an increment that is not refused, of a key that may or may not; an unknown one may
   pub inc-applies : (limit c : ℕ) (rated may out : Bool) → (slotIn s w t key .series ≡ false → may ≡ true) →
-      first (incRefusals (ringOf w) (bucketIn s) t c rated may (lacksAt w (placeOf w (slotIn s w t key)) (slotIn s w t key)) out (slotIn s w t key)) ≡ 0 →
-      Applies w (placeOf w (slotIn s w t key)) (bucketIn s) t (incChange limit c may out (slotIn s w t key))
+      first (incRefusals (ringOf w) (joinTicks s) t c rated may (lacksAt w (placeOf w (slotIn s w t key)) (slotIn s w t key)) out (slotIn s w t key)) ≡ 0 →
+      Applies w (placeOf w (slotIn s w t key)) (joinTicks s) t (incChange limit c may out (slotIn s w t key) (lookedIn s w t key))
   unfolding incRefusals incChange
   inc-applies limit c rated may out unknown h =
       let f = all-false _ (omega arith) h in
-      subst (λ (n : ℕ). Applies w n (bucketIn s) t (incChange limit c may out (slotIn s w t key))) (sym place-is)
+      subst (λ (n : ℕ). Applies w n (joinTicks s) t (incChange limit c may out (slotIn s w t key) (lookedIn s w t key))) (sym place-is)
       (go (slotIn s w t key .series) refl may refl (f .1 .0) (sym lacks-as ∙ f .1 .1 .0) (f .1 .1 .1 .0))
     where
       go : (y : Bool) → slotIn s w t key .series ≡ y → (z : Bool) → may ≡ z →
           z && passes c (totalIf out (slotIn s w t key)) ≡ false → not y && leb (slotsOf w) (cond y (slotIn s w t key .at) (vacant w)) ≡ false →
-          z && fullAfter (ringOf w) (bucketIn s) t (goneIf out (slotIn s w t key)) (slotIn s w t key) ≡ false →
-          Applies w (cond y (slotIn s w t key .at) (vacant w)) (bucketIn s) t
-          (pickChange y (pickChange z (Update (leaving out (slotIn s w t key) (Increment c 0))) (Update (evicting (slotIn s w t key) Nothing)))
+          z && fullAfter (ringOf w) (joinTicks s) t (goneIf out (slotIn s w t key)) (slotIn s w t key) ≡ false →
+          Applies w (cond y (slotIn s w t key .at) (vacant w)) (joinTicks s) t
+          (pickChange y (pickChange z (Update (leaving out (slotIn s w t key) (Increment c 0))) (Update (evicting (lookedIn s w t key) Nothing)))
           (Take (opening limit (Increment c 0) 0 0 1)))
-      go true e true a o l f = subst (λ (n : ℕ). EditsAt w n (bucketIn s) t (leaving out (slotIn s w t key) (Increment c 0))) (sym (known e .at-is))
+      go true e true a o l f = subst (λ (n : ℕ). EditsAt w n (joinTicks s) t (leaving out (slotIn s w t key) (Increment c 0))) (sym (known e .at-is))
           (leaving-applies c out e o f)
-      go true e false a o l f = evict-applies e
+      go true e false a o l f = look-applies e
       go false e true a o l f = opening-applies limit c (totalIf out (slotIn s w t key)) o (leb-false (slotsOf w) (vacant w) l)
       go false e false a o l f = absurd (false≢true (sym a ∙ unknown e))
 
   -- by the rule
-  pub may-unknown : slotIn s w t key .series ≡ false → mayIn (slotIn s w t key) ≡ true
-  may-unknown e = unknown-allowed (cutWord (slotIn s w t key .limit)) (slotIn s w t key) e
+  pub may-unknown : slotIn s w t key .series ≡ false → mayIn s t (slotIn s w t key) ≡ true
+  may-unknown e = unknown-allowed (cutWord (slotIn s w t key .limit)) (lookedIn s w t key) (look-series (lookTicks s) t (slotIn s w t key) ∙ e)

@@ -5,15 +5,16 @@ use mathlib.Core.Bool.{Bool}
 use mathlib.Core.List.{List, []}
 use Prim.Native.Nat.{ℕ, _≤_}
 use Rattle.common.specs.Limits.{absoluteWord}
-use Rattle.common.specs.Ranges.{mostWindow, rateOk}
+use Rattle.common.specs.Ranges.{mostWindow, mostBucket, rateOk}
 use Rattle.common.specs.Refusals.{first}
 use Rattle.settings.specs.Settings.{windowIn, bucketIn}
+use Rattle.settings.specs.Clock.{joinTicks}
 use Rattle.settings.specs.declared.Settings.{Settings}
 use Rattle.answers.specs.declared.TotalAnswer.the-variants as total
 use Rattle.answers.specs.declared.RateLimitDecision.{RateLimitDecision}
 use Rattle.answers.specs.declared.RateLimitDecision.the-variants as decision
 use Rattle.common.specs.declared.units.RateLimit.{RateLimit}
-use Rattle.room.specs.Room.{Room, slotsOf, ringOf}
+use Rattle.room.specs.Room.{Room, ringOf}
 use Rattle.change.specs.declared.Change.{Change}
 use Rattle.change.specs.Words.{Applies, applied}
 use Rattle.rules.specs.declared.RoomKind.the-variants.{Absolute}
@@ -25,7 +26,7 @@ use Rattle.judge.specs.Verdict.{Told, told-as, verdict, call, call-early, call-
 use Rattle.plan.specs.Plan.{placeOf, lacksAt}
 use Rattle.absolute_opened.specs.Opened.{getChange, askChange, incChange, incRefusals}
 use Rattle.absolute_verdicts.specs.Calls as Calls
-use Rattle.absolute_verdicts.specs.Opened.{mayIn, againIn, decidedIn, outIn, incOwn, incMakes, get, isAllowed, inc}
+use Rattle.absolute_verdicts.specs.Opened.{lookIn, mayIn, againIn, decidedIn, outIn, incOwn, incMakes, get, isAllowed, inc}
 use Rattle.absolute_verdicts.specs.Seen.{get-opened, ask-opened, inc-opened}
 use Rattle.absolute_verdicts.specs.Laws.{get-applies, ask-applies, inc-applies, may-unknown}
 
@@ -66,27 +67,30 @@ module _ (s : Settings) (w : List ℕ) (t : ℕ) (key : List ℕ) (j : Judged) w
     pub window-fits : windowIn s ≤ mostWindow
     window-fits = goes-passed .settings .window-high
 
+    pub bucket-fits : bucketIn s ≤ mostBucket
+    bucket-fits = goes-passed .settings .bucket-high
+
     -- a change made by a rule, at a place given by a rule, of the slot in hand
     goes-applies : (at : Slot → ℕ) (rule : Slot → Change) (u : Change) → u ≡ rule (j .slot) →
-        Applies w (at (slotIn s w t key)) (bucketIn s) t (rule (slotIn s w t key)) →
-        Applies w (at (j .slot)) (bucketIn s) t u
+        Applies w (at (slotIn s w t key)) (joinTicks s) t (rule (slotIn s w t key)) →
+        Applies w (at (j .slot)) (joinTicks s) t u
     goes-applies at rule u e a = rw (e, goes-slot) a
 
     goes-done : {A : Type 0} (turned : ℕ → A) (own : Slot → List (ℕ × Bool)) (answer : Slot → A) (at : Slot → ℕ) (rule : Slot → Change) →
-        first (own (j .slot)) ≡ 0 → (u : Change) → u ≡ rule (j .slot) → (v : List ℕ) → v ≡ applied w (at (j .slot)) key (bucketIn s) t u →
+        first (own (j .slot)) ≡ 0 → (u : Change) → u ≡ rule (j .slot) → (v : List ℕ) → v ≡ applied w (at (j .slot)) key (joinTicks s) t u →
         Told (call turned Absolute s w t key (own (slotIn s w t key))
-        (verdict (answer (slotIn s w t key)) (applied w (at (slotIn s w t key)) key (bucketIn s) t (rule (slotIn s w t key))))) (answer (j .slot)) v
+        (verdict (answer (slotIn s w t key)) (applied w (at (slotIn s w t key)) key (joinTicks s) t (rule (slotIn s w t key))))) (answer (j .slot)) v
     goes-done turned own answer at rule n u e v f =
         call-done turned Absolute s w t key (own (slotIn s w t key)) _ (answer (j .slot)) v goes-early (ap (λ (y : Slot). first (own y)) (sym goes-slot) ∙ n)
         (record {
           answer = ap answer goes-slot;
-          words = f ∙ ap (applied w (at (j .slot)) key (bucketIn s) t) e ∙ ap (λ (y : Slot). applied w (at y) key (bucketIn s) t (rule y)) goes-slot;
+          words = f ∙ ap (applied w (at (j .slot)) key (joinTicks s) t) e ∙ ap (λ (y : Slot). applied w (at y) key (joinTicks s) t (rule y)) goes-slot;
         })
 
-    pub get-fits : (u : Change) → u ≡ getChange (j .slot) → Applies w (j .slot .at) (bucketIn s) t u
+    pub get-fits : (u : Change) → u ≡ getChange (j .slot) → Applies w (j .slot .at) (joinTicks s) t u
     get-fits u e = goes-applies (λ (y : Slot). y .at) getChange u e (get-applies s w t key goes-passed)
 
-    pub get-done : (u : Change) → u ≡ getChange (j .slot) → (v : List ℕ) → v ≡ applied w (j .slot .at) key (bucketIn s) t u →
+    pub get-done : (u : Change) → u ≡ getChange (j .slot) → (v : List ℕ) → v ≡ applied w (j .slot .at) key (joinTicks s) t u →
         Told (Calls.get s w t key) (total.Total (j .slot .pass .«live_total»)) v
     unfolding get first
     get-done u e v f =
@@ -94,19 +98,20 @@ module _ (s : Settings) (w : List ℕ) (t : ℕ) (key : List ℕ) (j : Judged) w
         (goes-done total.Refused (λ (y : Slot). []) (λ (y : Slot). total.Total (y .pass .«live_total»)) (λ (y : Slot). y .at) getChange refl u e v f)
 
     -- again says whether the test was made again, may whether it is allowed
-    pub ask-fits : (again : Bool) → again ≡ againIn (j .slot) → (u : Change) → u ≡ askChange again (j .slot) → Applies w (j .slot .at) (bucketIn s) t u
+    pub ask-fits : (again : Bool) → again ≡ againIn (j .slot) → (u : Change) → u ≡ askChange again (lookIn s t (j .slot)) →
+        Applies w (j .slot .at) (joinTicks s) t u
     ask-fits again g u e =
-        goes-applies (λ (y : Slot). y .at) (λ (y : Slot). askChange (againIn y) y) u (e ∙ ap (λ (z : Bool). askChange z (j .slot)) g)
+        goes-applies (λ (y : Slot). y .at) (λ (y : Slot). askChange (againIn y) (lookIn s t y)) u (e ∙ ap (λ (z : Bool). askChange z (lookIn s t (j .slot))) g)
         (ask-applies s w t key goes-passed (againIn (slotIn s w t key)))
 
-    pub ask-done : (again : Bool) → again ≡ againIn (j .slot) → (u : Change) → u ≡ askChange again (j .slot) → (v : List ℕ) →
-        v ≡ applied w (j .slot .at) key (bucketIn s) t u →
+    pub ask-done : (again : Bool) → again ≡ againIn (j .slot) → (u : Change) → u ≡ askChange again (lookIn s t (j .slot)) → (v : List ℕ) →
+        v ≡ applied w (j .slot .at) key (joinTicks s) t u →
         (d : RateLimitDecision) → d ≡ decidedIn s t (j .slot) → Told (Calls.isAllowed s w t key) d v
     unfolding isAllowed first
     ask-done again g u e v f d q =
         told-as (ask-opened s w t key)
-        (rw q (goes-done decision.Refused (λ (y : Slot). []) (decidedIn s t) (λ (y : Slot). y .at) (λ (y : Slot). askChange (againIn y) y) refl u
-        (e ∙ ap (λ (z : Bool). askChange z (j .slot)) g) v f))
+        (rw q (goes-done decision.Refused (λ (y : Slot). []) (decidedIn s t) (λ (y : Slot). y .at) (λ (y : Slot). askChange (againIn y) (lookIn s t y)) refl u
+        (e ∙ ap (λ (z : Bool). askChange z (lookIn s t (j .slot))) g) v f))
 
 -- ---- an increment: at is its place, may whether it is allowed, out whether the expired buckets are taken out
 
@@ -119,19 +124,19 @@ module _ (s : Settings) (w : List ℕ) (t : ℕ) (key : List ℕ) (rate : RateLi
   pub record Finds (at : ℕ) (may out : Bool) (n : ℕ) : Type 0 where
     pub goes : Goes s w t key j
     pub place-is : at ≡ placeOf w (j .slot)
-    pub may-is : may ≡ mayIn (j .slot)
+    pub may-is : may ≡ mayIn s t (j .slot)
     pub out-is : out ≡ outIn s w t c (j .slot)
-    pub number-is : n ≡ first (incRefusals (ringOf w) (bucketIn s) t c (rateOk (rate .0)) may (lacksAt w at (j .slot)) out (j .slot))
+    pub number-is : n ≡ first (incRefusals (ringOf w) (joinTicks s) t c (rateOk (rate .0)) may (lacksAt w at (j .slot)) out (j .slot))
 
   module _ (at : ℕ) (may out : Bool) (n : ℕ) (f : Finds at may out n) where
     numbered : ℕ → Bool → Bool → ℕ
-    numbered a m o = first (incRefusals (ringOf w) (bucketIn s) t c (rateOk (rate .0)) m (lacksAt w a (j .slot)) o (j .slot))
+    numbered a m o = first (incRefusals (ringOf w) (joinTicks s) t c (rateOk (rate .0)) m (lacksAt w a (j .slot)) o (j .slot))
 
     own-is : n ≡ first (incOwn s w t rate c (j .slot))
     unfolding numbered
     own-is =
         f .number-is ∙ ap (λ (y : ℕ). numbered y may out) (f .place-is) ∙
-        ap (λ (y : Bool). numbered (placeOf w (j .slot)) y out) (f .may-is) ∙ ap (numbered (placeOf w (j .slot)) (mayIn (j .slot))) (f .out-is)
+        ap (λ (y : Bool). numbered (placeOf w (j .slot)) y out) (f .may-is) ∙ ap (numbered (placeOf w (j .slot)) (mayIn s t (j .slot))) (f .out-is)
 
     own-slot : n ≡ first (incOwn s w t rate c (slotIn s w t key))
     own-slot = own-is ∙ ap (λ (y : Slot). first (incOwn s w t rate c y)) (goes-slot s w t key j (f .goes))
@@ -143,27 +148,27 @@ module _ (s : Settings) (w : List ℕ) (t : ℕ) (key : List ℕ) (rate : RateLi
         (call-own decision.Refused Absolute s w t key (incOwn s w t rate c (slotIn s w t key)) _ n (goes-early s w t key j (f .goes)) own-slot z)
 
     abbrev Made : Change → Type 0
-    Made u = u ≡ incChange (absoluteWord (rate .0) (windowIn s)) c may out (j .slot)
+    Made u = u ≡ incChange (absoluteWord (rate .0) (windowIn s)) c may out (j .slot) (lookIn s t (j .slot))
 
     makes-is : (u : Change) → Made u → u ≡ incMakes s w t rate c (j .slot)
     makes-is u e =
-        e ∙ ap (λ (y : Bool). incChange (absoluteWord (rate .0) (windowIn s)) c y out (j .slot)) (f .may-is) ∙
-        ap (λ (y : Bool). incChange (absoluteWord (rate .0) (windowIn s)) c (mayIn (j .slot)) y (j .slot)) (f .out-is)
+        e ∙ ap (λ (y : Bool). incChange (absoluteWord (rate .0) (windowIn s)) c y out (j .slot) (lookIn s t (j .slot))) (f .may-is) ∙
+        ap (λ (y : Bool). incChange (absoluteWord (rate .0) (windowIn s)) c (mayIn s t (j .slot)) y (j .slot) (lookIn s t (j .slot))) (f .out-is)
 
-    pub inc-fits : n ≡ 0 → (u : Change) → Made u → Applies w at (bucketIn s) t u
+    pub inc-fits : n ≡ 0 → (u : Change) → Made u → Applies w at (joinTicks s) t u
     inc-fits z u e =
         let p = goes-passed s w t key j (f .goes) in
         let x = slotIn s w t key in
-        subst (λ (y : ℕ). Applies w y (bucketIn s) t u) (sym (f .place-is))
+        subst (λ (y : ℕ). Applies w y (joinTicks s) t u) (sym (f .place-is))
         (goes-applies s w t key j (f .goes) (placeOf w) (incMakes s w t rate c) u (makes-is u e)
-        (inc-applies s w t key p (absoluteWord (rate .0) (windowIn s)) c (rateOk (rate .0)) (mayIn x) (outIn s w t c x) (may-unknown s w t key p)
+        (inc-applies s w t key p (absoluteWord (rate .0) (windowIn s)) c (rateOk (rate .0)) (mayIn s t x) (outIn s w t c x) (may-unknown s w t key p)
         (sym own-slot ∙ z)))
 
-    pub inc-done : n ≡ 0 → (u : Change) → Made u → (v : List ℕ) → v ≡ applied w at key (bucketIn s) t u →
+    pub inc-done : n ≡ 0 → (u : Change) → Made u → (v : List ℕ) → v ≡ applied w at key (joinTicks s) t u →
         (d : RateLimitDecision) → d ≡ decidedIn s t (j .slot) → Told (Calls.inc s w t key rate c) d v
     unfolding inc
     inc-done z u e v i d q =
         told-as (inc-opened s w t key rate c)
         (rw q (goes-done s w t key j (f .goes) decision.Refused (incOwn s w t rate c) (decidedIn s t) (placeOf w) (incMakes s w t rate c) (sym own-is ∙ z) u
         (makes-is u e) v
-        (i ∙ ap (λ (y : ℕ). applied w y key (bucketIn s) t u) (f .place-is))))
+        (i ∙ ap (λ (y : ℕ). applied w y key (joinTicks s) t u) (f .place-is))))

@@ -1,5 +1,5 @@
 -- A key's buckets as a log of what each has admitted: what eviction, an increment and a drop of the series make of it.
--- w is the window in milliseconds, t the reading, b the bucket size, c the count, d how much of it is declined.
+-- In ticks are w, the window, t, the reading, and b, the longest age that joins; c is the count, d how much of it is declined.
 -- Assumes nothing.
 use mathlib.Core.Path.{_≡_, refl, ap}
 use mathlib.Core.Bool.{Bool, true, false, cond}
@@ -78,6 +78,16 @@ module _ (w t : ℕ) where
       go true e g = omega arith
       go false e g =
           omega (arith, pick-mono (decLe 0 (y .time)) (decLe (t - w) (y .time)) (y .count - y .declined) (λ z. omega (arith, older-not y e)))
+
+  -- where times do not fall, none is older than the oldest
+  pub recent-all : (lo : ℕ) (xs : List Bucket) (hi : ℕ) → Fine lo xs hi → t - lo ≤ w → recent w t xs ≡ xs
+  unfolding recent
+  recent-all lo [] hi f h = refl
+  recent-all lo (y ∷ ys) hi f h = go (older w t y) refl (recent-all (y .time) ys hi (f .3) (omega (arith, f .0)))
+    where
+      go : (o : Bool) → older w t y ≡ o → recent w t ys ≡ ys → cond o (recent w t ys) (y ∷ recent w t ys) ≡ y ∷ ys
+      go true e g = absurd (omega (arith, older-past y e, f .0))
+      go false e g = ap (λ (zs : List Bucket). y ∷ zs) g
 
 -- ---- an increment, bucket by bucket
 

@@ -1,5 +1,5 @@
 -- What holds of a key's buckets and of the log of its admitted counts, from call to call; the ceiling is a part of it, the floor follows from it.
--- w is the window in milliseconds, b the bucket size, at most w; top is the hard limit, t the reading.
+-- In ticks are w, the window, b, the longest age that joins, at most w, and t, the reading; top is the hard limit.
 -- Assumes nothing.
 use mathlib.Core.Path.{_≡_, refl}
 use mathlib.Core.Bool.{Bool, true, false, cond}
@@ -73,8 +73,8 @@ module _ (w b top : ℕ) (le : b ≤ w) where
     ceiling = g .ceiling;
   }
 
--- what is live was admitted at an age of at most the window
-pub good-floor : (w b top : ℕ) {t : ℕ} {xs : List Bucket} {log : List Entry} → Fine 0 (recent w t xs) t → Good w b top t xs log →
-    counts (recent w t xs) - declineds (recent w t xs) ≤ aged w t log
-good-floor w b top {t} {xs} {log} f g =
-    omega (arith, mass-total 0 (recent w t xs) t f, evict-live w t xs, g .only (t - w), since-aged w t log)
+-- what is held at an age of at most v was admitted at such an age
+pub good-floor : (v w b top : ℕ) {t : ℕ} {xs : List Bucket} {log : List Entry} → Fine 0 (recent v t xs) t → Good w b top t xs log →
+    counts (recent v t xs) - declineds (recent v t xs) ≤ aged v t log
+good-floor v w b top {t} {xs} {log} f g =
+    omega (arith, mass-total 0 (recent v t xs) t f, evict-live v t xs, g .only (t - v), since-aged v t log)

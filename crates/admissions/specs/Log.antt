@@ -67,6 +67,21 @@ span-since s z (e ∷ l) = omega (arith, span-since s z l, go (decLe s (e .time)
     go (yes p) q = pick-le q _
     go (no p) q = omega arith
 
+pub span-mono : (s y z : ℕ) (l : List Entry) → y ≤ z → inSpan s y l ≤ inSpan s z l
+span-mono s y z [] h = omega arith
+span-mono s y z (e ∷ l) h =
+    omega (arith, span-mono s y z l h, go (decLe s (e .time)) (pick-mono (decLe (e .time) y) (decLe (e .time) z) (e .amount) (λ g. omega arith)))
+  where
+    go : {P : Type 0} (p : Dec P) → pick (decLe (e .time) y) (e .amount) ≤ pick (decLe (e .time) z) (e .amount) →
+        pick p (pick (decLe (e .time) y) (e .amount)) ≤ pick p (pick (decLe (e .time) z) (e .amount))
+    go (yes p) g = g
+    go (no p) g = omega arith
+
+pub aged-mono : (v w t : ℕ) (l : List Entry) → v ≤ w → aged v t l ≤ aged w t l
+aged-mono v w t [] h = omega arith
+aged-mono v w t (e ∷ l) h =
+    omega (arith, aged-mono v w t l h, pick-mono (decLe (t - e .time) v) (decLe (t - e .time) w) (e .amount) (λ z. omega arith))
+
 pub since-aged : (w t : ℕ) (l : List Entry) → since (t - w) l ≤ aged w t l
 since-aged w t [] = omega arith
 since-aged w t (e ∷ l) =

@@ -7,7 +7,7 @@ use Prim.Native.Nat.{ℕ, _≤_, _<_}
 use native.Mathlib.Omega.{arith}
 use lib.Dec.{eqb}
 use borrow.Author.Tests.{leb-false}
-use Rattle.settings.specs.Settings.{bucketIn}
+use Rattle.settings.specs.Clock.{joinTicks}
 use Rattle.settings.specs.declared.Settings.{Settings}
 use Rattle.common.specs.declared.comparator.RateLimitComparator.{RateLimitComparator}
 use Rattle.answers.specs.declared.HistoryUpdateMode.{HistoryUpdateMode}
@@ -31,23 +31,24 @@ use Rattle.sets_opened.specs.Sets.{vain, idleAt, metAt, reset, begins, stored, 
 use Rattle.calls.specs.Calls.{slot-within, known-at}
 
 pub delete-applies : (kind : RoomKind) (s : Settings) (w : List ℕ) (t : ℕ) (key : List ℕ) → Passed kind s w t key →
-    Applies w (slotIn s w t key .at) (bucketIn s) t (deleting (slotIn s w t key))
+    Applies w (slotIn s w t key .at) (joinTicks s) t (deleting (slotIn s w t key))
 unfolding deleting
 delete-applies kind s w t key p = go (hasSlot (slotIn s w t key)) refl
   where
-    go : (b : Bool) → hasSlot (slotIn s w t key) ≡ b → Applies w (slotIn s w t key .at) (bucketIn s) t (cond b Free Keep)
+    go : (b : Bool) → hasSlot (slotIn s w t key) ≡ b → Applies w (slotIn s w t key .at) (joinTicks s) t (cond b Free Keep)
     go true e = record { room = p .room; inside = slot-within kind s w t key p e }
     go false e = p .room
 
 -- "Setting a rate touches only a known series"
 pub rate-applies : (kind : RoomKind) (s : Settings) (w : List ℕ) (t : ℕ) (key : List ℕ) (limit : ℕ) → Passed kind s w t key →
-    Applies w (slotIn s w t key .at) (bucketIn s) t (limiting (slotIn s w t key) limit)
+    Applies w (slotIn s w t key .at) (joinTicks s) t (limiting (slotIn s w t key) limit)
 unfolding limiting
 rate-applies kind s w t key limit p = go (slotIn s w t key .series) refl
   where
-    go : (b : Bool) → slotIn s w t key .series ≡ b → Applies w (slotIn s w t key .at) (bucketIn s) t
+    go : (b : Bool) → slotIn s w t key .series ≡ b → Applies w (slotIn s w t key .at) (joinTicks s) t
         (cond b (Update (relimited (keeping (slotIn s w t key) then.Nothing) limit (usedWith (slotIn s w t key) limit))) Keep)
-    go true e = keeping-edits kind s w t (slotIn s w t key .at) (slotIn s w t key) (p .room) (known-at kind s w t key p e) (bucketIn s) _ refl refl refl refl tt
+    go true e = keeping-edits kind s w t (slotIn s w t key .at) true (slotIn s w t key) (p .room) (known-at kind s w t key p e)
+        (joinTicks s) _ refl refl refl refl tt
     go false e = p .room
 
 -- ---- tests that fail
@@ -94,29 +95,29 @@ module _ (kind : RoomKind) (s : Settings) (w : List ℕ) (t : ℕ) (key : List �
   place-within e = omega (arith, place-own w (slotIn s w t key) e, slot-within kind s w t key p e)
 
   pub reset-applies : (limit count : ℕ) (mode : HistoryUpdateMode) → slotIn s w t key .series ≡ true → count ≤ mostTotal →
-      EditsAt w (slotIn s w t key .at) (bucketIn s) t (reset (slotIn s w t key) limit count mode)
-  reset-applies limit count mode.Replace e m = keeping-edits kind s w t (slotIn s w t key .at) (slotIn s w t key) (p .room) (known-at kind s w t key p e)
-      (bucketIn s) _ refl refl refl refl m
-  reset-applies limit count (mode.Preserve q) e m = evicting-edits kind s w t (slotIn s w t key .at) (slotIn s w t key) (p .room)
-      (known-at kind s w t key p e) (bucketIn s) _ refl refl refl refl m
+      EditsAt w (slotIn s w t key .at) (joinTicks s) t (reset (slotIn s w t key) limit count mode)
+  reset-applies limit count mode.Replace e m = keeping-edits kind s w t (slotIn s w t key .at) true (slotIn s w t key) (p .room) (known-at kind s w t key p e)
+      (joinTicks s) _ refl refl refl refl m
+  reset-applies limit count (mode.Preserve q) e m = evicting-edits kind s w t (slotIn s w t key .at) true (slotIn s w t key) (p .room)
+      (known-at kind s w t key p e) (joinTicks s) _ refl refl refl refl m
 
   pub begins-applies : (limit count factor time : ℕ) → count ≤ mostTotal → placeOf w (slotIn s w t key) < slotsOf w →
-      EditsAt w (placeOf w (slotIn s w t key)) (bucketIn s) t (begins limit count factor time)
+      EditsAt w (placeOf w (slotIn s w t key)) (joinTicks s) t (begins limit count factor time)
   begins-applies limit count factor time m h =
-      opening-edits w (placeOf w (slotIn s w t key)) (p .room) h (bucketIn s) t limit factor time 1 (then.Increment count 0)
-      (begins-fit w (bucketIn s) t count (p .room) m)
+      opening-edits w (placeOf w (slotIn s w t key)) (p .room) h (joinTicks s) t limit factor time 1 (then.Increment count 0)
+      (begins-fit w (joinTicks s) t count (p .room) m)
 
   stored-applies : (limit count : ℕ) (mode : HistoryUpdateMode) → count ≤ mostTotal →
       not false && lacksAt w (placeOf w (slotIn s w t key)) (slotIn s w t key) ≡ false →
-      Applies w (placeOf w (slotIn s w t key)) (bucketIn s) t (stored (slotIn s w t key) limit count mode)
+      Applies w (placeOf w (slotIn s w t key)) (joinTicks s) t (stored (slotIn s w t key) limit count mode)
   unfolding stored
   stored-applies limit count mode m f = go (slotIn s w t key .series) refl (slotIn s w t key .cached) refl
     where
       go : (a : Bool) → slotIn s w t key .series ≡ a → (b : Bool) → slotIn s w t key .cached ≡ b →
-          Applies w (placeOf w (slotIn s w t key)) (bucketIn s) t
+          Applies w (placeOf w (slotIn s w t key)) (joinTicks s) t
           (cond a (Update (reset (slotIn s w t key) limit count mode))
           (cond b (Update (begins limit count (slotIn s w t key .factor) (slotIn s w t key .«factor_time»))) (Take (begins limit count 0 0))))
-      go true e b g = subst (λ (at : ℕ). EditsAt w at (bucketIn s) t (reset (slotIn s w t key) limit count mode))
+      go true e b g = subst (λ (at : ℕ). EditsAt w at (joinTicks s) t (reset (slotIn s w t key) limit count mode))
           (sym (place-own w (slotIn s w t key) (known-has (slotIn s w t key) e))) (reset-applies limit count mode e m)
       go false e true g = begins-applies limit count (slotIn s w t key .factor) (slotIn s w t key .«factor_time») m
           (place-within (cached-has (slotIn s w t key) e g))
@@ -125,12 +126,12 @@ module _ (kind : RoomKind) (s : Settings) (w : List ℕ) (t : ℕ) (key : List �
   pub set-applies : (still : Bool) (limit count : ℕ) (comparator : RateLimitComparator) (mode : HistoryUpdateMode) →
       still ≡ idleAt (slotIn s w t key) limit comparator count mode → count ≤ mostTotal →
       not still && lacksAt w (placeOf w (slotIn s w t key)) (slotIn s w t key) ≡ false →
-      Applies w (placeOf w (slotIn s w t key)) (bucketIn s) t (setting (slotIn s w t key) still limit count mode)
+      Applies w (placeOf w (slotIn s w t key)) (joinTicks s) t (setting (slotIn s w t key) still limit count mode)
   unfolding setting
   set-applies true limit count comparator mode e m f = p .room
   set-applies false limit count comparator mode e m f = go (eqb count 0) refl
     where
-      go : (b : Bool) → eqb count 0 ≡ b → Applies w (placeOf w (slotIn s w t key)) (bucketIn s) t (cond b Free (stored (slotIn s w t key) limit count mode))
+      go : (b : Bool) → eqb count 0 ≡ b → Applies w (placeOf w (slotIn s w t key)) (joinTicks s) t (cond b Free (stored (slotIn s w t key) limit count mode))
       go true h = record {
         room = p .room;
         inside = place-within

@@ -8,7 +8,7 @@ use Prim.Native.Nat.{ℕ, _<_}
 use lib.Dec.{ltb}
 use borrow.Author.Tests.{ltb-true, ltb-false}
 use Rattle.common.specs.Refusals.{first}
-use Rattle.settings.specs.Settings.{bucketIn}
+use Rattle.settings.specs.Clock.{joinTicks}
 use Rattle.settings.specs.declared.Settings.{Settings}
 use Rattle.room.specs.Room.{slotsOf}
 use Rattle.change.specs.declared.Change.{Change}
@@ -39,9 +39,9 @@ module _ (kind : RoomKind) (s : Settings) (w : List ℕ) (t : ℕ) (key : List �
   judged-slot h = ap (λ (y : Judged). y .slot) e ∙ slot-is kind s w t key (sym judged-code ∙ h)
 
   -- a change that applies at the key's slot
-  pub judged-applies : (change : Slot → Change) → j .code ≡ 0 → Applies w (slotIn s w t key .at) (bucketIn s) t (change (slotIn s w t key)) →
-      Applies w (j .slot .at) (bucketIn s) t (change (j .slot))
-  judged-applies change h a = subst (λ (x : Slot). Applies w (x .at) (bucketIn s) t (change x)) (sym (judged-slot h)) a
+  pub judged-applies : (change : Slot → Change) → j .code ≡ 0 → Applies w (slotIn s w t key .at) (joinTicks s) t (change (slotIn s w t key)) →
+      Applies w (j .slot .at) (joinTicks s) t (change (j .slot))
+  judged-applies change h a = subst (λ (x : Slot). Applies w (x .at) (joinTicks s) t (change x)) (sym (judged-slot h)) a
 
   module _ {A : Type 0} (turned : ℕ → A) (own : Slot → List (ℕ × Bool)) (does : Slot → Verdict A) where
     pub judged-early : (j .code ≡ 0 → ⊥) → Told (calls turned kind s w t key own does) (turned (j .code)) w
@@ -82,7 +82,7 @@ module _ (kind : RoomKind) (s : Settings) (w : List ℕ) (t : ℕ) (key : List �
   pub slot-within : hasSlot (slotIn s w t key) ≡ true → slotIn s w t key .at < slotsOf w
   slot-within e = found-at e .inside
 
-  pub known-at : slotIn s w t key .series ≡ true → Known kind s w t (slotIn s w t key .at) (slotIn s w t key)
+  pub known-at : slotIn s w t key .series ≡ true → Known kind s w t (slotIn s w t key .at) true (slotIn s w t key)
   known-at e =
       let x = slotIn s w t key in
       series-known kind s w t (x .at) x (found-at (true-or (x .series) (x .cached) e)) (p .later) e

@@ -2,7 +2,7 @@
 -- Assumes nothing.
 use mathlib.Core.List.{List, []}
 use Prim.Native.Nat.{ℕ}
-use Rattle.settings.specs.Settings.{bucketIn}
+use Rattle.settings.specs.Clock.{joinTicks}
 use Rattle.settings.specs.declared.Settings.{Settings}
 use Rattle.answers.specs.declared.DeleteAnswer.{DeleteAnswer}
 use Rattle.answers.specs.declared.DeleteAnswer.the-variants.{Refused}
@@ -17,4 +17,4 @@ use Rattle.shared_opened.specs.Opened.{deleting}
 unfoldable pub delete : RoomKind → Settings → List ℕ → ℕ → List ℕ → Verdict DeleteAnswer
 delete kind s w t key =
     let x = slotIn s w t key in
-    call Refused kind s w t key [] (verdict (deleted s t (heldIn w key)) (applied w (x .at) key (bucketIn s) t (deleting x)))
+    call Refused kind s w t key [] (verdict (deleted s t (heldIn w key)) (applied w (x .at) key (joinTicks s) t (deleting x)))

@@ -5,7 +5,7 @@ use mathlib.Core.Path.{_≡_, refl}
 use mathlib.Core.Bool.{Bool, not, _&&_}
 use mathlib.Core.List.{List, []}
 use Prim.Native.Nat.{ℕ}
-use Rattle.settings.specs.Settings.{bucketIn}
+use Rattle.settings.specs.Clock.{joinTicks}
 use Rattle.settings.specs.declared.Settings.{Settings}
 use Rattle.common.specs.Refusals.{first}
 use Rattle.common.specs.declared.units.RateLimit.{RateLimit}
@@ -31,7 +31,7 @@ use Rattle.calls.specs.Calls.{calls}
 -- ---- delete
 
 abbrev pub deletes : Settings → List ℕ → ℕ → List ℕ → Slot → Verdict DeleteAnswer
-deletes s w t key x = verdict (deletedAt x) (applied w (x .at) key (bucketIn s) t (deleting x))
+deletes s w t key x = verdict (deletedAt x) (applied w (x .at) key (joinTicks s) t (deleting x))
 
 -- it has no refusal of its own
 abbrev pub noOwn : Slot → List (ℕ × Bool)
@@ -50,7 +50,7 @@ abbrev pub rateOwnOf : RateLimit → Slot → List (ℕ × Bool)
 rateOwnOf rate x = rateTurns rate
 
 abbrev pub limits : RoomKind → Settings → List ℕ → ℕ → List ℕ → RateLimit → Slot → Verdict OldRateAnswer
-limits kind s w t key rate x = verdict (oldRateAt kind s x) (applied w (x .at) key (bucketIn s) t (limiting x (limitIn kind s rate)))
+limits kind s w t key rate x = verdict (oldRateAt kind s x) (applied w (x .at) key (joinTicks s) t (limiting x (limitIn kind s rate)))
 
 abbrev pub rateAt : RoomKind → Settings → List ℕ → ℕ → List ℕ → RateLimit → Verdict OldRateAnswer
 rateAt kind s w t key rate = calls old.Refused kind s w t key (rateOwnOf rate) (limits kind s w t key rate)
@@ -64,7 +64,7 @@ setOwnOf kind s w rate comparator count mode x =
 abbrev pub sets : RoomKind → Settings → List ℕ → ℕ → List ℕ → RateLimit → RateLimitComparator → ℕ → HistoryUpdateMode → Slot → Verdict SetAnswer
 sets kind s w t key rate comparator count mode x =
     let still = idleAt x (limitIn kind s rate) comparator count mode in
-    verdict (set.Set (outcomeAt x still comparator count)) (applied w (placeOf w x) key (bucketIn s) t (setting x still (limitIn kind s rate) count mode))
+    verdict (set.Set (outcomeAt x still comparator count)) (applied w (placeOf w x) key (joinTicks s) t (setting x still (limitIn kind s rate) count mode))
 
 abbrev pub setAt : RoomKind → Settings → List ℕ → ℕ → List ℕ → RateLimit → RateLimitComparator → ℕ → HistoryUpdateMode → Verdict SetAnswer
 setAt kind s w t key rate comparator count mode =

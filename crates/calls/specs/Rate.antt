@@ -2,7 +2,7 @@
 -- Assumes nothing.
 use mathlib.Core.List.{List}
 use Prim.Native.Nat.{ℕ}
-use Rattle.settings.specs.Settings.{bucketIn}
+use Rattle.settings.specs.Clock.{joinTicks}
 use Rattle.settings.specs.declared.Settings.{Settings}
 use Rattle.common.specs.declared.units.RateLimit.{RateLimit}
 use Rattle.answers.specs.declared.OldRateAnswer.{OldRateAnswer}
@@ -20,4 +20,4 @@ unfoldable pub setRateLimit : RoomKind → Settings → List ℕ → ℕ → Lis
 setRateLimit kind s w t key rate =
     let x = slotIn s w t key in
     call Refused kind s w t key (rateTurns rate)
-    (verdict (oldRate kind s (heldIn w key)) (applied w (x .at) key (bucketIn s) t (limiting x (limitIn kind s rate))))
+    (verdict (oldRate kind s (heldIn w key)) (applied w (x .at) key (joinTicks s) t (limiting x (limitIn kind s rate))))

@@ -11,7 +11,8 @@ use borrow.Author.Tests.{ne-eqb, le-ltb}
 use Rattle.common.specs.Comparator.{matches}
 use Rattle.common.specs.Limits.{rateBack}
 use Rattle.common.specs.Ranges.{and-no}
-use Rattle.settings.specs.Settings.{windowIn, bucketIn, factorIn}
+use Rattle.settings.specs.Settings.{windowIn, factorIn}
+use Rattle.settings.specs.Clock.{windowTicks, joinTicks}
 use Rattle.settings.specs.declared.Settings.{Settings}
 use Rattle.common.specs.declared.units.RateLimit.{RateLimit}
 use Rattle.common.specs.declared.comparator.RateLimitComparator.{RateLimitComparator}
@@ -44,7 +45,7 @@ use Rattle.calls.specs.Opened.{deleteAt, rateAt, setAt}
 
 -- ---- of a slot x that is seen as h
 
-module _ (s : Settings) (t : ℕ) (h : Held) (x : Slot) (o : Seen (windowIn s) t h x) where
+module _ (s : Settings) (t : ℕ) (h : Held) (x : Slot) (o : Seen (windowTicks s) t true h x) where
   deleted-is : deletedAt x ≡ rules.deleted s t h
   unfolding deletedAt rules.deleted
   deleted-is =
@@ -79,13 +80,13 @@ module _ (s : Settings) (t : ℕ) (h : Held) (x : Slot) (o : Seen (windowIn s) t
     unfolding alreadyAt rules.already same ahead sumOf
     already-is = ap₂ (λ (m n : ℕ). same m n (x .limit)) (o .live-is) (o .gone-is) ∙ go (h .known) refl
       where
-        empty : (l : ℕ) → h .known ≡ false → same (counts (live (windowIn s) t (h .buckets))) (gone (windowIn s) t (h .buckets)) l ≡ false
-        empty l e = ap (λ (ys : List Bucket). same (counts (live (windowIn s) t ys)) (gone (windowIn s) t ys) l) (o .absent e) ∙
+        empty : (l : ℕ) → h .known ≡ false → same (counts (live (windowTicks s) t (h .buckets))) (gone (windowTicks s) t (h .buckets)) l ≡ false
+        empty l e = ap (λ (ys : List Bucket). same (counts (live (windowTicks s) t ys)) (gone (windowTicks s) t ys) l) (o .absent e) ∙
             nothing (rules.preserves mode) count l (decLt 0 count)
 
-        go : (z : Bool) → h .known ≡ z → same (counts (live (windowIn s) t (h .buckets))) (gone (windowIn s) t (h .buckets)) (x .limit) ≡
-            same (counts (live (windowIn s) t (h .buckets))) (gone (windowIn s) t (h .buckets)) (h .limit)
-        go true e = ap (same (counts (live (windowIn s) t (h .buckets))) (gone (windowIn s) t (h .buckets))) (o .limit-is e)
+        go : (z : Bool) → h .known ≡ z → same (counts (live (windowTicks s) t (h .buckets))) (gone (windowTicks s) t (h .buckets)) (x .limit) ≡
+            same (counts (live (windowTicks s) t (h .buckets))) (gone (windowTicks s) t (h .buckets)) (h .limit)
+        go true e = ap (same (counts (live (windowTicks s) t (h .buckets))) (gone (windowTicks s) t (h .buckets))) (o .limit-is e)
         go false e = empty (x .limit) e ∙ sym (empty (h .limit) e)
 
     pub idle-is : (comparator : RateLimitComparator) → idleAt x limit comparator count mode ≡ rules.idle s t limit comparator count mode h
@@ -129,9 +130,9 @@ module _ (kind : RoomKind) (s : Settings) (w : List ℕ) (t : ℕ) (key : List �
       let still = rules.stillFor kind s t rate comparator count mode h in
       let i = idle-is s t h x o limit count mode comparator in
       record {
-        owns = ap₂ (λ (y z : Bool). setOwn rate count (not y && z)) i (lacks-is (windowIn s) t h x o w);
+        owns = ap₂ (λ (y z : Bool). setOwn rate count (not y && z)) i (lacks-is (windowTicks s) t true h x o w);
         answers =
             ap (λ (z : Bool). sets.Set (outcomeAt x z comparator count)) i ∙
             ap (λ (c : ConditionalSetOutcome). sets.Set c) (outcome-is s t h x o still comparator count);
-        wordings = ap (λ (z : Bool). applied w (placeOf w x) key (bucketIn s) t (setting x z limit count mode)) i;
+        wordings = ap (λ (z : Bool). applied w (placeOf w x) key (joinTicks s) t (setting x z limit count mode)) i;
       })

@@ -2,7 +2,7 @@
 -- Assumes nothing.
 use mathlib.Core.List.{List}
 use Prim.Native.Nat.{ℕ}
-use Rattle.settings.specs.Settings.{bucketIn}
+use Rattle.settings.specs.Clock.{joinTicks}
 use Rattle.settings.specs.declared.Settings.{Settings}
 use Rattle.common.specs.declared.units.RateLimit.{RateLimit}
 use Rattle.common.specs.declared.comparator.RateLimitComparator.{RateLimitComparator}
@@ -26,4 +26,4 @@ set kind s w t key rate comparator count mode =
     let still = stillFor kind s t rate comparator count mode h in
     call Refused kind s w t key (setTurns kind s (noneFree w) t rate comparator count mode h)
     (verdict (Set (outcome s t still comparator count h))
-    (applied w (placeOf w x) key (bucketIn s) t (setting x still (limitIn kind s rate) count mode)))
+    (applied w (placeOf w x) key (joinTicks s) t (setting x still (limitIn kind s rate) count mode)))

@@ -7,7 +7,7 @@ use Prim.Native.Nat.{ℕ}
 use native.Mathlib.Omega.{arith}
 use borrow.Author.Tests.{ltb-false}
 use Rattle.common.specs.Refusals.{first, all-false}
-use Rattle.settings.specs.Settings.{bucketIn}
+use Rattle.settings.specs.Clock.{joinTicks}
 use Rattle.settings.specs.declared.Settings.{Settings}
 use Rattle.common.specs.declared.units.RateLimit.{RateLimit}
 use Rattle.common.specs.declared.comparator.RateLimitComparator.{RateLimitComparator}
@@ -59,28 +59,28 @@ module _ (kind : RoomKind) (s : Settings) (w : List ℕ) (t : ℕ) (key : List �
       (judged-own kind s w t key j e Refused (setOwnOf kind s w rate comparator count mode) (sets kind s w t key rate comparator count mode) n h (f ∙ own-as) z)
 
   module _ (f : first (setOwn rate count none) ≡ 0) (change : Change) (g : change ≡ setting (j .slot) still limit count mode) where
-    pub set-carried : Applies w place (bucketIn s) t change
+    pub set-carried : Applies w place (joinTicks s) t change
     unfolding setOwn
     set-carried =
         let a = all-false (setOwn rate count none) (omega arith) f in
         let q = judged-slot kind s w t key j e h in
         let o = judged-passed kind s w t key j e h in
-        let r : Applies w (placeOf w (slotIn s w t key)) (bucketIn s) t (setting (slotIn s w t key) still limit count mode) =
+        let r : Applies w (placeOf w (slotIn s w t key)) (joinTicks s) t (setting (slotIn s w t key) still limit count mode) =
         set-applies kind s w t key o still limit count comparator mode (k .still-is ∙ ap (λ (x : Slot). idleAt x limit comparator count mode) q)
         (ltb-false mostTotal count (a .1 .0))
         (ap (λ (x : Slot). not still && lacksAt w (placeOf w x) x) (sym q) ∙ ap (λ (at : ℕ). not still && lacksAt w at (j .slot)) (sym (k .place-is)) ∙
         sym (k .none-is) ∙ a .1 .1 .0) in
-        let r2 : Applies w (placeOf w (j .slot)) (bucketIn s) t (setting (j .slot) still limit count mode) =
-        subst (λ (x : Slot). Applies w (placeOf w x) (bucketIn s) t (setting x still limit count mode)) (sym q) r in
-        let r3 : Applies w place (bucketIn s) t (setting (j .slot) still limit count mode) =
-        subst (λ (at : ℕ). Applies w at (bucketIn s) t (setting (j .slot) still limit count mode)) (sym (k .place-is)) r2 in
-        subst (λ (y : Change). Applies w place (bucketIn s) t y) (sym g) r3
+        let r2 : Applies w (placeOf w (j .slot)) (joinTicks s) t (setting (j .slot) still limit count mode) =
+        subst (λ (x : Slot). Applies w (placeOf w x) (joinTicks s) t (setting x still limit count mode)) (sym q) r in
+        let r3 : Applies w place (joinTicks s) t (setting (j .slot) still limit count mode) =
+        subst (λ (at : ℕ). Applies w at (joinTicks s) t (setting (j .slot) still limit count mode)) (sym (k .place-is)) r2 in
+        subst (λ (y : Change). Applies w place (joinTicks s) t y) (sym g) r3
 
     change-as : change ≡ setting (j .slot) (idleAt (j .slot) (limitIn kind s rate) comparator count mode) (limitIn kind s rate) count mode
     change-as = g ∙ ap (λ (b : Bool). setting (j .slot) b limit count mode) still-as ∙
         ap (λ (l : ℕ). setting (j .slot) (idleAt (j .slot) (limitIn kind s rate) comparator count mode) l count mode) (k .limit-is)
 
-    pub set-done : (r : ConditionalSetOutcome) (x : List ℕ) → r ≡ outcomeAt (j .slot) still comparator count → x ≡ applied w place key (bucketIn s) t change →
+    pub set-done : (r : ConditionalSetOutcome) (x : List ℕ) → r ≡ outcomeAt (j .slot) still comparator count → x ≡ applied w place key (joinTicks s) t change →
         Told (set.set kind s w t key rate comparator count mode) (Set r) x
     set-done r x a b =
         told-as (set-opened kind s w t key rate comparator count mode)
@@ -88,5 +88,6 @@ module _ (kind : RoomKind) (s : Settings) (w : List ℕ) (t : ℕ) (key : List �
         (sym own-as ∙ f)
         (record {
           answer = ap Set (a ∙ ap (λ (b : Bool). outcomeAt (j .slot) b comparator count) still-as);
-          words = b ∙ ap (λ (at : ℕ). applied w at key (bucketIn s) t change) (k .place-is) ∙ ap (applied w (placeOf w (j .slot)) key (bucketIn s) t) change-as;
+          words = b ∙ ap (λ (at : ℕ). applied w at key (joinTicks s) t change) (k .place-is) ∙
+              ap (applied w (placeOf w (j .slot)) key (joinTicks s) t) change-as;
         }))

@@ -38,8 +38,8 @@ pub fn delete(
         return DeleteAnswer::Refused(code);
     }
     let x = j.slot;
-    let bucket = settings.bucket_size;
-    change::apply(room, x.at, key, bucket.0, reading, deleting(x));
+    let join = settings.join_ticks();
+    change::apply(room, x.at, key, join, reading, deleting(x));
     deleted(x)
 }
 
@@ -63,9 +63,8 @@ pub fn set_rate_limit(
         return OldRateAnswer::Refused(own);
     }
     let x = j.slot;
-    let bucket = settings.bucket_size;
     let change = limiting(x, limit_of(kind, settings, rate));
-    change::apply(room, x.at, key, bucket.0, reading, change);
+    change::apply(room, x.at, key, settings.join_ticks(), reading, change);
     old_rate(kind, settings, x)
 }
 
@@ -96,8 +95,7 @@ pub fn set(
     if own != 0 {
         return SetAnswer::Refused(own);
     }
-    let bucket = settings.bucket_size;
     let change = setting(x, still, limit, count, mode);
-    change::apply(room, at, key, bucket.0, reading, change);
+    change::apply(room, at, key, settings.join_ticks(), reading, change);
     SetAnswer::Set(outcome(x, still, comparator, count))
 }

@@ -6,6 +6,7 @@ use Prim.Native.Nat.{ℕ, _+_}
 use lib.Dec.{ltb}
 use Rattle.common.specs.Refusals.{first}
 use Rattle.settings.specs.Settings.{faults}
+use Rattle.settings.specs.Clock.{ticksIn}
 use Rattle.answers.specs.declared.DoneAnswer.{DoneAnswer}
 use Rattle.answers.specs.declared.DoneAnswer.the-variants.{Done, Refused}
 use Rattle.settings.specs.declared.Settings.{Settings}
@@ -34,4 +35,4 @@ abbrev pub refusal : RoomKind → Settings → List ℕ → ℕ → ℕ
 refusal kind s w t = first (faults s ++ misfits kind s w t)
 
 unfoldable pub cleanup : RoomKind → Settings → List ℕ → ℕ → ℕ → Verdict DoneAnswer
-cleanup kind s w t stale = unlessRefused Refused (refusal kind s w t) w (verdict Done (cleaned w t stale))
+cleanup kind s w t stale = unlessRefused Refused (refusal kind s w t) w (verdict Done (cleaned w t (ticksIn s) stale))

@@ -10,7 +10,8 @@ use lib.Dec.{eqb}
 use borrow.Author.Tests.{eqb-true, eqb-false, lt-ltb, le-ltb, ltb-false, not-false}
 use Rattle.base.specs.Decides.{other-true, and-true, not-so}
 use Rattle.common.specs.Refusals.{first, Positive, first-found, first-none, all-false}
-use Rattle.settings.specs.Settings.{windowIn, faults, Proper, proper, unrefused}
+use Rattle.settings.specs.Settings.{faults, Proper, proper, unrefused}
+use Rattle.settings.specs.Clock.{ticksIn, windowTicks}
 use Rattle.answers.specs.declared.DoneAnswer.the-variants.{Done, Refused}
 use Rattle.settings.specs.declared.Settings.{Settings}
 use Rattle.ring.specs.Ring.{Shape}
@@ -46,12 +47,12 @@ module _ (kind : RoomKind) (s : Settings) (w : List ℕ) (i : ℕ) where
 
   -- the slot opened and judged
   pub passes-right : (t u : ℕ) (x : Slot) (y : Bool) → i < slotsOf w → useOf w i ≢ 0 → keySound w i ≡ true → u ≡ useOf w i →
-      x ≡ slotOf (windowIn s) w t i → y ≡ slotRight kind s (lastOf w) u x → y ≡ slotPasses kind s w i
+      x ≡ slotOf (windowTicks s) w t i → y ≡ slotRight kind s (lastOf w) u x → y ≡ slotPasses kind s w i
   passes-right t u x y l h k p q e =
       e ∙
       ap (λ (n : ℕ). slotRight kind s (lastOf w) n x) p ∙
-      ap (slotRight kind s (lastOf w) (useOf w i)) (q ∙ slot-here (windowIn s) t w i l) ∙
-      right-is kind s (windowIn s) t w i k ∙
+      ap (slotRight kind s (lastOf w) (useOf w i)) (q ∙ slot-here (windowTicks s) t w i l) ∙
+      right-is kind s (windowTicks s) t w i k ∙
       sym (passes-used h)
 
 -- ---- the number
@@ -152,8 +153,8 @@ passed-ready kind s w t p = record {
 module _ (kind : RoomKind) (s : Settings) (w : List ℕ) (t stale : ℕ) where
   pub cleanup-refused : (n : ℕ) → n ≡ refusal kind s w t → n ≢ 0 → Told (cleanup kind s w t stale) (Refused n) w
   unfolding cleanup
-  cleanup-refused n e z = rw (sym e) (told-turned Refused n w (verdict Done (cleaned w t stale)) z)
+  cleanup-refused n e z = rw (sym e) (told-turned Refused n w (verdict Done (cleaned w t (ticksIn s) stale)) z)
 
-  pub cleanup-done : (v : List ℕ) → refusal kind s w t ≡ 0 → v ≡ cleaned w t stale → Told (cleanup kind s w t stale) Done v
+  pub cleanup-done : (v : List ℕ) → refusal kind s w t ≡ 0 → v ≡ cleaned w t (ticksIn s) stale → Told (cleanup kind s w t stale) Done v
   unfolding cleanup
-  cleanup-done v e f = told-done Refused (refusal kind s w t) w (verdict Done (cleaned w t stale)) Done v e (record { answer = refl; words = f })
+  cleanup-done v e f = told-done Refused (refusal kind s w t) w (verdict Done (cleaned w t (ticksIn s) stale)) Done v e (record { answer = refl; words = f })

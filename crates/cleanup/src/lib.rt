@@ -15,7 +15,6 @@ fn slot_passes(kind: RoomKind, settings: Settings, w: &[u64], i: usize, reading:
     requires { ⌜ Room (now w) × (i < slotsOf (now w)) × (windowIn settings ≤ 33554432) ⌝ }
     ensures { λ x. ⌜ x ≡ slotPasses kind settings (now (w .entry)) i ⌝ }
 {
-    let window = settings.window_size;
     let u = room::use_of(w, i);
     if u == 0 {
         return true;
@@ -23,7 +22,7 @@ fn slot_passes(kind: RoomKind, settings: Settings, w: &[u64], i: usize, reading:
     if !room::key_fits(w, i) {
         return false;
     }
-    let x = opened::open_at(w, i, reading, window.0);
+    let x = opened::open_at(w, i, reading, settings.window_ticks());
     opened::slot_right(kind, settings, w[layout::LAST], u, x)
 }
 
@@ -83,6 +82,7 @@ pub fn cleanup(
     if code != 0 {
         return DoneAnswer::Refused(code);
     }
-    stale::clean(room, reading, stale);
+    let clock = settings.clock_mode;
+    stale::clean(room, reading, clock.ticks_per_millisecond(), stale);
     DoneAnswer::Done
 }

@@ -5,15 +5,17 @@ use mathlib.Core.Bool.{Bool, true, false, _&&_, false≢true}
 use mathlib.Core.List.{List, [], _∷_}
 use mathlib.Core.Logic.{_≢_}
 use Prim.Native.Nat.{ℕ, _-_, _≤_, _<_}
+use native.Mathlib.Nat.{mul-le-mul-left}
 use native.Mathlib.Omega.{arith}
 use lib.Dec.{leb, ltb}
 use lib.ListN.{length}
 use borrow.Author.Tests.{ltb-false, leb-false}
 use Rattle.base.specs.Decides.{and-true, true-and, other-true}
 use Rattle.common.specs.Limits.{cutWord}
-use Rattle.settings.specs.Settings.{windowIn, bucketIn}
+use Rattle.settings.specs.Settings.{windowIn}
+use Rattle.settings.specs.Clock.{ageInMilliseconds, ticksIn, longest, windowInMilliseconds, windowTicks, joinTicks, ticks-some, cut-within, age}
 use Rattle.settings.specs.declared.Settings.{Settings}
-use Rattle.rules.specs.Buckets.{windowTicks, newest}
+use Rattle.rules.specs.Buckets.{newest}
 use Rattle.ring.specs.declared.Bucket.{Bucket}
 use Rattle.ring.specs.Order.{Fine}
 use Rattle.ring.specs.Ring.{buckets}
@@ -35,17 +37,24 @@ no-buckets [] h = refl
 no-buckets (x ∷ xs) h = absurd (omega arith)
 
 -- a series that does not stay
-module _ (s : Settings) (le : bucketIn s ≤ windowTicks (windowIn s)) (limit stale : ℕ) (l : windowTicks (windowIn s) ≤ stale) where
-  dropped : (t hi : ℕ) (xs : List Bucket) (log : List Entry) → Fine 0 xs hi → seriesStays xs t stale ≡ false → GoodAt s limit t xs log → GoodAt s limit t [] log
+module _ (s : Settings) (le : joinTicks s ≤ windowTicks s) (limit stale : ℕ) (l : windowInMilliseconds (windowIn s) ≤ stale) where
+  dropped : (t hi : ℕ) (xs : List Bucket) (log : List Entry) → Fine 0 xs hi → seriesStays xs t (ticksIn s) stale ≡ false → GoodAt s limit t xs log →
+      GoodAt s limit t [] log
   unfolding seriesStays
-  dropped t hi xs log f e g = go (ltb 0 (length xs)) refl (leb (t - newest xs .time) stale) refl e
+  dropped t hi xs log f e g = go (ltb 0 (length xs)) refl (leb (ageInMilliseconds (ticksIn s) t (newest xs .time)) stale) refl e
     where
-      go : (a : Bool) → ltb 0 (length xs) ≡ a → (b : Bool) → leb (t - newest xs .time) stale ≡ b → a && b ≡ false → GoodAt s limit t [] log
+      go : (a : Bool) → ltb 0 (length xs) ≡ a → (b : Bool) → leb (ageInMilliseconds (ticksIn s) t (newest xs .time)) stale ≡ b → a && b ≡ false →
+          GoodAt s limit t [] log
       go false p b q h = subst (λ (ys : List Bucket). GoodAt s limit t ys log) (no-buckets xs (ltb-false 0 (length xs) p)) g
-      go true p false q h = good-drop (windowTicks (windowIn s)) (bucketIn s) (cutWord limit) le stale 0 hi l f (leb-false (t - newest xs .time) stale q) g
+      go true p false q h =
+          let n = ticksIn s in
+          let x = age t (newest xs .time) in
+          let past = leb-false x (longest n stale) (sym (cut-within n (ticks-some s) x stale) ∙ q) in
+          good-drop (windowTicks s) (joinTicks s) (cutWord limit) le (longest n stale) 0 hi (omega (arith, mul-le-mul-left n l)) f past g
       go true p true q h = absurd (false≢true (sym h))
 
-  module _ (k : Key) (w v : List ℕ) (t : ℕ) (log : List Entry) (p : Passed kind.Suppressed s w t) (c : Cleaned w v t stale) (a : Kept s k limit w log) where
+  module _ (k : Key) (w v : List ℕ) (t : ℕ) (log : List Entry) (p : Passed kind.Suppressed s w t) (c : Cleaned w v t (ticksIn s) stale)
+      (a : Kept s k limit w log) where
     was : (i : ℕ) → Has v k i → Has w k i
     was i h =
         let n : i < slotsOf w = omega (arith, h .inside, c .slots) in
@@ -55,7 +64,7 @@ module _ (s : Settings) (le : bucketIn s ≤ windowTicks (windowIn s)) (limit st
     view-is i = ap₂ buckets (c .ring) (c .bodies i)
 
     later : (xs : List Bucket) → GoodAt s limit (lastOf w) xs log → GoodAt s limit t xs log
-    later xs g = good-later (windowTicks (windowIn s)) (bucketIn s) (cutWord limit) le t (p .later) g
+    later xs g = good-later (windowTicks s) (joinTicks s) (cutWord limit) le t (p .later) g
 
     in-order : (i : ℕ) → Has w k i → Fine 0 (buckets (ringOf w) (bodyOf w i)) (lastOf w)
     unfolding soundSeries
@@ -66,9 +75,9 @@ module _ (s : Settings) (le : bucketIn s ≤ windowTicks (windowIn s)) (limit st
 
     -- no slot of v has k's series
     gone : ((i : ℕ) → Has v k i → ⊥) → GoodAt s limit t [] log
-    gone f = has-or w k (a .distinct) (λ i h. stood i h (seriesStays (buckets (ringOf w) (bodyOf w i)) t stale) refl) (λ g. later [] (a .bare g))
+    gone f = has-or w k (a .distinct) (λ i h. stood i h (seriesStays (buckets (ringOf w) (bodyOf w i)) t (ticksIn s) stale) refl) (λ g. later [] (a .bare g))
       where
-        stood : (i : ℕ) (h : Has w k i) (z : Bool) → seriesStays (buckets (ringOf w) (bodyOf w i)) t stale ≡ z → GoodAt s limit t [] log
+        stood : (i : ℕ) (h : Has w k i) (z : Bool) → seriesStays (buckets (ringOf w) (bodyOf w i)) t (ticksIn s) stale ≡ z → GoodAt s limit t [] log
         stood i h true e =
             absurd (f i (record {
               inside = omega (arith, h .inside, c .slots);

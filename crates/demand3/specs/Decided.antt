@@ -13,7 +13,7 @@ use Rattle.answers.specs.declared.RateLimitDecision.{RateLimitDecision}
 use Rattle.answers.specs.declared.RateLimitDecision.the-variants.{Allowed, Rejected, Suppressed, Refused}
 use Rattle.settings.specs.declared.Settings.{Settings}
 use Rattle.rules.specs.Held.{Held}
-use Rattle.rules.specs.Both.{liveOf}
+use Rattle.rules.specs.Both.{overdueIn, lookedOf}
 use Rattle.rules.specs.Suppressed.{admits, asked, forecast, reachOf, outcome}
 use Rattle.rules.specs.Laws.{reach-admits, reach-soft, declined-all}
 use Rattle.demand3.specs.History.{admitsCount}
@@ -43,15 +43,16 @@ module _ (s : Settings) (t limit c draw : ℕ) (h : Held) where
   pub declines : outcome s t limit c draw h .declined ≡ cond (admitsCount (outcome s t limit c draw h .decision)) 0 c
   unfolding outcome
   declines =
-      declined-all (reachOf (forecast (liveOf s t h) c) (softWord (factorIn s) limit) (cutWord limit)) (asked s t limit h) t c draw ∙
+      declined-all (reachOf (forecast (lookedOf s t h) c) (softWord (factorIn s) limit) (cutWord limit)) (asked s t (overdueIn s t h) limit h) t c draw ∙
       sym (ap (λ (is : Bool). cond is 0 c) (admits-is _))
 
-  pub admits-hard : factorOk (factorIn s) ≡ true → admitsCount (outcome s t limit c draw h .decision) ≡ true → forecast (liveOf s t h) c ≤ cutWord limit
+  pub admits-hard : factorOk (factorIn s) ≡ true → admitsCount (outcome s t limit c draw h .decision) ≡ true → forecast (lookedOf s t h) c ≤ cutWord limit
   unfolding outcome
   admits-hard f y =
-      reach-admits (forecast (liveOf s t h) c) (softWord (factorIn s) limit) (cutWord limit) (asked s t limit h) t c draw (soft-le-hard (factorIn s) limit f)
+      reach-admits (forecast (lookedOf s t h) c) (softWord (factorIn s) limit) (cutWord limit) (asked s t (overdueIn s t h) limit h) t c draw
+      (soft-le-hard (factorIn s) limit f)
       (sym (admits-is _) ∙ y)
 
-  pub allows-soft : forecast (liveOf s t h) c ≤ softWord (factorIn s) limit → outcome s t limit c draw h .decision ≡ Allowed
+  pub allows-soft : forecast (lookedOf s t h) c ≤ softWord (factorIn s) limit → outcome s t limit c draw h .decision ≡ Allowed
   unfolding outcome
-  allows-soft y = reach-soft (forecast (liveOf s t h) c) (softWord (factorIn s) limit) (cutWord limit) (asked s t limit h) t c draw y
+  allows-soft y = reach-soft (forecast (lookedOf s t h) c) (softWord (factorIn s) limit) (cutWord limit) (asked s t (overdueIn s t h) limit h) t c draw y

@@ -7,11 +7,10 @@ use mathlib.Core.Path.{_≡_, refl}
 use mathlib.Core.List.{List, _∷_}
 use mathlib.Core.Logic.{inl, inr}
 use Prim.Native.Nat.{ℕ, _+_, _-_, _≤_}
-use Rattle.settings.specs.Settings.{windowIn, bucketIn}
+use Rattle.settings.specs.Clock.{windowTicks, lookTicks, joinTicks}
 use Rattle.answers.specs.declared.RateLimitDecision.the-variants.{Allowed}
 use Rattle.settings.specs.declared.Settings.{Settings}
 use Rattle.common.specs.declared.units.RateLimit.{RateLimit}
-use Rattle.rules.specs.Buckets.{windowTicks}
 use Rattle.room.specs.Room.{empty}
 use Rattle.rules.specs.declared.RoomKind.the-variants.{Suppressed}
 use Rattle.suppressed_verdicts.specs.Calls as Calls
@@ -22,21 +21,22 @@ use Rattle.demand3.specs.Folds.{empty-kept, all-kept, kept-ceiling}
 use Rattle.demand3.specs.Increments.{inc-soft}
 use Rattle.demand3.specs.Mission.{all-spare}
 
--- "window less bucket milliseconds", and "one window"
+-- "window less bucket milliseconds", and "one window", in ticks: where a millisecond has one, exactly these (`Modes.antt`); where it has more, the span is
+-- less than a millisecond shorter, and the look back less than one longer
 abbrev pub lessBucket : Settings → ℕ
-lessBucket s = windowTicks (windowIn s) - bucketIn s
+lessBucket s = windowTicks s - joinTicks s
 
-abbrev pub oneWindow : Settings → ℕ
-oneWindow s = windowTicks (windowIn s)
+abbrev pub lookBack : Settings → ℕ
+lookBack s = lookTicks s
 
 -- ---- the ceiling
 
--- From an empty room, with settings whose bucket is at most the window, and calls that are each by the clause: in any span of this many milliseconds, both
--- ends included, the counts that the key was admitted come to at most the limit
+-- From an empty room, with settings whose bucket is at most the window (shorter, where a millisecond has more than one tick), and calls that are each by the
+-- clause: in any span of this many ticks, both ends included, the counts that the key was admitted come to at most the limit
 abbrev pub Ceiling : (Settings → ℕ) → (Settings → RateLimit → ℕ) → Clause → Type 0
 Ceiling span limit P =
     (s : Settings) (slots ring : ℕ) (key : List ℕ) (rate : RateLimit) (calls : List (Call Suppressed)) →
-    IsKey key → bucketIn s ≤ windowTicks (windowIn s) → AllBy P s key rate (empty slots ring) calls →
+    IsKey key → joinTicks s ≤ windowTicks s → AllBy P s key rate (empty slots ring) calls →
     (from : ℕ) → inSpan from (from + span s) (admitted s key (empty slots ring) calls) ≤ limit s rate
 
 pub ceiling : Ceiling lessBucket hardOf Spares
@@ -54,22 +54,22 @@ mission-ceiling s slots ring key rate calls is le p =
 abbrev pub increment : ℕ → List ℕ → RateLimit → ℕ → ℕ → Call Suppressed
 increment t key rate count draw = record { reading = t; op = draws key rate count draw }
 
--- An increment that is not refused and that with all admitted at ages up to this many milliseconds comes to at most the limit is Allowed. It is by the
+-- An increment that is not refused and that with all admitted at ages up to this many ticks comes to at most the limit is Allowed. It is by the
 -- clause too: in the mission's words at the key's rate
 abbrev pub Floor : (Settings → ℕ) → (Settings → RateLimit → ℕ) → Clause → Type 0
 Floor back limit P =
     (s : Settings) (slots ring : ℕ) (key : List ℕ) (rate : RateLimit) (calls : List (Call Suppressed)) (t : ℕ) (asked : RateLimit) (count draw : ℕ) →
-    IsKey key → bucketIn s ≤ windowTicks (windowIn s) → AllBy P s key rate (empty slots ring) (increment t key asked count draw ∷ calls) →
+    IsKey key → joinTicks s ≤ windowTicks s → AllBy P s key rate (empty slots ring) (increment t key asked count draw ∷ calls) →
     answerNumber Suppressed s (words Suppressed s (empty slots ring) calls) t (draws key asked count draw) ≡ 0 →
     count + aged (back s) t (admitted s key (empty slots ring) calls) ≤ limit s rate →
     Calls.inc s (words Suppressed s (empty slots ring) calls) t key asked count draw .answer ≡ Allowed
 
-pub floor : Floor oneWindow softOf Spares
+pub floor : Floor lookBack softOf Spares
 floor s slots ring key rate calls t asked count draw is le (inl refused, p) n = absurd (refused n)
 floor s slots ring key rate calls t asked count draw is le (inr q, p) n =
     inc-soft s le (limitWord s rate) key is (words Suppressed s (empty slots ring) calls) t (admitted s key (empty slots ring) calls)
     (all-kept s le key is rate (empty slots ring) (empty-kept s le key is rate slots ring) calls p) asked (q .1 refl) count draw n
 
-pub mission-floor : Floor oneWindow softOf LeavesAlone
+pub mission-floor : Floor lookBack softOf LeavesAlone
 mission-floor s slots ring key rate calls t asked count draw is le p =
     floor s slots ring key rate calls t asked count draw is le (all-spare s key rate (empty slots ring) (increment t key asked count draw ∷ calls) p)

@@ -7,10 +7,9 @@ use mathlib.Core.Logic.{_≢_, inl, inr}
 use Prim.Native.Nat.{ℕ, _+_, _-_, _≤_}
 use Rattle.common.specs.Limits.{cutWord}
 use Rattle.common.specs.Ranges.{and-no}
-use Rattle.settings.specs.Settings.{windowIn, bucketIn}
+use Rattle.settings.specs.Clock.{windowTicks, joinTicks}
 use Rattle.settings.specs.declared.Settings.{Settings}
 use Rattle.common.specs.declared.units.RateLimit.{RateLimit}
-use Rattle.rules.specs.Buckets.{windowTicks}
 use Rattle.room.specs.Room.{lastOf, empty}
 use Rattle.keys.specs.Keys.{keyOf}
 use Rattle.frame.specs.Keys.{Bytes}
@@ -33,7 +32,7 @@ use Rattle.demand3.specs.Steps.{Beside, beside-kept}
 use Rattle.demand3.specs.Owned.{get-own, factor-own, rate-own, set-own, delete-own}
 use Rattle.demand3.specs.Increments.{inc-own}
 
-module _ (s : Settings) (le : bucketIn s ≤ windowTicks (windowIn s)) (key : List ℕ) (is : IsKey key) (rate : RateLimit) where
+module _ (s : Settings) (le : joinTicks s ≤ windowTicks s) (key : List ℕ) (is : IsKey key) (rate : RateLimit) where
   abbrev Keeps : List ℕ → List Entry → Type 0
   Keeps w log = Kept s (keyOf key) (limitWord s rate) w log
 
@@ -42,7 +41,7 @@ module _ (s : Settings) (le : bucketIn s ≤ windowTicks (windowIn s)) (key : Li
     distinct = empty-distinct slots ring;
     limits = λ i h. absurd (free-has (empty-free slots ring i) h);
     good = λ i h. absurd (free-has (empty-free slots ring i) h);
-    bare = λ f. good-none (windowTicks (windowIn s)) (bucketIn s) (cutWord (limitWord s rate)) le (lastOf (empty slots ring));
+    bare = λ f. good-none (windowTicks s) (joinTicks s) (cutWord (limitWord s rate)) le (lastOf (empty slots ring));
   }
 
   module _ (w : List ℕ) (t : ℕ) (log : List Entry) (a : Keeps w log) where
@@ -125,5 +124,5 @@ module _ (s : Settings) (le : bucketIn s ≤ windowTicks (windowIn s)) (key : Li
   all-kept w a (c ∷ cs) p = step-kept (words kind.Suppressed s w cs) (c .reading) (admitted s key w cs) (all-kept w a cs (p .1)) (c .op) (p .0)
 
   pub kept-ceiling : (w : List ℕ) (log : List Entry) → Keeps w log → (from : ℕ) →
-      inSpan from (from + (windowTicks (windowIn s) - bucketIn s)) log ≤ hardOf s rate
+      inSpan from (from + (windowTicks s - joinTicks s)) log ≤ hardOf s rate
   kept-ceiling w log a from = has-or w (keyOf key) (a .distinct) (λ i h. a .good i h .ceiling from) (λ f. a .bare f .ceiling from)

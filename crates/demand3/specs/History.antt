@@ -13,10 +13,10 @@ use Rattle.base.specs.Decides.{and-true, true-and}
 use Rattle.answers.specs.Rows.{decisionRow}
 use Rattle.common.specs.Limits.{hardWord, cutWord, softWord}
 use Rattle.settings.specs.Settings.{windowIn, factorIn}
+use Rattle.settings.specs.Clock.{windowInMilliseconds}
 use Rattle.answers.specs.declared.RateLimitDecision.{RateLimitDecision}
 use Rattle.settings.specs.declared.Settings.{Settings}
 use Rattle.common.specs.declared.units.RateLimit.{RateLimit}
-use Rattle.rules.specs.Buckets.{windowTicks}
 use Rattle.rules.specs.Sets.{stillFor}
 use Rattle.frame.specs.Keys.{Bytes}
 use Rattle.rules.specs.declared.RoomKind.the-variants as kind
@@ -114,8 +114,8 @@ LeavesAlone s key rate w t (getFactor k) = Bytes k
 LeavesAlone s key rate w t (setRate k r) = Bytes k × (k ≡ key → r ≡ rate)
 LeavesAlone s key rate w t (set k r comparator count mode) = Bytes k × (k ≢ key)
 LeavesAlone s key rate w t (delete k) = Bytes k × (k ≢ key)
-LeavesAlone s key rate w t (cleanup stale) = windowTicks (windowIn s) ≤ stale
-LeavesAlone s key rate w t (cleanupBoth absolute stale) = windowTicks (windowIn s) ≤ stale
+LeavesAlone s key rate w t (cleanup stale) = windowInMilliseconds (windowIn s) ≤ stale
+LeavesAlone s key rate w t (cleanupBoth absolute stale) = windowInMilliseconds (windowIn s) ≤ stale
 LeavesAlone s key rate w t clear = ⊥
 
 -- ---- and all other calls that change neither its limit nor its counts, by what the key holds before them
@@ -138,8 +138,8 @@ Harmless s key rate w t (setRate k r) = Bytes k × (k ≡ key → heldIn w key .
 Harmless s key rate w t (set k r comparator count mode) =
     Bytes k × (k ≡ key → stillFor kind.Suppressed s t r comparator count mode (heldIn w key) ≡ true)
 Harmless s key rate w t (delete k) = Bytes k × (k ≡ key → heldIn w key .known ≡ false)
-Harmless s key rate w t (cleanup stale) = windowTicks (windowIn s) ≤ stale
-Harmless s key rate w t (cleanupBoth absolute stale) = windowTicks (windowIn s) ≤ stale
+Harmless s key rate w t (cleanup stale) = windowInMilliseconds (windowIn s) ≤ stale
+Harmless s key rate w t (cleanupBoth absolute stale) = windowInMilliseconds (windowIn s) ≤ stale
 Harmless s key rate w t clear = ⊥
 
 abbrev pub Spares : Clause

@@ -9,9 +9,8 @@ use Prim.Native.Nat.{ℕ, _≤_}
 use native.Mathlib.Decide.{ℕ-discrete}
 use native.Mathlib.Omega.{arith}
 use Rattle.common.specs.Limits.{cutWord}
-use Rattle.settings.specs.Settings.{windowIn, bucketIn}
+use Rattle.settings.specs.Clock.{windowTicks, joinTicks}
 use Rattle.settings.specs.declared.Settings.{Settings}
-use Rattle.rules.specs.Buckets.{windowTicks}
 use Rattle.ring.specs.declared.Bucket.{Bucket}
 use Rattle.ring.specs.Ring.{buckets}
 use Rattle.keys.specs.declared.Key.{Key}
@@ -25,7 +24,7 @@ use Rattle.places.specs.Has.{Has, Same, other-back}
 
 -- good for settings and a limit
 abbrev pub GoodAt : Settings → ℕ → ℕ → List Bucket → List Entry → Type 0
-GoodAt s limit t xs log = Good (windowTicks (windowIn s)) (bucketIn s) (cutWord limit) t xs log
+GoodAt s limit t xs log = Good (windowTicks s) (joinTicks s) (cutWord limit) t xs log
 
 pub record Kept (s : Settings) (k : Key) (limit : ℕ) (w : List ℕ) (log : List Entry) : Type 0 where
   pub distinct : Distinct w
@@ -35,9 +34,9 @@ pub record Kept (s : Settings) (k : Key) (limit : ℕ) (w : List ℕ) (log : Lis
 
 -- ---- k's slot stands
 
-module _ (s : Settings) (le : bucketIn s ≤ windowTicks (windowIn s)) (k : Key) (limit : ℕ) where
+module _ (s : Settings) (le : joinTicks s ≤ windowTicks s) (k : Key) (limit : ℕ) where
   at-later : (t t′ : ℕ) (xs : List Bucket) (log : List Entry) → t ≤ t′ → GoodAt s limit t xs log → GoodAt s limit t′ xs log
-  at-later t t′ xs log h g = good-later (windowTicks (windowIn s)) (bucketIn s) (cutWord limit) le t′ h g
+  at-later t t′ xs log h g = good-later (windowTicks s) (joinTicks s) (cutWord limit) le t′ h g
 
   pub kept-same : (w v : List ℕ) (t : ℕ) (log : List Entry) → Same k w v t → lastOf w ≤ t → Distinct v → Kept s k limit w log → Kept s k limit v log
   kept-same w v t log m h d a = record {

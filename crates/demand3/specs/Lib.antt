@@ -8,3 +8,4 @@ pub mod Increments
 pub mod Folds
 pub mod Mission
 pub mod Demand3
+pub mod Modes

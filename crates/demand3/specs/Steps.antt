@@ -5,9 +5,9 @@ use mathlib.Core.Path.{refl, sym, subst}
 use mathlib.Core.List.{List}
 use mathlib.Core.Logic.{_≢_}
 use Prim.Native.Nat.{ℕ, _≤_}
-use Rattle.settings.specs.Settings.{windowIn, bucketIn}
+use Rattle.settings.specs.Settings.{windowIn}
+use Rattle.settings.specs.Clock.{ticksIn, windowInMilliseconds, windowTicks, joinTicks}
 use Rattle.settings.specs.declared.Settings.{Settings}
-use Rattle.rules.specs.Buckets.{windowTicks}
 use Rattle.room.specs.Room.{Room, lastOf}
 use Rattle.keys.specs.Keys.{keyOf}
 use Rattle.frame.specs.Distinct.{distinct-still}
@@ -32,19 +32,19 @@ use Rattle.demand3.specs.Cleans.{cleaned-kept}
 -- another key's slot; what is stale by at least the window
 abbrev pub Beside : Settings → List ℕ → Touch → Type 0
 Beside s key (slotOf j) = Bytes j × (j ≢ key)
-Beside s key (staleBy stale) = windowTicks (windowIn s) ≤ stale
+Beside s key (staleBy stale) = windowInMilliseconds (windowIn s) ≤ stale
 Beside s key whole = ⊥
 
-module _ (s : Settings) (le : bucketIn s ≤ windowTicks (windowIn s)) (limit : ℕ) (key : List ℕ) (is : IsKey key) (w : List ℕ) (t : ℕ) (log : List Entry)
+module _ (s : Settings) (le : joinTicks s ≤ windowTicks s) (limit : ℕ) (key : List ℕ) (is : IsKey key) (w : List ℕ) (t : ℕ) (log : List Entry)
     (a : Kept s (keyOf key) limit w log) where
   abbrev KeptBy : List ℕ → Type 0
   KeptBy v = Kept s (keyOf key) limit v log
 
   -- only the reading
-  pub keep-kept : (at : ℕ) (j : List ℕ) → Room w → lastOf w ≤ t → KeptBy (applied w at j (bucketIn s) t Keep)
+  pub keep-kept : (at : ℕ) (j : List ℕ) → Room w → lastOf w ≤ t → KeptBy (applied w at j (joinTicks s) t Keep)
   keep-kept at j o l =
-      let c = read-change w at j (bucketIn s) t (a .distinct) o in
-      subst KeptBy (sym (keep-words w at j (bucketIn s) t))
+      let c = read-change w at j (joinTicks s) t (a .distinct) o in
+      subst KeptBy (sym (keep-words w at j (joinTicks s) t))
       (kept-same s le (keyOf key) limit w _ t log (still-same c (keyOf key)) l (distinct-still c (a .distinct) refl refl) a)
 
   pub beside-kept : (op : Op kind.Suppressed) (v : List ℕ) → Beside s key (touches op) → Step kind.Suppressed s w t op v → KeptBy v
@@ -52,11 +52,12 @@ module _ (s : Settings) (le : bucketIn s ≤ windowTicks (windowIn s)) (limit : 
   beside-kept op v b (changed j who at change d e) =
       let n = subst (Beside s key) who b in
       let other : keyOf key ≢ keyOf j = λ q. n .1 (sym (key-injective key j (is .bytes) (n .0) (is .short) (d .passed .short) q)) in
-      let after : Step kind.Suppressed s w t op (applied w at j (bucketIn s) t change) = changed j who at change d refl in
+      let after : Step kind.Suppressed s w t op (applied w at j (joinTicks s) t change) = changed j who at change d refl in
       subst KeptBy (sym e)
       (kept-same s le (keyOf key) limit w _ t log (change-same kind.Suppressed s w t j at change d (a .distinct) (keyOf key) other) (d .passed .later)
       (step-leaves kind.Suppressed s w t op _ (d .passed .room) after .distinct (a .distinct)) a)
   beside-kept op v b (cleaned stale by p e) =
       subst KeptBy (sym e)
-      (cleaned-kept s le limit stale (subst (Beside s key) by b) (keyOf key) w (Uses.cleaned w t stale) t log p (clean-run w t stale (p .room)) a)
+      (cleaned-kept s le limit stale (subst (Beside s key) by b) (keyOf key) w (Uses.cleaned w t (ticksIn s) stale) t log p
+      (clean-run w t (ticksIn s) stale (p .room)) a)
   beside-kept op v b (cleared by o l e) = absurd (subst (Beside s key) by b)

@@ -8,6 +8,7 @@ use lib.Dec.{eqb}
 use Rattle.common.specs.Refusals.{first}
 use Rattle.settings.specs.Settings.{faults}
 use Rattle.common.specs.Units.{real}
+use Rattle.settings.specs.declared.ClockMode.the-variants.{Milliseconds}
 use Rattle.settings.specs.declared.Settings.{Settings}
 use Rattle.judge.specs.Verdict.{Verdict, verdict}
 use Rattle.absolute_verdicts.specs.Calls as Absolute
@@ -75,6 +76,7 @@ settingsOf window bucket factor cache = record {
   «bucket_size» = record { 0 = bucket };
   «hard_limit_factor» = real factor;
   «suppression_factor_cache_period» = record { 0 = cache };
+  «clock_mode» = Milliseconds;
 }
 
 unfoldable pub openWith : Settings → Opening

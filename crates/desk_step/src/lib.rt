@@ -20,6 +20,7 @@ use lines::CallLine;
 use lines::Op;
 use lines::SettingsLine;
 use printing::AnswerLine;
+use settings::ClockMode;
 use settings::Settings;
 
 // ---- the calls
@@ -139,6 +140,7 @@ fn settings_of(window: u64, bucket: u64, factor: u64, cache: u64) -> Settings
         bucket_size: BucketSize(bucket),
         hard_limit_factor: std::num::nearest_u64_to_f64(factor),
         suppression_factor_cache_period: SuppressionFactorCachePeriod(cache),
+        clock_mode: ClockMode::Milliseconds,
     }
 }
 

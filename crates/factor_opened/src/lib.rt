@@ -1,9 +1,10 @@
 // A key's suppression factor: the cached one while it may be used, else a fresh one, which is then cached.
 ghost use mathlib.Core.Path.{_≡_};
+ghost use Prim.Native.Nat.{_≤_};
 ghost use Rattle.settings.specs.Settings.{windowIn, cacheIn};
+ghost use Rattle.settings.specs.Clock.{ticksIn, cacheTicks};
 ghost use Rattle.rules.specs.Suppressed.{freshBy};
 ghost use Rattle.factor_opened.specs.Opened.{left, staysAt, usableAt, keptAt, ruleAt, secondAt, InRoom, workedBy, askedBy, askedAt};
-use common::WindowSize;
 use opened::Slot;
 use rules::Asked;
 use rules::Caching;
@@ -49,14 +50,13 @@ fn kept(x: Slot) -> CachedFactor
 
 // Whether the slot's cached factor is used: it stays, and its age is below the cache period.
 fn is_usable(settings: Settings, x: Slot, reading: u64) -> bool
-    ensures { λ r. ⌜ r ≡ usableAt (cacheIn settings) reading x ⌝ }
+    requires { ⌜ cacheIn settings ≤ 4294967296 ⌝ }
+    ensures { λ r. ⌜ r ≡ usableAt (cacheTicks settings) reading x ⌝ }
 {
-    let period = settings.suppression_factor_cache_period;
-    let most = period.0;
     if !stays(x) {
         return false;
     }
-    ring::less(reading, x.factor_time) < most
+    ring::less(reading, x.factor_time) < settings.cache_ticks()
 }
 
 // The rule of the fresh factor, by its clauses in order.
@@ -88,33 +88,42 @@ fn rule_of(x: Slot, soft: u64, hard: u64) -> FactorRule
     FactorRule::Worked
 }
 
-// What the slot's buckets count in the last second.
-fn second_of(w: &[u64], x: Slot, reading: u64) -> u64
+// What the slot's buckets, without the expired ones, count in the last second.
+fn second_of(settings: Settings, w: &[u64], x: Slot, reading: u64) -> u64
     requires { ⌜ InRoom (now w) x ⌝ }
-    ensures { λ n. ⌜ n ≡ secondAt (now (w .entry)) reading x ⌝ }
+    ensures { λ n. ⌜ n ≡ secondAt (ticksIn settings) (now (w .entry)) reading x ⌝ }
 {
     let series = x.series;
     if !series {
         return 0;
     }
+    let pass = x.pass;
     let r = w[layout::RING] as usize;
     let a = room::start(w, x.at);
     let e = a + (layout::FIXED + layout::CELL * r);
-    second::last_second(&w[a..e], r, w[layout::LAST], reading)
+    let last = w[layout::LAST];
+    second::last_second(
+        &w[a..e],
+        r,
+        last,
+        pass.expired,
+        reading,
+        settings.second_ticks(),
+    )
 }
 
 // The last second is asked for by the one rule that works the factor out.
 fn fresh_by(
     by: FactorRule,
+    settings: Settings,
     w: &[u64],
     x: Slot,
     soft: u64,
     total: u64,
-    window: WindowSize,
     reading: u64,
 ) -> f64
     requires { ⌜ InRoom (now w) x ⌝ }
-    ensures { λ r. ⌜ r ≡ freshBy by soft total (window .0) (secondAt (now (w .entry)) reading x) ⌝ }
+    ensures { λ r. ⌜ r ≡ freshBy by soft total (windowIn settings) (secondAt (ticksIn settings) (now (w .entry)) reading x) ⌝ }
 {
     match by {
         FactorRule::Nil => 0.0,
@@ -122,8 +131,8 @@ fn fresh_by(
         FactorRule::Worked => suppression::fresh_factor(
             soft,
             total,
-            window,
-            second_of(w, x, reading),
+            settings.window_size,
+            second_of(settings, w, x, reading),
         ),
     }
 }
@@ -131,12 +140,12 @@ fn fresh_by(
 // The fresh factor of a slot, and that it is cached.
 fn work_out(settings: Settings, w: &[u64], x: Slot, soft: u64, hard: u64, reading: u64) -> Asked
     requires { ⌜ InRoom (now w) x ⌝ }
-    ensures { λ r. ⌜ r ≡ workedBy soft hard (windowIn settings) (now (w .entry)) reading x ⌝ }
+    ensures { λ r. ⌜ r ≡ workedBy soft hard (windowIn settings) (ticksIn settings) (now (w .entry)) reading x ⌝ }
 {
     let pass = x.pass;
     let total = pass.live_total;
     let by = rule_of(x, soft, hard);
-    let factor = fresh_by(by, w, x, soft, total, settings.window_size, reading);
+    let factor = fresh_by(by, settings, w, x, soft, total, reading);
     Asked {
         factor,
         caching: Caching::Cached(CachedFactor {
@@ -148,7 +157,7 @@ fn work_out(settings: Settings, w: &[u64], x: Slot, soft: u64, hard: u64, readin
 
 // The factor of a slot of the room `w`, by its soft and its hard limit: the cached one while it may be used, else a fresh one.
 pub fn ask_by(settings: Settings, w: &[u64], x: Slot, soft: u64, hard: u64, reading: u64) -> Asked
-    requires { ⌜ InRoom (now w) x ⌝ }
+    requires { ⌜ InRoom (now w) x × (cacheIn settings ≤ 4294967296) ⌝ }
     ensures { λ r. ⌜ r ≡ askedBy settings soft hard (now (w .entry)) reading x ⌝ }
 {
     if is_usable(settings, x, reading) {
@@ -163,7 +172,7 @@ pub fn ask_by(settings: Settings, w: &[u64], x: Slot, soft: u64, hard: u64, read
 
 // The same by its limit.
 pub fn ask(settings: Settings, w: &[u64], x: Slot, limit: u64, reading: u64) -> Asked
-    requires { ⌜ InRoom (now w) x ⌝ }
+    requires { ⌜ InRoom (now w) x × (cacheIn settings ≤ 4294967296) ⌝ }
     ensures { λ r. ⌜ r ≡ askedAt settings (now (w .entry)) reading x limit ⌝ }
 {
     let soft = common::soft_limit(limit, settings.hard_limit_factor);

@@ -12,7 +12,8 @@ use lib.Dec.{ltb, eqb}
 use borrow.Author.Tests.{le-ltb, lt-ltb, ltb-true, eqb-true}
 use Rattle.base.specs.Decides.{and-true}
 use Rattle.common.specs.Refusals.{first}
-use Rattle.settings.specs.Settings.{windowIn, faults}
+use Rattle.settings.specs.Settings.{faults}
+use Rattle.settings.specs.Clock.{windowTicks}
 use Rattle.settings.specs.declared.Settings.{Settings}
 use Rattle.sweep.specs.Sweep.{passOf}
 use Rattle.rules.specs.declared.RoomKind.{RoomKind}
@@ -68,11 +69,11 @@ module _ (kind : RoomKind) (s : Settings) (w key : List ℕ) where
         let f : soundSeries kind s (ringOf w) (lastOf w) (bodyOf w at) ≡ true = rw e at (d .0) in
         and-true (soundBuckets (ringOf w) (bodyOf w at) (lastOf w)) _ f .0
 
-    slot-at : slotOf (windowIn s) w (lastOf w) (addressed w key) .at ≡ addressed w key
+    slot-at : slotOf (windowTicks s) w (lastOf w) (addressed w key) .at ≡ addressed w key
     slot-at = addressed-at w key s _ (record { room = p .room; reading = lastOf w; is = refl })
 
     slot-count : (x y : Bool) → ltb (addressed w key) (slotsOf w) ≡ x → hasSeries (useOf w (addressed w key)) ≡ y →
-        slotOf (windowIn s) w (lastOf w) (addressed w key) .pass .buckets ≡ length (bucketsOf w key)
+        slotOf (windowTicks s) w (lastOf w) (addressed w key) .pass .buckets ≡ length (bucketsOf w key)
     unfolding slotOf opened passOf bucketsOf
     slot-count false y e f = rw e
     slot-count true false e f = rw (e, f)

@@ -3,6 +3,7 @@ ghost use mathlib.Core.Path.{_≡_};
 ghost use Prim.Native.Nat.{_+_, _≤_};
 ghost use Rattle.layout.specs.Layout.{mostTotal};
 ghost use Rattle.rules.specs.Suppressed.{reachOf, fullAt, drawn, declinedBy};
+ghost use Rattle.settings.specs.Settings.{cacheIn};
 ghost use Rattle.factor_opened.specs.Opened.{InRoom};
 ghost use Rattle.forecast_opened.specs.Forecast.{forecastAt, outcomeAt};
 use answers::RateLimitDecision;
@@ -83,7 +84,7 @@ pub fn decide(
     count: u64,
     draw: u64,
 ) -> Outcome
-    requires { ⌜ InRoom (now w) x ⌝ }
+    requires { ⌜ InRoom (now w) x × (cacheIn settings ≤ 4294967296) ⌝ }
     ensures { λ r. ⌜ r ≡ outcomeAt settings (now (w .entry)) reading x limit forecast count draw ⌝ }
 {
     let soft = common::soft_limit(limit, settings.hard_limit_factor);

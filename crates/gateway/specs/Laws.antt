@@ -25,7 +25,7 @@ use Rattle.rules.specs.declared.Reach.{Reach}
 use Rattle.rules.specs.declared.Reach.the-variants.{Hard, Soft, Over, Between}
 use Rattle.rules.specs.declared.RoomKind.the-variants.{Suppressed}
 use Rattle.rules.specs.Held as Key
-use Rattle.rules.specs.Both.{liveOf}
+use Rattle.rules.specs.Both.{overdueIn, lookedOf}
 use Rattle.rules.specs.Suppressed as Rules
 use Rattle.rules.specs.Suppressed.{admits, limitFor, incTurns, drawn, outcomeOf, outcome}
 use Rattle.room.specs.Room.{ringOf}
@@ -86,7 +86,8 @@ reach-decides Between a t c draw = refl
 decides : (s : Settings) (t limit c draw : ℕ) (h : Key.Held) → asShot (outcome s t limit c draw h .decision) ≡ Decided (outcome s t limit c draw h .decision)
 unfolding outcome
 decides s t limit c draw h =
-    reach-decides (Rules.reachOf (Rules.forecast (liveOf s t h) c) (softWord (factorIn s) limit) (cutWord limit)) (Rules.asked s t limit h) t c draw
+    reach-decides (Rules.reachOf (Rules.forecast (lookedOf s t h) c) (softWord (factorIn s) limit) (cutWord limit))
+    (Rules.asked s t (overdueIn s t h) limit h) t c draw
 
 -- a limiter's verdict v, unless it refuses with n, as the gateway's
 carried : (n : ℕ) (w r new : List ℕ) (v : Room.Verdict RateLimitDecision) → asShot (v .answer) ≡ Decided (v .answer) →

@@ -7,6 +7,8 @@ use lib.Ieee.{Float}
 use Rattle.common.specs.declared.comparator.RateLimitComparator.the-variants as comparator
 use Rattle.answers.specs.declared.HistoryUpdateMode.the-variants as mode
 use Rattle.answers.specs.declared.HistoryPreservation.the-variants as preservation
+use Rattle.settings.specs.declared.ClockMode.{ClockMode}
+use Rattle.settings.specs.declared.ClockMode.the-variants.{Milliseconds, Nanoseconds}
 use Rattle.settings.specs.declared.Settings.{Settings}
 use Rattle.common.specs.declared.units.RateLimit.{RateLimit}
 use Rattle.inputs.specs.declared.Comparison.{Comparison}
@@ -16,12 +18,17 @@ use Rattle.inputs.specs.declared.Mode.the-variants as chosen
 
 -- ---- what comes in as numbers
 
-abbrev pub settings : ℕ → ℕ → ℕ → Float → Settings
-settings window bucket cache factor = record {
+-- 0 milliseconds, any other number nanoseconds
+unfoldable pub clockOf : ℕ → ClockMode
+clockOf n = cond (eqb n 0) Milliseconds Nanoseconds
+
+abbrev pub settings : ℕ → ℕ → ℕ → Float → ℕ → Settings
+settings window bucket cache factor clock = record {
   «window_size» = record { 0 = window };
   «bucket_size» = record { 0 = bucket };
   «hard_limit_factor» = factor;
   «suppression_factor_cache_period» = record { 0 = cache };
+  «clock_mode» = clockOf clock;
 }
 
 abbrev pub rated : Float → RateLimit

@@ -1,12 +1,13 @@
 // What comes in as plain numbers.
 ghost use mathlib.Core.Path.{_≡_};
-ghost use Rattle.inputs.specs.Inputs.{settings, comparisonOf, preserving};
+ghost use Rattle.inputs.specs.Inputs.{clockOf, settings, comparisonOf, preserving};
 use answers::HistoryPreservation;
 use answers::HistoryUpdateMode;
 use common::BucketSize;
 use common::RateLimitComparator;
 use common::SuppressionFactorCachePeriod;
 use common::WindowSize;
+use settings::ClockMode;
 use settings::Settings;
 
 // The comparator that a number names, if it names one.
@@ -21,14 +22,25 @@ pub enum Mode {
     Unnamed,
 }
 
-pub fn settings(window: u64, bucket: u64, cache: u64, factor: f64) -> Settings
-    ensures { λ r. ⌜ r ≡ settings window bucket cache factor ⌝ }
+// The clock mode that a number names.
+pub fn clock_of(number: u64) -> ClockMode
+    ensures { λ r. ⌜ r ≡ clockOf number ⌝ }
+{
+    if number == 0 {
+        return ClockMode::Milliseconds;
+    }
+    ClockMode::Nanoseconds
+}
+
+pub fn settings(window: u64, bucket: u64, cache: u64, factor: f64, clock: u64) -> Settings
+    ensures { λ r. ⌜ r ≡ settings window bucket cache factor clock ⌝ }
 {
     Settings {
         window_size: WindowSize(window),
         bucket_size: BucketSize(bucket),
         hard_limit_factor: factor,
         suppression_factor_cache_period: SuppressionFactorCachePeriod(cache),
+        clock_mode: clock_of(clock),
     }
 }
 

@@ -7,7 +7,8 @@ use Prim.Native.Nat.{ℕ, _≤_}
 use lib.ListN.{length}
 use lib.Dec.{ltb, eqb}
 use Rattle.common.specs.Refusals.{first}
-use Rattle.settings.specs.Settings.{windowIn, faults, Proper}
+use Rattle.settings.specs.Settings.{faults, Proper}
+use Rattle.settings.specs.Clock.{windowTicks, lookTicks}
 use Rattle.settings.specs.declared.Settings.{Settings}
 use Rattle.layout.specs.Layout.{longestKey}
 use Rattle.room.specs.Room.{Room, sized, lastOf}
@@ -15,7 +16,7 @@ use Rattle.rules.specs.declared.RoomKind.{RoomKind}
 use Rattle.judge.specs.declared.Judged.{Judged}
 use Rattle.opened.specs.declared.Slot.{Slot}
 use Rattle.opened.specs.Sound.{addressed, soundAt}
-use Rattle.opened.specs.Slot.{noSlot, pickSlot, slotOf}
+use Rattle.opened.specs.Slot.{noSlot, pickSlot, slotOf, firstLook}
 
 -- 5: "the room's lengths are wrong, or the slot addressed is unsound"; 6: "the reading is below the last of a call not refused"; 7: "key over 32 bytes"
 unfoldable pub misfits : RoomKind → Settings → List ℕ → ℕ → List ℕ → List (ℕ × Bool)
@@ -37,7 +38,11 @@ faultOf s w = cond (eqb (first (faults s)) 0) (cond (sized w) 0 5) (first (fault
 
 -- the key's slot, opened at the reading
 abbrev pub slotIn : Settings → List ℕ → ℕ → List ℕ → Slot
-slotIn s w t key = slotOf (windowIn s) w t (addressed w key)
+slotIn s w t key = slotOf (windowTicks s) w t (addressed w key)
+
+-- and as a first look leaves it
+abbrev pub lookedIn : Settings → List ℕ → ℕ → List ℕ → Slot
+lookedIn s w t key = firstLook (lookTicks s) t (slotIn s w t key)
 
 -- the first of 1 to 7, and where there is none the slot
 unfoldable pub judged : RoomKind → Settings → List ℕ → ℕ → List ℕ → Judged

@@ -10,7 +10,8 @@ use lib.Dec.{eqb}
 use borrow.Author.Tests.{eq-eqb, ne-eqb, eqb-true, eqb-false, lt-ltb, le-ltb, ltb-false, not-false}
 use Rattle.base.specs.Decides.{and-true}
 use Rattle.common.specs.Refusals.{first, Positive, first-found, first-none, all-false}
-use Rattle.settings.specs.Settings.{windowIn, faults, Proper, proper, unrefused}
+use Rattle.settings.specs.Settings.{faults, Proper, proper, unrefused}
+use Rattle.settings.specs.Clock.{windowTicks}
 use Rattle.settings.specs.declared.Settings.{Settings}
 use Rattle.room.specs.Room.{Room, sized, lastOf}
 use Rattle.room.specs.Laws.{room-sized, sized-room}
@@ -42,7 +43,8 @@ module _ (kind : RoomKind) (s : Settings) (w : List ℕ) (t : ℕ) (key : List �
   unfolding judged
   refused-is n e z = sym (rw (e, ne-eqb n 0 z))
 
-  pub passed-is : (x : Slot) → early kind s w t key ≡ 0 → x ≡ slotOf (windowIn s) w t (addressed w key) → record { code = 0; slot = x } ≡ judged kind s w t key
+  pub passed-is : (x : Slot) → early kind s w t key ≡ 0 → x ≡ slotOf (windowTicks s) w t (addressed w key) →
+      record { code = 0; slot = x } ≡ judged kind s w t key
   unfolding judged
   passed-is x e p = sym (rw (e, ← p))
 
@@ -50,7 +52,7 @@ module _ (kind : RoomKind) (s : Settings) (w : List ℕ) (t : ℕ) (key : List �
   unfolding judged
   code-is = refl
 
-  pub slot-is : early kind s w t key ≡ 0 → judged kind s w t key .slot ≡ slotOf (windowIn s) w t (addressed w key)
+  pub slot-is : early kind s w t key ≡ 0 → judged kind s w t key .slot ≡ slotOf (windowTicks s) w t (addressed w key)
   unfolding judged
   slot-is e = rw (eq-eqb _ 0 e)
 

@@ -98,8 +98,8 @@ pub fn judge(kind: RoomKind, settings: Settings, w: &[u64], reading: u64, key: &
     if n != 0 {
         return refused(n);
     }
-    let window = settings.window_size;
-    let x = opened::open_at(w, address(w, key), reading, window.0);
+    let window = settings.window_ticks();
+    let x = opened::open_at(w, address(w, key), reading, window);
     let m = misfit(kind, settings, w, reading, key, x);
     if m != 0 {
         return refused(m);

@@ -8,24 +8,25 @@ use mathlib.Core.Logic.{_≢_}
 use Prim.Native.Nat.{ℕ, suc, _-_, _<_}
 use native.Mathlib.Omega.{arith}
 use lib.ListN.{length, getD, drop}
-use lib.Dec.{leb, ltb}
+use lib.Dec.{ltb}
 use borrow.Author.Tests.{eq-eqb, eqb-true, le-ltb, ltb-true, ltb-false, leb-false, not-false}
 use Rattle.common.specs.Limits.{absoluteWord, limitOk}
 use Rattle.common.specs.Ranges.{rateOk, one}
-use Rattle.settings.specs.Settings.{windowIn, bucketIn}
+use Rattle.settings.specs.Settings.{windowIn}
+use Rattle.settings.specs.Clock.{ticksIn, windowTicks, lookTicks, joinTicks}
 use Rattle.settings.specs.declared.Settings.{Settings}
 use Rattle.answers.specs.declared.RateLimitDecision.{RateLimitDecision}
 use Rattle.answers.specs.declared.RateLimitDecision.the-variants as decision
 use Rattle.common.specs.declared.units.RateLimit.{RateLimit}
 use Rattle.common.specs.declared.units.WindowSize.{WindowSize}
-use Rattle.rules.specs.Buckets.{ahead, gone, live, evicted, joined}
+use Rattle.rules.specs.Buckets as held
+use Rattle.rules.specs.Buckets.{ahead, live, outIf, evicted, joined}
 use Rattle.sweep.specs.Measured.{evicted-live}
 use Rattle.history.specs.Changes.{joined-declineds}
 use Rattle.ring.specs.declared.Bucket.{Bucket}
 use Rattle.ring.specs.Ring.{bucket, noBucket, sumOf, counts, declineds, deniedOf, totalOf, declinedOf, buckets}
 use Rattle.ring.specs.Sound.{Sound}
 use Rattle.ring.specs.Sums.{sum-one, sum-split, sum-at}
-use Rattle.ring.specs.View.{view-length}
 use Rattle.keys.specs.declared.Key.{Key}
 use Rattle.room.specs.Room.{slotsOf, ringOf, lastOf, useOf, keyAt, find, bodyOf, vacant, withReading}
 use Rattle.keys.specs.Keys.{keyFits, keyOf}
@@ -37,12 +38,12 @@ use Rattle.change.specs.declared.Change.the-variants.{Keep, Update, Take}
 use Rattle.edit.specs.declared.Edit.{Edit}
 use Rattle.edit.specs.declared.Then.{Then}
 use Rattle.edit.specs.declared.Then.the-variants.{Nothing, Increment}
-use Rattle.change.specs.Words.{EditsAt, applied}
+use Rattle.change.specs.Words.{EditsAt, Applies, applied}
 use Rattle.edit.specs.Bodies.{startedView, actedView, editedView}
 use Rattle.rules.specs.declared.RoomKind.the-variants.{Absolute}
 use Rattle.opened.specs.declared.Slot.{Slot}
-use Rattle.opened.specs.Slot.{noSlot}
-use Rattle.judge.specs.Judge.{refusals, Passed, slotIn}
+use Rattle.opened.specs.Look.{look-series, look-used, look-limit, look-factor, look-time}
+use Rattle.judge.specs.Judge.{refusals, Passed, slotIn, lookedIn}
 use Rattle.judge.specs.Laws.{passed}
 use Rattle.base.specs.Decides.{other-true}
 use Rattle.cleanup.specs.Laws.{sound-parts, parts-sound}
@@ -50,8 +51,8 @@ use Rattle.common.specs.Refusals.{first, AllFalse, all-false}
 use Rattle.answers.specs.declared.TotalAnswer.{TotalAnswer}
 use Rattle.answers.specs.declared.TotalAnswer.the-variants as total
 use Rattle.rules.specs.Held.{Held, lacksSlot}
-use Rattle.rules.specs.Both.{limitIn, liveOf, passes, ringFull}
-use Rattle.rules.specs.Absolute.{below, testsAgain, outIf, tested, allowedBy, wholeLimit, allowed, pickDecision, rejection, decided, outFor, foundFor, incTurns}
+use Rattle.rules.specs.Both.{limitIn, liveOf, overdue, overdueIn, lookedOf, passes, ringFull}
+use Rattle.rules.specs.Absolute.{below, testsAgain, tested, allowedBy, wholeLimit, allowed, pickDecision, rejection, decided, outFor, foundFor, incTurns}
 use Rattle.judge.specs.Held.{heldIn, noneFree, held-here, held-none}
 use Rattle.opened.specs.Sound.{limitOf, factorOf, factorTimeOf, hasSeries, hasCached, rightUse, declinedRight, soundSeries, addressed}
 use Rattle.judge.specs.Verdict.{Verdict}
@@ -63,7 +64,7 @@ use Rattle.absolute_test.specs.Test.{goneIf, totalIf}
 use Rattle.absolute_opened.specs.Laws.{counts-change}
 use Rattle.absolute_verdicts.specs.Calls.{get, isAllowed, inc}
 use Rattle.absolute_verdicts.specs.Seen.{use-one, has-series, limit-whole, total-out, rest-out, full-out}
-use Rattle.absolute_verdicts.specs.Laws.{known, evict-applies, leaving-applies, opening-applies}
+use Rattle.absolute_verdicts.specs.Laws.{known, known-look, evict-applies, look-applies, leaving-applies, opening-applies}
 use Rattle.leaves.specs.AbsoluteLeaves.{Left, GetLaw, AskLaw, IncLaw}
 use Rattle.leaves.specs.Follows.{Follows, follows, unrefused-early, unrefused-own}
 use Rattle.leaves.specs.Calls.{Stands, stands, implied, keep-words, update-changed, take-changed, none-right, series-right, limit-right, begins-view}
@@ -95,7 +96,7 @@ module _ (s : Settings) (w : List ℕ) (t : ℕ) (key : List ℕ) (p : Passed Ab
   series-known : heldIn w key .known ≡ true → slotIn s w t key .series ≡ true
   series-known h = seen Absolute s w t key p .series-is ∙ h
 
-  slot-known : heldIn w key .known ≡ true → Known Absolute s w t (addressed w key) (slotIn s w t key)
+  slot-known : heldIn w key .known ≡ true → Known Absolute s w t (addressed w key) true (slotIn s w t key)
   slot-known h = known s w t key p (series-known h)
 
   use-known : heldIn w key .known ≡ true → useOf w (addressed w key) ≡ 1
@@ -121,17 +122,17 @@ module _ (s : Settings) (w : List ℕ) (t : ℕ) (key : List ℕ) (p : Passed Ab
     pub time-same : e .«factor_time» ≡ slotIn s w t key .«factor_time»
     pub used-same : e .used ≡ slotIn s w t key .used
 
-  edit-left : (e : Edit) → heldIn w key .known ≡ true → Same e → EditsAt w (addressed w key) (bucketIn s) t e → (ys : List Bucket) →
-      editedView (bucketIn s) t e (buckets (ringOf w) (bodyOf w (addressed w key))) ≡ ys →
-      declineds ys ≡ 0 → Left s w (applied w (addressed w key) key (bucketIn s) t (Update e)) t key ys
+  edit-left : (e : Edit) → heldIn w key .known ≡ true → Same e → EditsAt w (addressed w key) (joinTicks s) t e → (ys : List Bucket) →
+      editedView (joinTicks s) t e (buckets (ringOf w) (bodyOf w (addressed w key))) ≡ ys →
+      declineds ys ≡ 0 → Left s w (applied w (addressed w key) key (joinTicks s) t (Update e)) t key ys
   unfolding rightUse
   edit-left e h q o ys y d =
       let at = addressed w key in
       let x = slotIn s w t key in
       let k = slot-known h in
-      let v = applied w at key (bucketIn s) t (Update e) in
+      let v = applied w at key (joinTicks s) t (Update e) in
       let u : e .used ≡ 1 = q .used-same ∙ k .used-is ∙ use-known h in
-      let z = stands Absolute s w v at (bucketIn s) t (keyAt w at) e o (update-changed w at key (bucketIn s) t e o) ys y
+      let z = stands Absolute s w v at (joinTicks s) t (keyAt w at) e o (update-changed w at key (joinTicks s) t e o) ys y
       (found-key Absolute s w t at x (slot-found h))
       (eq-eqb (e .used) 1 u) (none-right Absolute (declineds ys) d) (ap (limitOk (windowIn s) one) (q .limit-same) ∙ k .limit-ok)
       (λ f. absurd (false≢true (sym (ap (λ (n : ℕ). hasCached n) u) ∙ f))) in
@@ -145,42 +146,52 @@ module _ (s : Settings) (w : List ℕ) (t : ℕ) (key : List ℕ) (p : Passed Ab
         sound = z .sound;
       }
 
-  -- the expired buckets out, and nothing else
-  evict-left : heldIn w key .known ≡ true → Left s w (applied w (addressed w key) key (bucketIn s) t (Update (evicting (slotIn s w t key) Nothing))) t key
-      (live (windowIn s) t (buckets (ringOf w) (bodyOf w (addressed w key))))
+  -- the expired buckets out or not, and nothing else: of the slot as it is, or as a first look leaves it
+  evicts-left : (out : Bool) (x : Slot) → heldIn w key .known ≡ true → Known Absolute s w t (addressed w key) out x → Same (evicting x Nothing) →
+      Applies w (slotIn s w t key .at) (joinTicks s) t (Update (evicting x Nothing)) →
+      Left s w (applied w (addressed w key) key (joinTicks s) t (Update (evicting x Nothing))) t key
+      (outIf out (windowTicks s) t (buckets (ringOf w) (bodyOf w (addressed w key))))
   unfolding editedView actedView startedView
-  evict-left h =
-      let x = slotIn s w t key in
+  evicts-left out x h k same a =
       let xs = buckets (ringOf w) (bodyOf w (addressed w key)) in
-      let k = slot-known h in
-      let o : EditsAt w (addressed w key) (bucketIn s) t (evicting x Nothing) =
-      subst (λ (n : ℕ). EditsAt w n (bucketIn s) t (evicting x Nothing)) (k .at-is) (evict-applies s w t key p (series-known h)) in
-      edit-left (evicting x Nothing) h (record { limit-same = refl; factor-same = refl; time-same = refl; used-same = refl }) o (live (windowIn s) t xs)
-      (ap (λ (i : ℕ). drop i xs) (k .measured .expired-are)) (omega (arith, sum-split deniedOf (gone (windowIn s) t xs) xs, none-declined h))
+      let o : EditsAt w (addressed w key) (joinTicks s) t (evicting x Nothing) =
+      subst (λ (n : ℕ). EditsAt w n (joinTicks s) t (evicting x Nothing)) (slot-known h .at-is) a in
+      edit-left (evicting x Nothing) h same o (outIf out (windowTicks s) t xs) (ap (λ (i : ℕ). drop i xs) (k .measured .expired-are))
+      (omega (arith, sum-split deniedOf (held.goneIf out (windowTicks s) t xs) xs, none-declined h))
+
+  look-same : Same (evicting (lookedIn s w t key) Nothing)
+  look-same =
+      let x = slotIn s w t key in
+      record {
+        limit-same = look-limit (lookTicks s) t x;
+        factor-same = look-factor (lookTicks s) t x;
+        time-same = look-time (lookTicks s) t x;
+        used-same = look-used (lookTicks s) t x;
+      }
 
   leaving-same : (out : Bool) (then : Then) → Same (leaving out (slotIn s w t key) then)
   leaving-same true then = record { limit-same = refl; factor-same = refl; time-same = refl; used-same = refl }
   leaving-same false then = record { limit-same = refl; factor-same = refl; time-same = refl; used-same = refl }
 
   leaving-view : (out : Bool) (c : ℕ) (xs : List Bucket) →
-      editedView (bucketIn s) t (leaving out (slotIn s w t key) (Increment c 0)) xs ≡ joined (bucketIn s) t c 0 (drop (goneIf out (slotIn s w t key)) xs)
+      editedView (joinTicks s) t (leaving out (slotIn s w t key) (Increment c 0)) xs ≡ joined (joinTicks s) t c 0 (drop (goneIf out (slotIn s w t key)) xs)
   unfolding editedView actedView startedView
   leaving-view true c xs = refl
   leaving-view false c xs = refl
 
   -- the count joined, with the expired buckets out or not
   count-left : (c : ℕ) (out : Bool) → heldIn w key .known ≡ true → passes c (totalIf out (slotIn s w t key)) ≡ false →
-      fullAfter (ringOf w) (bucketIn s) t (goneIf out (slotIn s w t key)) (slotIn s w t key) ≡ false →
-      Left s w (applied w (addressed w key) key (bucketIn s) t (Update (leaving out (slotIn s w t key) (Increment c 0)))) t key
-      (joined (bucketIn s) t c 0 (drop (goneIf out (slotIn s w t key)) (buckets (ringOf w) (bodyOf w (addressed w key)))))
+      fullAfter (ringOf w) (joinTicks s) t (goneIf out (slotIn s w t key)) (slotIn s w t key) ≡ false →
+      Left s w (applied w (addressed w key) key (joinTicks s) t (Update (leaving out (slotIn s w t key) (Increment c 0)))) t key
+      (joined (joinTicks s) t c 0 (drop (goneIf out (slotIn s w t key)) (buckets (ringOf w) (bodyOf w (addressed w key)))))
   count-left c out h o f =
       let x = slotIn s w t key in
       let xs = buckets (ringOf w) (bodyOf w (addressed w key)) in
       let k = goneIf out x in
       edit-left (leaving out x (Increment c 0)) h (leaving-same out (Increment c 0)) (leaving-applies s w t key p c out (series-known h) o f)
-      (joined (bucketIn s) t c 0 (drop k xs))
+      (joined (joinTicks s) t c 0 (drop k xs))
       (leaving-view out c xs)
-      (joined-declineds (bucketIn s) t c 0 (drop k xs) ∙ omega (arith, sum-split deniedOf k xs, none-declined h))
+      (joined-declineds (joinTicks s) t c 0 (drop k xs) ∙ omega (arith, sum-split deniedOf k xs, none-declined h))
 
   -- nothing but the reading
   keep-left : heldIn w key .known ≡ true → Left s w (withReading w t) t key (buckets (ringOf w) (bodyOf w (addressed w key)))
@@ -214,15 +225,15 @@ module _ (s : Settings) (w : List ℕ) (t : ℕ) (key : List ℕ) (p : Passed Ab
 
   -- an unknown key's series begins, in the lowest free slot
   begin-left : (rate : RateLimit) (c : ℕ) → Bytes key → rateOk (rate .0) ≡ true → passes c 0 ≡ false → vacant w < slotsOf w →
-      Stands Absolute s w (applied w (vacant w) key (bucketIn s) t (Take (opening (absoluteWord (rate .0) (windowIn s)) (Increment c 0) 0 0 1))) (vacant w) t
+      Stands Absolute s w (applied w (vacant w) key (joinTicks s) t (Take (opening (absoluteWord (rate .0) (windowIn s)) (Increment c 0) 0 0 1))) (vacant w) t
       (keyOf key) (absoluteWord (rate .0) (windowIn s)) 0 0 1 (bucket c 0 t ∷ [])
   unfolding editedView actedView startedView
   begin-left rate c y r o i =
       let l = absoluteWord (rate .0) (windowIn s) in
       let e = opening l (Increment c 0) 0 0 1 in
       let a = opening-applies s w t key p l c 0 o i in
-      stands Absolute s w (applied w (vacant w) key (bucketIn s) t (Take e)) (vacant w) (bucketIn s) t (keyOf key) e a
-      (take-changed w (vacant w) key (bucketIn s) t e a) (bucket c 0 t ∷ []) (begins-view (bucketIn s) t c)
+      stands Absolute s w (applied w (vacant w) key (joinTicks s) t (Take e)) (vacant w) (joinTicks s) t (keyOf key) e a
+      (take-changed w (vacant w) key (joinTicks s) t e a) (bucket c 0 t ∷ []) (begins-view (joinTicks s) t c)
       (key-fits key y (p .short)) (series-right Absolute) (none-right Absolute _ (sum-one deniedOf (bucket c 0 t)))
       (limit-right Absolute s rate (p .settings) r) (uncached _)
 
@@ -233,18 +244,33 @@ module _ (s : Settings) (w : List ℕ) (t : ℕ) (key : List ℕ) (p : Passed Ab
 
   -- the words after a change of the key's slot
   abbrev after : Change → List ℕ
-  after u = applied w (slotIn s w t key .at) key (bucketIn s) t u
+  after u = applied w (slotIn s w t key .at) key (joinTicks s) t u
+
+  -- at the slot's own place, of the key's buckets
+  at-place : (e : Change) (f : List Bucket → List Bucket) → heldIn w key .known ≡ true →
+      Left s w (applied w (addressed w key) key (joinTicks s) t e) t key (f (buckets (ringOf w) (bodyOf w (addressed w key)))) →
+      Left s w (after e) t key (f (heldIn w key .buckets))
+  at-place e f h l =
+      subst (λ (n : ℕ). Left s w (applied w n key (joinTicks s) t e) t key (f (heldIn w key .buckets))) (sym (at-known h))
+      (subst (λ (ys : List Bucket). Left s w (applied w (addressed w key) key (joinTicks s) t e) t key (f ys)) (held-known h) l)
 
   evicted-left : heldIn w key .known ≡ true → Left s w (after (Update (evicting (slotIn s w t key) Nothing))) t key (liveOf s t (heldIn w key))
   evicted-left h =
       let x = slotIn s w t key in
-      let e = Update (evicting x Nothing) in
-      subst (λ (n : ℕ). Left s w (applied w n key (bucketIn s) t e) t key (liveOf s t (heldIn w key))) (sym (at-known h))
-      (subst (λ (ys : List Bucket). Left s w (applied w (addressed w key) key (bucketIn s) t e) t key (live (windowIn s) t ys)) (held-known h) (evict-left h))
+      at-place (Update (evicting x Nothing)) (λ (ys : List Bucket). live (windowTicks s) t ys) h
+      (evicts-left true x h (slot-known h) (record { limit-same = refl; factor-same = refl; time-same = refl; used-same = refl })
+      (evict-applies s w t key p (series-known h)))
+
+  looked-left : heldIn w key .known ≡ true → Left s w (after (Update (evicting (lookedIn s w t key) Nothing))) t key (lookedOf s t (heldIn w key))
+  looked-left h =
+      let y = lookedIn s w t key in
+      at-place (Update (evicting y Nothing)) (λ (ys : List Bucket). outIf (overdue s t ys) (windowTicks s) t ys) h
+      (evicts-left (overdue s t (buckets (ringOf w) (bodyOf w (addressed w key)))) y h (known-look s w t key p (series-known h)) look-same
+      (look-applies s w t key p (series-known h)))
 
   kept-left : heldIn w key .known ≡ true → Left s w (after Keep) t key (heldIn w key .buckets)
   kept-left h =
-      subst (λ (v : List ℕ). Left s w v t key (heldIn w key .buckets)) (sym (keep-words w (slotIn s w t key .at) key (bucketIn s) t))
+      subst (λ (v : List ℕ). Left s w v t key (heldIn w key .buckets)) (sym (keep-words w (slotIn s w t key .at) key (joinTicks s) t))
       (subst (λ (ys : List Bucket). Left s w (withReading w t) t key ys) (held-known h) (keep-left h))
 
   get-known : heldIn w key .known ≡ true → getChange (slotIn s w t key) ≡ Update (evicting (slotIn s w t key) Nothing)
@@ -259,32 +285,44 @@ module _ (s : Settings) (w : List ℕ) (t : ℕ) (key : List ℕ) (p : Passed Ab
       GetLaw s w t key v
   get-law v a b = record {
     answer = a;
-    unknown = λ h. b ∙ ap after (get-unknown h) ∙ keep-words w (slotIn s w t key .at) key (bucketIn s) t;
+    unknown = λ h. b ∙ ap after (get-unknown h) ∙ keep-words w (slotIn s w t key .at) key (joinTicks s) t;
     known = λ h. subst (λ (y : List ℕ). Left s w y t key (liveOf s t (heldIn w key))) (sym (b ∙ ap after (get-known h))) (evicted-left h);
   }
 
+  look-known : heldIn w key .known ≡ true → getChange (lookedIn s w t key) ≡ Update (evicting (lookedIn s w t key) Nothing)
+  unfolding getChange
+  look-known h =
+      ap (λ (z : Bool). pickChange z (Update (evicting (lookedIn s w t key) Nothing)) Keep) (look-series (lookTicks s) t (slotIn s w t key) ∙ series-known h)
+
+  look-unknown : heldIn w key .known ≡ false → getChange (lookedIn s w t key) ≡ Keep
+  unfolding getChange
+  look-unknown h =
+      ap (λ (z : Bool). pickChange z (Update (evicting (lookedIn s w t key) Nothing)) Keep)
+      (look-series (lookTicks s) t (slotIn s w t key) ∙ seen Absolute s w t key p .series-is ∙ h)
+
   -- by whether the test is made again
   ask-left : (again : Bool) → heldIn w key .known ≡ true →
-      Left s w (after (pickChange again (Update (evicting (slotIn s w t key) Nothing)) Keep)) t key (outIf again (windowIn s) t (heldIn w key .buckets))
-  ask-left true h = evicted-left h
+      Left s w (after (pickChange again (Update (evicting (lookedIn s w t key) Nothing)) Keep)) t key
+      (outIf (again && overdueIn s t (heldIn w key)) (windowTicks s) t (heldIn w key .buckets))
+  ask-left true h = looked-left h
   ask-left false h = kept-left h
 
-  ask-keeps : (again : Bool) → heldIn w key .known ≡ false → after (askChange again (slotIn s w t key)) ≡ withReading w t
-  ask-keeps true h = ap after (get-unknown h) ∙ keep-words w (slotIn s w t key .at) key (bucketIn s) t
-  ask-keeps false h = keep-words w (slotIn s w t key .at) key (bucketIn s) t
+  ask-keeps : (again : Bool) → heldIn w key .known ≡ false → after (askChange again (lookedIn s w t key)) ≡ withReading w t
+  ask-keeps true h = ap after (look-unknown h) ∙ keep-words w (slotIn s w t key .at) key (joinTicks s) t
+  ask-keeps false h = keep-words w (slotIn s w t key .at) key (joinTicks s) t
 
   abbrev again : Bool
   again = testsAgain (wholeLimit (heldIn w key)) (heldIn w key .buckets)
 
   pub ask-law : (v : Verdict RateLimitDecision) → v .answer ≡ decided s t (heldIn w key) →
-      v .words ≡ after (askChange (testsAgain (wholeLimit (heldIn w key)) (heldIn w key .buckets)) (slotIn s w t key)) → AskLaw s w t key v
+      v .words ≡ after (askChange (testsAgain (wholeLimit (heldIn w key)) (heldIn w key .buckets)) (lookedIn s w t key)) → AskLaw s w t key v
   unfolding tested
   ask-law v a b = record {
     answer = a;
     unknown = λ h. b ∙ ask-keeps again h;
     known = λ h.
-        subst (λ (y : List ℕ). Left s w y t key (outIf again (windowIn s) t (heldIn w key .buckets)))
-        (sym (b ∙ ap (λ (e : Change). after (pickChange again e Keep)) (get-known h))) (ask-left again h);
+        subst (λ (y : List ℕ). Left s w y t key (outIf (again && overdueIn s t (heldIn w key)) (windowTicks s) t (heldIn w key .buckets)))
+        (sym (b ∙ ap (λ (e : Change). after (pickChange again e Keep)) (look-known h))) (ask-left again h);
   }
 
   module _ (rate : RateLimit) (c : ℕ) (f : first (incTurns s (ringOf w) (noneFree w) t rate c (heldIn w key)) ≡ 0) where
@@ -295,8 +333,8 @@ module _ (s : Settings) (w : List ℕ) (t : ℕ) (key : List ℕ) (p : Passed Ab
     out = outFor s (ringOf w) t c (heldIn w key)
 
     abbrev counted : List ℕ
-    counted = applied w (placeOf w (slotIn s w t key)) key (bucketIn s) t
-        (incChange (limitIn Absolute s rate) c (allowed s t (heldIn w key)) (outFor s (ringOf w) t c (heldIn w key)) (slotIn s w t key))
+    counted = applied w (placeOf w (slotIn s w t key)) key (joinTicks s) t
+        (incChange (limitIn Absolute s rate) c (allowed s t (heldIn w key)) (outFor s (ringOf w) t c (heldIn w key)) (slotIn s w t key) (lookedIn s w t key))
 
     unmet : AllFalse (incTurns s (ringOf w) (noneFree w) t rate c (heldIn w key))
     unmet = all-false (incTurns s (ringOf w) (noneFree w) t rate c (heldIn w key)) (omega arith) f
@@ -318,13 +356,13 @@ module _ (s : Settings) (w : List ℕ) (t : ℕ) (key : List ℕ) (p : Passed Ab
     unfolding allowed sumOf ahead
     new-fits h =
         let o = seen Absolute s w t key p in
-        let a : allowed s t (heldIn w key) ≡ true = ap (λ (z : Bool). not z || allowedBy (windowIn s) t (wholeLimit (heldIn w key)) (heldIn w key .buckets)) h
+        let a : allowed s t (heldIn w key) ≡ true = ap (λ (z : Bool). not z || allowedBy s t (wholeLimit (heldIn w key)) (heldIn w key .buckets)) h
         in
         let e : counts (foundFor s (ringOf w) t c (heldIn w key)) ≡ 0 =
-        ap (λ (ys : List Bucket). counts (outIf out (windowIn s) t ys)) (o .absent h) ∙ none-out out in
+        ap (λ (ys : List Bucket). counts (outIf out (windowTicks s) t ys)) (o .absent h) ∙ none-out out in
         sym (ap₂ (λ (z : Bool) (n : ℕ). z && passes c n) a e) ∙ unmet .1 .0
       where
-        none-out : (z : Bool) → counts (outIf z (windowIn s) t []) ≡ 0
+        none-out : (z : Bool) → counts (outIf z (windowTicks s) t []) ≡ 0
         none-out true = refl
         none-out false = refl
 
@@ -332,7 +370,7 @@ module _ (s : Settings) (w : List ℕ) (t : ℕ) (key : List ℕ) (p : Passed Ab
     new-place h =
         let e : lacksSlot (noneFree w) (heldIn w key) ≡ false = unmet .1 .1 .0 in
         leb-false (slotsOf w) (vacant w)
-        (sym (ap (λ (z : Bool). not z && noneFree w) (sym (has-is (windowIn s) t (heldIn w key) (slotIn s w t key) (seen Absolute s w t key p)) ∙
+        (sym (ap (λ (z : Bool). not z && noneFree w) (sym (has-is (windowTicks s) t true (heldIn w key) (slotIn s w t key) (seen Absolute s w t key p)) ∙
         has-series s w t key p ∙ none-known h)) ∙ e)
 
     inc-unknown : Bytes key → heldIn w key .known ≡ false →
@@ -341,56 +379,57 @@ module _ (s : Settings) (w : List ℕ) (t : ℕ) (key : List ℕ) (p : Passed Ab
     inc-unknown y h =
         let x = slotIn s w t key in
         let l = limitIn Absolute s rate in
-        let known-change = pickChange may (Update (leaving out x (Increment c 0))) (Update (evicting x Nothing)) in
+        let known-change = pickChange may (Update (leaving out x (Increment c 0))) (Update (evicting (lookedIn s w t key) Nothing)) in
         subst (λ (v : List ℕ). Stands Absolute s w v (vacant w) t (keyOf key) l 0 0 1 (bucket c 0 t ∷ []))
-        (ap₂ (λ (n : ℕ) (z : Bool). applied w n key (bucketIn s) t (pickChange z known-change (Take (opening l (Increment c 0) 0 0 1)))) (sym (place-new h))
+        (ap₂ (λ (n : ℕ) (z : Bool). applied w n key (joinTicks s) t (pickChange z known-change (Take (opening l (Increment c 0) 0 0 1)))) (sym (place-new h))
         (sym (none-known h)))
         (begin-left rate c y (not-false (rateOk (rate .0)) (unmet .0)) (new-fits h) (new-place h))
 
     -- a known key's change, at its own slot
-    inc-at : (u : Change) → heldIn w key .known ≡ true → incChange (limitIn Absolute s rate) c may out (slotIn s w t key) ≡ u →
-        applied w (addressed w key) key (bucketIn s) t u ≡ counted
-    inc-at u h e = ap₂ (λ (i : ℕ) (z : Change). applied w i key (bucketIn s) t z) (sym (place-known h)) (sym e)
+    inc-at : (u : Change) → heldIn w key .known ≡ true → incChange (limitIn Absolute s rate) c may out (slotIn s w t key) (lookedIn s w t key) ≡ u →
+        applied w (addressed w key) key (joinTicks s) t u ≡ counted
+    inc-at u h e = ap₂ (λ (i : ℕ) (z : Change). applied w i key (joinTicks s) t z) (sym (place-known h)) (sym e)
 
     inc-accepted : heldIn w key .known ≡ true → allowed s t (heldIn w key) ≡ true →
-        Left s w counted t key (joined (bucketIn s) t c 0 (foundFor s (ringOf w) t c (heldIn w key)))
+        Left s w counted t key (joined (joinTicks s) t c 0 (foundFor s (ringOf w) t c (heldIn w key)))
     inc-accepted h a =
         let x = slotIn s w t key in
         let ys = foundFor s (ringOf w) t c (heldIn w key) in
         let ten : passes c (counts ys) ≡ false = subst (λ (z : Bool). z && passes c (counts ys) ≡ false) a (unmet .1 .0) in
-        let twelve : ringFull (ringOf w) (bucketIn s) t ys ≡ false =
-        subst (λ (z : Bool). z && ringFull (ringOf w) (bucketIn s) t ys ≡ false) a (unmet .1 .1 .1 .0) in
+        let twelve : ringFull (ringOf w) (joinTicks s) t ys ≡ false =
+        subst (λ (z : Bool). z && ringFull (ringOf w) (joinTicks s) t ys ≡ false) a (unmet .1 .1 .1 .0) in
         let m : drop (goneIf out x) (buckets (ringOf w) (bodyOf w (addressed w key))) ≡ ys =
         ap (drop (goneIf out x)) (held-known h) ∙ rest-out s w t key p out in
-        subst (λ (v : List ℕ). Left s w v t key (joined (bucketIn s) t c 0 ys))
-        (inc-at (Update (leaving out x (Increment c 0))) h (counts-change (limitIn Absolute s rate) c may out x (series-known h) a))
-        (subst (λ (zs : List Bucket). Left s w (applied w (addressed w key) key (bucketIn s) t (Update (leaving out x (Increment c 0)))) t key
-        (joined (bucketIn s) t c 0 zs)) m
-        (count-left c out h (ap (passes c) (total-out s w t key p out) ∙ ten) (full-out s w t key p (ringOf w) (bucketIn s) out ∙ twelve)))
+        subst (λ (v : List ℕ). Left s w v t key (joined (joinTicks s) t c 0 ys))
+        (inc-at (Update (leaving out x (Increment c 0))) h (counts-change (limitIn Absolute s rate) c may out x (lookedIn s w t key) (series-known h) a))
+        (subst (λ (zs : List Bucket). Left s w (applied w (addressed w key) key (joinTicks s) t (Update (leaving out x (Increment c 0)))) t key
+        (joined (joinTicks s) t c 0 zs)) m
+        (count-left c out h (ap (passes c) (total-out s w t key p out) ∙ ten) (full-out s w t key p (ringOf w) (joinTicks s) out ∙ twelve)))
 
-    inc-rejected : heldIn w key .known ≡ true → allowed s t (heldIn w key) ≡ false → Left s w counted t key (liveOf s t (heldIn w key))
+    inc-rejected : heldIn w key .known ≡ true → allowed s t (heldIn w key) ≡ false → Left s w counted t key (lookedOf s t (heldIn w key))
     unfolding incChange
     inc-rejected h a =
         let x = slotIn s w t key in
+        let y = lookedIn s w t key in
         let l = limitIn Absolute s rate in
-        let i : incChange l c may out x ≡ Update (evicting x Nothing) =
-        ap₂ (λ (y z : Bool). pickChange y (pickChange z (Update (leaving out x (Increment c 0))) (Update (evicting x Nothing)))
+        let i : incChange l c may out x y ≡ Update (evicting y Nothing) =
+        ap₂ (λ (q z : Bool). pickChange q (pickChange z (Update (leaving out x (Increment c 0))) (Update (evicting y Nothing)))
         (Take (opening l (Increment c 0) 0 0 1))) (series-known h) a in
-        subst (λ (v : List ℕ). Left s w v t key (liveOf s t (heldIn w key))) (inc-at (Update (evicting x Nothing)) h i)
-        (subst (λ (n : ℕ). Left s w (applied w n key (bucketIn s) t (Update (evicting x Nothing))) t key (liveOf s t (heldIn w key))) (at-known h)
-        (evicted-left h))
+        subst (λ (v : List ℕ). Left s w v t key (lookedOf s t (heldIn w key))) (inc-at (Update (evicting y Nothing)) h i)
+        (subst (λ (n : ℕ). Left s w (applied w n key (joinTicks s) t (Update (evicting y Nothing))) t key (lookedOf s t (heldIn w key))) (at-known h)
+        (looked-left h))
 
     pub inc-law : Bytes key → (v : Verdict RateLimitDecision) → v .answer ≡ decided s t (heldIn w key) →
-        v .words ≡ applied w (placeOf w (slotIn s w t key)) key (bucketIn s) t
-        (incChange (limitIn Absolute s rate) c (allowed s t (heldIn w key)) (outFor s (ringOf w) t c (heldIn w key)) (slotIn s w t key)) →
+        v .words ≡ applied w (placeOf w (slotIn s w t key)) key (joinTicks s) t
+        (incChange (limitIn Absolute s rate) c (allowed s t (heldIn w key)) (outFor s (ringOf w) t c (heldIn w key)) (slotIn s w t key) (lookedIn s w t key)) →
         IncLaw s w t key rate c v
     inc-law y v a b = record {
       answer = a;
       unknown = λ h. subst (λ (z : List ℕ). Stands Absolute s w z (vacant w) t (keyOf key) (limitIn Absolute s rate) 0 0 1 (bucket c 0 t ∷ [])) (sym b)
           (inc-unknown y h);
-      accepted = λ h e. subst (λ (z : List ℕ). Left s w z t key (joined (bucketIn s) t c 0 (foundFor s (ringOf w) t c (heldIn w key)))) (sym b)
+      accepted = λ h e. subst (λ (z : List ℕ). Left s w z t key (joined (joinTicks s) t c 0 (foundFor s (ringOf w) t c (heldIn w key)))) (sym b)
           (inc-accepted h e);
-      rejected = λ h e. subst (λ (z : List ℕ). Left s w z t key (liveOf s t (heldIn w key))) (sym b) (inc-rejected h e);
+      rejected = λ h e. subst (λ (z : List ℕ). Left s w z t key (lookedOf s t (heldIn w key))) (sym b) (inc-rejected h e);
     }
 
   -- ---- what is held is what document 01 speaks of
@@ -400,14 +439,14 @@ module _ (s : Settings) (w : List ℕ) (t : ℕ) (key : List ℕ) (p : Passed Ab
   stored-total h = slot-known h .now .total ∙ ap counts (held-known h)
 
   -- taking the oldest ones out takes out every expired bucket, wherever it stands
-  pub evicted-held : evicted (windowIn s) t (heldIn w key .buckets) ≡ live (windowIn s) t (heldIn w key .buckets)
+  pub evicted-held : evicted (windowTicks s) t (heldIn w key .buckets) ≡ live (windowTicks s) t (heldIn w key .buckets)
   evicted-held = go (heldIn w key .known) refl
     where
-      go : (y : Bool) → heldIn w key .known ≡ y → evicted (windowIn s) t (heldIn w key .buckets) ≡ live (windowIn s) t (heldIn w key .buckets)
-      go true h = subst (λ (ys : List Bucket). evicted (windowIn s) t ys ≡ live (windowIn s) t ys) (held-known h)
-          (evicted-live (windowIn s) t 0 t (buckets (ringOf w) (bodyOf w (addressed w key))) (slot-known h .now .each))
-      go false h = subst (λ (ys : List Bucket). evicted (windowIn s) t ys ≡ live (windowIn s) t ys) (sym (seen Absolute s w t key p .absent h))
-          (evicted-live (windowIn s) t 0 t [] tt)
+      go : (y : Bool) → heldIn w key .known ≡ y → evicted (windowTicks s) t (heldIn w key .buckets) ≡ live (windowTicks s) t (heldIn w key .buckets)
+      go true h = subst (λ (ys : List Bucket). evicted (windowTicks s) t ys ≡ live (windowTicks s) t ys) (held-known h)
+          (evicted-live (windowTicks s) t 0 t (buckets (ringOf w) (bodyOf w (addressed w key))) (slot-known h .now .each))
+      go false h = subst (λ (ys : List Bucket). evicted (windowTicks s) t ys ≡ live (windowTicks s) t ys) (sym (seen Absolute s w t key p .absent h))
+          (evicted-live (windowTicks s) t 0 t [] tt)
 
 -- "zero in the absolute room": no bucket has any declined exactly where their sum is 0
 pub each-none : (xs : List Bucket) → declineds xs ≡ 0 → (i : ℕ) → i < length xs → getD xs i noBucket .declined ≡ 0
@@ -427,13 +466,15 @@ pub each-declined : (r : ℕ) (b : List ℕ) (last : ℕ) → Sound r b last →
     declinedRight Absolute (declinedOf b) ≡ true
 each-declined r b last o f = eq-eqb (declinedOf b) 0 (o .declined ∙ none-each (buckets r b) f)
 
--- ---- "Allowed" exactly where the key is unknown, or its stored total is below the cut limit, or its live total is
+-- ---- "Allowed" exactly where the key is unknown, or its stored total is below the cut limit, or the total that a first look leaves is
 
-allowed-ways : (W t n : ℕ) (xs : List Bucket) → allowedBy W t n xs ≡ below n (counts xs) || below n (counts (live W t xs))
+allowed-ways : (s : Settings) (t n : ℕ) (xs : List Bucket) →
+    allowedBy s t n xs ≡ below n (counts xs) || below n (counts (outIf (overdue s t xs) (windowTicks s) t xs))
 unfolding tested
-allowed-ways W t n xs = go (below n (counts xs)) refl
+allowed-ways s t n xs = go (below n (counts xs)) refl
   where
-    go : (y : Bool) → below n (counts xs) ≡ y → below n (counts (cond (not y) (live W t xs) xs)) ≡ y || below n (counts (live W t xs))
+    go : (y : Bool) → below n (counts xs) ≡ y →
+        below n (counts (outIf (not y && overdue s t xs) (windowTicks s) t xs)) ≡ y || below n (counts (outIf (overdue s t xs) (windowTicks s) t xs))
     go true e = e
     go false e = refl
 
@@ -443,20 +484,22 @@ says (decision.Rejected a b c) = false
 says (decision.Suppressed a b) = false
 says (decision.Refused n) = false
 
-rejection-says : (window : WindowSize) (t : ℕ) (xs : List Bucket) → says (rejection window t xs) ≡ false
+rejection-says : (k : ℕ) (window : WindowSize) (t : ℕ) (xs : List Bucket) → says (rejection k window t xs) ≡ false
 unfolding says
-rejection-says window t [] = refl
-rejection-says window t (x ∷ xs) = refl
+rejection-says k window t [] = refl
+rejection-says k window t (x ∷ xs) = refl
 
 pub allowed-exactly : (s : Settings) (t : ℕ) (h : Held) → let ways =
-    not (h .known) || (below (wholeLimit h) (counts (h .buckets)) || below (wholeLimit h) (counts (liveOf s t h))) in
+    not (h .known) || (below (wholeLimit h) (counts (h .buckets)) || below (wholeLimit h) (counts (lookedOf s t h))) in
     (decided s t h ≡ decision.Allowed → ways ≡ true) × (ways ≡ true → decided s t h ≡ decision.Allowed)
 unfolding says decided allowed
 allowed-exactly s t h =
-    let d = rejection (s .«window_size») t (liveOf s t h) in
-    let may = not (h .known) || allowedBy (windowIn s) t (wholeLimit h) (h .buckets) in
-    let q = ap (λ (y : Bool). not (h .known) || y) (allowed-ways (windowIn s) t (wholeLimit h) (h .buckets)) in
-    ((λ e. sym q ∙ to may d (rejection-says (s .«window_size») t (liveOf s t h)) e), (λ e. ap (λ (y : Bool). pickDecision y decision.Allowed d) (q ∙ e)))
+    let d = rejection (ticksIn s) (s .«window_size») t (lookedOf s t h) in
+    let may = not (h .known) || allowedBy s t (wholeLimit h) (h .buckets) in
+    let q = ap (λ (y : Bool). not (h .known) || y) (allowed-ways s t (wholeLimit h) (h .buckets)) in (
+      (λ e. sym q ∙ to may d (rejection-says (ticksIn s) (s .«window_size») t (lookedOf s t h)) e),
+      (λ e. ap (λ (y : Bool). pickDecision y decision.Allowed d) (q ∙ e)),
+    )
   where
     to : (y : Bool) (d : RateLimitDecision) → says d ≡ false → pickDecision y decision.Allowed d ≡ decision.Allowed → y ≡ true
     to true d f e = refl

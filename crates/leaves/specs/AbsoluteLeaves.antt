@@ -5,7 +5,7 @@ use mathlib.Core.Path.{_≡_}
 use mathlib.Core.Bool.{true, false}
 use mathlib.Core.List.{List, [], _∷_}
 use Prim.Native.Nat.{ℕ}
-use Rattle.settings.specs.Settings.{windowIn, bucketIn}
+use Rattle.settings.specs.Clock.{joinTicks}
 use Rattle.settings.specs.declared.Settings.{Settings}
 use Rattle.answers.specs.declared.RateLimitDecision.{RateLimitDecision}
 use Rattle.answers.specs.declared.TotalAnswer.{TotalAnswer}
@@ -15,7 +15,7 @@ use Rattle.rules.specs.Buckets.{joined}
 use Rattle.ring.specs.declared.Bucket.{Bucket}
 use Rattle.ring.specs.Ring.{bucket, counts}
 use Rattle.rules.specs.declared.RoomKind.the-variants.{Absolute}
-use Rattle.rules.specs.Both.{limitIn, liveOf}
+use Rattle.rules.specs.Both.{limitIn, liveOf, lookedOf}
 use Rattle.rules.specs.Absolute.{tested, wholeLimit, allowed, decided, foundFor}
 use Rattle.room.specs.Room.{ringOf, bodyOf, vacant, withReading}
 use Rattle.keys.specs.Keys.{keyOf}
@@ -36,17 +36,17 @@ pub record GetLaw (s : Settings) (w : List ℕ) (t : ℕ) (key : List ℕ) (v : 
   pub unknown : heldIn w key .known ≡ false → v .words ≡ withReading w t
   pub known : heldIn w key .known ≡ true → Left s w (v .words) t key (liveOf s t (heldIn w key))
 
--- `is_allowed`: expired buckets are out where it tests again
+-- `is_allowed`: expired buckets are out where it tests again and its first look finds one
 pub record AskLaw (s : Settings) (w : List ℕ) (t : ℕ) (key : List ℕ) (v : Verdict RateLimitDecision) : Type 0 where
   pub answer : v .answer ≡ decided s t (heldIn w key)
   pub unknown : heldIn w key .known ≡ false → v .words ≡ withReading w t
-  pub known : heldIn w key .known ≡ true → Left s w (v .words) t key (tested (windowIn s) t (wholeLimit (heldIn w key)) (heldIn w key .buckets))
+  pub known : heldIn w key .known ≡ true → Left s w (v .words) t key (tested s t (wholeLimit (heldIn w key)) (heldIn w key .buckets))
 
--- `inc`: "Limit = rate * W, stored at the key's first increment", in the lowest free slot; an allowed count is joined or added; a rejection leaves the live
--- buckets
+-- `inc`: "Limit = rate * W, stored at the key's first increment", in the lowest free slot; an allowed count is joined or added; a rejection leaves what
+-- its first look does
 pub record IncLaw (s : Settings) (w : List ℕ) (t : ℕ) (key : List ℕ) (rate : RateLimit) (c : ℕ) (v : Verdict RateLimitDecision) : Type 0 where
   pub answer : v .answer ≡ decided s t (heldIn w key)
   pub unknown : heldIn w key .known ≡ false → Stands Absolute s w (v .words) (vacant w) t (keyOf key) (limitIn Absolute s rate) 0 0 1 (bucket c 0 t ∷ [])
   pub accepted : heldIn w key .known ≡ true → allowed s t (heldIn w key) ≡ true →
-      Left s w (v .words) t key (joined (bucketIn s) t c 0 (foundFor s (ringOf w) t c (heldIn w key)))
-  pub rejected : heldIn w key .known ≡ true → allowed s t (heldIn w key) ≡ false → Left s w (v .words) t key (liveOf s t (heldIn w key))
+      Left s w (v .words) t key (joined (joinTicks s) t c 0 (foundFor s (ringOf w) t c (heldIn w key)))
+  pub rejected : heldIn w key .known ≡ true → allowed s t (heldIn w key) ≡ false → Left s w (v .words) t key (lookedOf s t (heldIn w key))

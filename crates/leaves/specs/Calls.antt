@@ -7,19 +7,20 @@ use mathlib.Core.List.{List, [], _∷_}
 use Prim.Native.Nat.{ℕ, _≤_, _<_, _-_}
 use native.Mathlib.Omega.{arith}
 use lib.ListN.{drop}
-use lib.Dec.{leb, ltb, eqb}
+use lib.Dec.{leb, eqb}
 use borrow.Author.Tests.{le-leb, eq-eqb, eqb-true}
 use Rattle.base.specs.Decides.{and-true, true-and}
 use Rattle.suppression.specs.Factor.{factorWordOk}
 use Rattle.common.specs.Limits.{limitOk}
 use Rattle.common_laws.specs.LimitLaws.{absolute-ok, hard-ok}
 use Rattle.common.specs.Ranges.{rateOk}
-use Rattle.settings.specs.Settings.{windowIn, bucketIn, factorIn, Proper}
+use Rattle.settings.specs.Settings.{windowIn, factorIn, Proper}
+use Rattle.settings.specs.Clock.{windowTicks, joinTicks}
 use Rattle.settings.specs.declared.Settings.{Settings}
 use Rattle.common.specs.declared.units.RateLimit.{RateLimit}
 use Rattle.answers.specs.declared.HistoryUpdateMode.{HistoryUpdateMode}
 use Rattle.answers.specs.declared.HistoryUpdateMode.the-variants as mode
-use Rattle.rules.specs.Buckets.{live, gone, joins, joined, replaced, preserved, windowTicks}
+use Rattle.rules.specs.Buckets.{live, gone, joins, joined, replaced, preserved}
 use Rattle.preserve.specs.Preserves.{preserved-comes, replaced-comes}
 use Rattle.ring.specs.declared.Bucket.{Bucket}
 use Rattle.layout.specs.Layout.{mostTotal}
@@ -46,10 +47,9 @@ use Rattle.opened.specs.Sound.{limitOf, factorOf, factorTimeOf, hasSeries, hasC
 use Rattle.rules.specs.Sets.{resetTo}
 use Rattle.rules.specs.Both.{divisor, limitIn}
 use Rattle.judge.specs.Judge.{Passed, slotIn}
-use Rattle.opened.specs.Slot.{hasSlot, noSlot, pickPass, opened, pickSlot, slotOf}
+use Rattle.opened.specs.Slot.{hasSlot}
 use Rattle.plan.specs.Plan.{keeping, relimited, placeOf}
 use Rattle.plan.specs.Known.{Found, use-right, used-as, cached-is, cached-known, keeping-edits}
-use Rattle.sweep.specs.Sweep.{passOf}
 use Rattle.answers.specs.declared.DeleteAnswer.the-variants.{Deleted, Unknown}
 use Rattle.calls.specs.Calls.{slot-within, found-at, known-at, true-or}
 use Rattle.shared_opened.specs.Opened.{deleting, deletedAt, forgotten, usedWith, limiting, limiting-known}
@@ -246,13 +246,13 @@ found-key kind s w t at x f = and-true (keySound w at) _ (f .sound) .0
 module _ (kind : RoomKind) (s : Settings) (w : List ℕ) (t : ℕ) (key : List ℕ) (p : Passed kind s w t key) where
   -- what the answers speak of: the live buckets' counts, and what of them was declined
   pub live-is : slotIn s w t key .series ≡ true → liveIn (slotIn s w t key) ≡
-      counts (live (windowIn s) t (buckets (ringOf w) (bodyOf w (slotIn s w t key .at))))
+      counts (live (windowTicks s) t (buckets (ringOf w) (bodyOf w (slotIn s w t key .at))))
   live-is e =
       let m = known-at kind s w t key p e .measured in
       m .total ∙ ap (λ (i : ℕ). counts (drop i (buckets (ringOf w) (bodyOf w (slotIn s w t key .at))))) (m .expired-are)
 
   pub declined-live : slotIn s w t key .series ≡ true →
-      slotIn s w t key .pass .«live_declined» ≡ declineds (live (windowIn s) t (buckets (ringOf w) (bodyOf w (slotIn s w t key .at))))
+      slotIn s w t key .pass .«live_declined» ≡ declineds (live (windowTicks s) t (buckets (ringOf w) (bodyOf w (slotIn s w t key .at))))
   declined-live e =
       let m = known-at kind s w t key p e .measured in
       m .declined ∙ ap (λ (i : ℕ). declineds (drop i (buckets (ringOf w) (bodyOf w (slotIn s w t key .at))))) (m .expired-are)
@@ -260,8 +260,8 @@ module _ (kind : RoomKind) (s : Settings) (w : List ℕ) (t : ℕ) (key : List �
   -- delete: what was admitted of the live total is given
   pub delete-gives : slotIn s w t key .series ≡ true →
       deletedAt (slotIn s w t key) ≡
-      Deleted (counts (live (windowIn s) t (buckets (ringOf w) (bodyOf w (slotIn s w t key .at)))) - declineds
-      (live (windowIn s) t (buckets (ringOf w) (bodyOf w (slotIn s w t key .at)))))
+      Deleted (counts (live (windowTicks s) t (buckets (ringOf w) (bodyOf w (slotIn s w t key .at)))) - declineds
+      (live (windowTicks s) t (buckets (ringOf w) (bodyOf w (slotIn s w t key .at)))))
   unfolding deletedAt
   delete-gives e =
       let x = slotIn s w t key in
@@ -270,23 +270,23 @@ module _ (kind : RoomKind) (s : Settings) (w : List ℕ) (t : ℕ) (key : List �
 
   -- the slot is free then, or there is nothing to free
   pub delete-frees : hasSlot (slotIn s w t key) ≡ true →
-      Changed w (applied w (slotIn s w t key .at) key (bucketIn s) t (deleting (slotIn s w t key))) (slotIn s w t key .at) 0 (keyAt w (slotIn s w t key .at))
+      Changed w (applied w (slotIn s w t key .at) key (joinTicks s) t (deleting (slotIn s w t key))) (slotIn s w t key .at) 0 (keyAt w (slotIn s w t key .at))
       (bodyOf w (slotIn s w t key .at)) t
   unfolding deleting
   delete-frees e =
       let at = slotIn s w t key .at in
-      subst (λ (z : Bool). Changed w (applied w at key (bucketIn s) t (cond z Free Keep)) at 0 (keyAt w at) (bodyOf w at) t) (sym e)
-      (free-changed w at key (bucketIn s) t (p .room) (slot-within kind s w t key p e))
+      subst (λ (z : Bool). Changed w (applied w at key (joinTicks s) t (cond z Free Keep)) at 0 (keyAt w at) (bodyOf w at) t) (sym e)
+      (free-changed w at key (joinTicks s) t (p .room) (slot-within kind s w t key p e))
 
-  pub delete-keeps : hasSlot (slotIn s w t key) ≡ false → applied w (slotIn s w t key .at) key (bucketIn s) t (deleting (slotIn s w t key)) ≡ withReading w t
+  pub delete-keeps : hasSlot (slotIn s w t key) ≡ false → applied w (slotIn s w t key .at) key (joinTicks s) t (deleting (slotIn s w t key)) ≡ withReading w t
   unfolding deleting
   delete-keeps e =
       let at = slotIn s w t key .at in
-      ap (λ (z : Bool). applied w at key (bucketIn s) t (cond z Free Keep)) e ∙ keep-words w at key (bucketIn s) t
+      ap (λ (z : Bool). applied w at key (joinTicks s) t (cond z Free Keep)) e ∙ keep-words w at key (joinTicks s) t
 
   -- setting a rate: a known series keeps its buckets, and has the new limit
   pub rate-stands : (rate : RateLimit) → rateOk (rate .0) ≡ true → slotIn s w t key .series ≡ true →
-      Stands kind s w (applied w (slotIn s w t key .at) key (bucketIn s) t (limiting (slotIn s w t key) (limitIn kind s rate))) (slotIn s w t key .at) t
+      Stands kind s w (applied w (slotIn s w t key .at) key (joinTicks s) t (limiting (slotIn s w t key) (limitIn kind s rate))) (slotIn s w t key .at) t
       (keyAt w (slotIn s w t key .at))
       (limitIn kind s rate) (slotIn s w t key .factor) (slotIn s w t key .«factor_time») (usedWith (slotIn s w t key) (limitIn kind s rate))
       (buckets (ringOf w) (bodyOf w (slotIn s w t key .at)))
@@ -298,10 +298,10 @@ module _ (kind : RoomKind) (s : Settings) (w : List ℕ) (t : ℕ) (key : List �
       let edit = relimited (keeping x then.Nothing) l (usedWith x l) in
       let f = found-at kind s w t key p (true-or (x .series) (x .cached) e) in
       let n = known-at kind s w t key p e in
-      let o : EditsAt w at (bucketIn s) t edit = keeping-edits kind s w t at x (p .room) n (bucketIn s) edit refl refl refl refl tt in
-      subst (λ (y : Change). Stands kind s w (applied w at key (bucketIn s) t y) at t (keyAt w at) l (x .factor) (x .«factor_time») (usedWith x l)
+      let o : EditsAt w at (joinTicks s) t edit = keeping-edits kind s w t at true x (p .room) n (joinTicks s) edit refl refl refl refl tt in
+      subst (λ (y : Change). Stands kind s w (applied w at key (joinTicks s) t y) at t (keyAt w at) l (x .factor) (x .«factor_time») (usedWith x l)
       (buckets (ringOf w) (bodyOf w at))) (limiting-known x l e)
-      (stands kind s w (applied w at key (bucketIn s) t (Update edit)) at (bucketIn s) t (keyAt w at) edit o (update-changed w at key (bucketIn s) t edit o)
+      (stands kind s w (applied w at key (joinTicks s) t (Update edit)) at (joinTicks s) t (keyAt w at) edit o (update-changed w at key (joinTicks s) t edit o)
       (buckets (ringOf w) (bodyOf w at)) refl
       (found-key kind s w t at x f)
       (used-right kind x l (ap (rightUse kind) (used-as kind s w t at x f) ∙ use-right kind s w t at x f))
@@ -314,27 +314,27 @@ module _ (kind : RoomKind) (s : Settings) (w : List ℕ) (t : ℕ) (key : List �
 
   -- a set that changes nothing
   pub set-keeps : (limit count : ℕ) (mode : HistoryUpdateMode) →
-      applied w (placeOf w (slotIn s w t key)) key (bucketIn s) t (setting (slotIn s w t key) true limit count mode) ≡ withReading w t
+      applied w (placeOf w (slotIn s w t key)) key (joinTicks s) t (setting (slotIn s w t key) true limit count mode) ≡ withReading w t
   unfolding setting
-  set-keeps limit count mode = keep-words w (placeOf w (slotIn s w t key)) key (bucketIn s) t
+  set-keeps limit count mode = keep-words w (placeOf w (slotIn s w t key)) key (joinTicks s) t
 
   -- a set of a known series to 0: "the series goes"
   pub set-frees : (limit count : ℕ) (mode : HistoryUpdateMode) → slotIn s w t key .series ≡ true → eqb count 0 ≡ true →
-      Changed w (applied w (placeOf w (slotIn s w t key)) key (bucketIn s) t (setting (slotIn s w t key) false limit count mode))
+      Changed w (applied w (placeOf w (slotIn s w t key)) key (joinTicks s) t (setting (slotIn s w t key) false limit count mode))
       (placeOf w (slotIn s w t key)) 0 (keyAt w (placeOf w (slotIn s w t key))) (bodyOf w (placeOf w (slotIn s w t key))) t
   unfolding setting
   set-frees limit count mode e z =
       let x = slotIn s w t key in
       let at = placeOf w x in
-      subst (λ (y : Bool). Changed w (applied w at key (bucketIn s) t (cond y Free (stored x limit count mode))) at 0 (keyAt w at) (bodyOf w at) t) (sym z)
-      (free-changed w at key (bucketIn s) t (p .room) (place-within kind s w t key p (known-has x e)))
+      subst (λ (y : Bool). Changed w (applied w at key (joinTicks s) t (cond y Free (stored x limit count mode))) at 0 (keyAt w at) (bodyOf w at) t) (sym z)
+      (free-changed w at key (joinTicks s) t (p .room) (place-within kind s w t key p (known-has x e)))
 
   -- what is stored of a known series
   reset-stands : (rate : RateLimit) (count : ℕ) (mode : HistoryUpdateMode) → rateOk (rate .0) ≡ true → slotIn s w t key .series ≡ true → count ≤ mostTotal →
-      Stands kind s w (applied w (slotIn s w t key .at) key (bucketIn s) t (Update (reset (slotIn s w t key) (limitIn kind s rate) count mode)))
+      Stands kind s w (applied w (slotIn s w t key .at) key (joinTicks s) t (Update (reset (slotIn s w t key) (limitIn kind s rate) count mode)))
       (slotIn s w t key .at) t (keyAt w (slotIn s w t key .at))
       (limitIn kind s rate) (slotIn s w t key .factor) (slotIn s w t key .«factor_time») 1
-      (resetTo (windowIn s) t mode count (buckets (ringOf w) (bodyOf w (slotIn s w t key .at))))
+      (resetTo (windowTicks s) t mode count (buckets (ringOf w) (bodyOf w (slotIn s w t key .at))))
   unfolding editedView actedView startedView
   reset-stands rate count mode.Replace r e m =
       let x = slotIn s w t key in
@@ -343,7 +343,7 @@ module _ (kind : RoomKind) (s : Settings) (w : List ℕ) (t : ℕ) (key : List �
       let edit = reset x l count mode.Replace in
       let f = found-at kind s w t key p (known-has x e) in
       let o = reset-applies kind s w t key p l count mode.Replace e m in
-      stands kind s w (applied w at key (bucketIn s) t (Update edit)) at (bucketIn s) t (keyAt w at) edit o (update-changed w at key (bucketIn s) t edit o)
+      stands kind s w (applied w at key (joinTicks s) t (Update edit)) at (joinTicks s) t (keyAt w at) edit o (update-changed w at key (joinTicks s) t edit o)
       (replaced t count) refl
       (found-key kind s w t at x f) (series-right kind) (none-right kind _ (sum-one deniedOf (bucket count 0 t))) (limit-right kind s rate (p .settings) r)
       (uncached _)
@@ -356,15 +356,15 @@ module _ (kind : RoomKind) (s : Settings) (w : List ℕ) (t : ℕ) (key : List �
       let n = known-at kind s w t key p e in
       let o = reset-applies kind s w t key p l count (mode.Preserve q) e m in
       let xs = buckets (ringOf w) (bodyOf w at) in
-      stands kind s w (applied w at key (bucketIn s) t (Update edit)) at (bucketIn s) t (keyAt w at) edit o (update-changed w at key (bucketIn s) t edit o)
-      (preserved q t count (live (windowIn s) t xs))
+      stands kind s w (applied w at key (joinTicks s) t (Update edit)) at (joinTicks s) t (keyAt w at) edit o (update-changed w at key (joinTicks s) t edit o)
+      (preserved q t count (live (windowTicks s) t xs))
       (ap (λ (i : ℕ). preserved q t count (drop i xs)) (n .measured .expired-are))
       (found-key kind s w t at x f) (series-right kind)
-      (fewer-right kind (x .declined) (declineds (preserved q t count (live (windowIn s) t xs)))
+      (fewer-right kind (x .declined) (declineds (preserved q t count (live (windowTicks s) t xs)))
       (omega (
         arith,
-        preserved-comes q t count (live (windowIn s) t xs) .fewer,
-        sum-split deniedOf (gone (windowIn s) t xs) xs,
+        preserved-comes q t count (live (windowTicks s) t xs) .fewer,
+        sum-split deniedOf (gone (windowTicks s) t xs) xs,
         n .declined-is,
         n .now .declined,
       )) (n .right))
@@ -372,40 +372,40 @@ module _ (kind : RoomKind) (s : Settings) (w : List ℕ) (t : ℕ) (key : List �
 
   pub set-stands : (rate : RateLimit) (count : ℕ) (mode : HistoryUpdateMode) → rateOk (rate .0) ≡ true → slotIn s w t key .series ≡ true →
       eqb count 0 ≡ false → count ≤ mostTotal →
-      Stands kind s w (applied w (placeOf w (slotIn s w t key)) key (bucketIn s) t (setting (slotIn s w t key) false (limitIn kind s rate) count mode))
+      Stands kind s w (applied w (placeOf w (slotIn s w t key)) key (joinTicks s) t (setting (slotIn s w t key) false (limitIn kind s rate) count mode))
       (slotIn s w t key .at) t (keyAt w (slotIn s w t key .at))
       (limitIn kind s rate) (slotIn s w t key .factor) (slotIn s w t key .«factor_time») 1
-      (resetTo (windowIn s) t mode count (buckets (ringOf w) (bodyOf w (slotIn s w t key .at))))
+      (resetTo (windowTicks s) t mode count (buckets (ringOf w) (bodyOf w (slotIn s w t key .at))))
   unfolding setting
   set-stands rate count mode r e z m =
       let x = slotIn s w t key in
       let l = limitIn kind s rate in
       let c : Update (reset x l count mode) ≡ cond (eqb count 0) Free (stored x l count mode) =
       stored-known x l count mode e ∙ sym (ap (λ (y : Bool). cond y Free (stored x l count mode)) z) in
-      let v : applied w (x .at) key (bucketIn s) t (Update (reset x l count mode)) ≡
-      applied w (placeOf w x) key (bucketIn s) t (cond (eqb count 0) Free (stored x l count mode)) =
-      ap₂ (λ (at : ℕ) (y : Change). applied w at key (bucketIn s) t y) (sym (place-own w x (known-has x e))) c in
+      let v : applied w (x .at) key (joinTicks s) t (Update (reset x l count mode)) ≡
+      applied w (placeOf w x) key (joinTicks s) t (cond (eqb count 0) Free (stored x l count mode)) =
+      ap₂ (λ (at : ℕ) (y : Change). applied w at key (joinTicks s) t y) (sym (place-own w x (known-has x e))) c in
       subst (λ (y : List ℕ). Stands kind s w y (x .at) t (keyAt w (x .at)) l (x .factor) (x .«factor_time») 1
-      (resetTo (windowIn s) t mode count (buckets (ringOf w) (bodyOf w (x .at))))) v
+      (resetTo (windowTicks s) t mode count (buckets (ringOf w) (bodyOf w (x .at))))) v
       (reset-stands rate count mode r e m)
 
   -- a series that begins: in the slot of a lone cached factor, or in a free one
   begins-stands : (rate : RateLimit) (count factor time : ℕ) (v : List ℕ) (k : Key) → rateOk (rate .0) ≡ true → count ≤ mostTotal →
       (h : placeOf w (slotIn s w t key) < slotsOf w) → keyFits k ≡ true →
       Changed w v (placeOf w (slotIn s w t key)) 1 k
-      (edited (ringOf w) (bucketIn s) t (bodyOf w (placeOf w (slotIn s w t key))) (begins (limitIn kind s rate) count factor time)) t →
+      (edited (ringOf w) (joinTicks s) t (bodyOf w (placeOf w (slotIn s w t key))) (begins (limitIn kind s rate) count factor time)) t →
       Stands kind s w v (placeOf w (slotIn s w t key)) t k (limitIn kind s rate) factor time 1 (bucket count 0 t ∷ [])
   unfolding editedView actedView startedView
   begins-stands rate count factor time v k r m h kf c =
       let edit = begins (limitIn kind s rate) count factor time in
       let at = placeOf w (slotIn s w t key) in
-      stands kind s w v at (bucketIn s) t k edit (begins-applies kind s w t key p (limitIn kind s rate) count factor time m h) c (bucket count 0 t ∷ [])
-      (begins-view (bucketIn s) t count) kf (series-right kind)
+      stands kind s w v at (joinTicks s) t k edit (begins-applies kind s w t key p (limitIn kind s rate) count factor time m h) c (bucket count 0 t ∷ [])
+      (begins-view (joinTicks s) t count) kf (series-right kind)
       (none-right kind _ (sum-one deniedOf (bucket count 0 t))) (limit-right kind s rate (p .settings) r) (uncached _)
 
   pub set-begins-lone : (rate : RateLimit) (count : ℕ) (mode : HistoryUpdateMode) → rateOk (rate .0) ≡ true → slotIn s w t key .series ≡ false →
       slotIn s w t key .cached ≡ true → eqb count 0 ≡ false → count ≤ mostTotal →
-      Stands kind s w (applied w (placeOf w (slotIn s w t key)) key (bucketIn s) t (setting (slotIn s w t key) false (limitIn kind s rate) count mode))
+      Stands kind s w (applied w (placeOf w (slotIn s w t key)) key (joinTicks s) t (setting (slotIn s w t key) false (limitIn kind s rate) count mode))
       (placeOf w (slotIn s w t key)) t (keyAt w (placeOf w (slotIn s w t key)))
       (limitIn kind s rate) (slotIn s w t key .factor) (slotIn s w t key .«factor_time») 1 (bucket count 0 t ∷ [])
   set-begins-lone rate count mode r e g z m =
@@ -414,24 +414,24 @@ module _ (kind : RoomKind) (s : Settings) (w : List ℕ) (t : ℕ) (key : List �
       let at = placeOf w x in
       let edit = begins l count (x .factor) (x .«factor_time») in
       let i = place-within kind s w t key p (cached-has x e g) in
-      subst (λ (y : Change). Stands kind s w (applied w at key (bucketIn s) t y) at t (keyAt w at) l (x .factor) (x .«factor_time») 1 (bucket count 0 t ∷ []))
+      subst (λ (y : Change). Stands kind s w (applied w at key (joinTicks s) t y) at t (keyAt w at) l (x .factor) (x .«factor_time») 1 (bucket count 0 t ∷ []))
       (setting-lone x l count mode e z g)
-      (begins-stands rate count (x .factor) (x .«factor_time») (applied w at key (bucketIn s) t (Update edit)) (keyAt w at) r m i
+      (begins-stands rate count (x .factor) (x .«factor_time») (applied w at key (joinTicks s) t (Update edit)) (keyAt w at) r m i
       (subst (λ (n : ℕ). keyFits (keyAt w n) ≡ true) (sym (place-own w x (cached-has x e g)))
       (found-key kind s w t (x .at) x (found-at kind s w t key p (cached-has x e g))))
-      (update-changed w at key (bucketIn s) t edit (begins-applies kind s w t key p l count (x .factor) (x .«factor_time») m i)))
+      (update-changed w at key (joinTicks s) t edit (begins-applies kind s w t key p l count (x .factor) (x .«factor_time») m i)))
 
   pub set-begins : (rate : RateLimit) (count : ℕ) (mode : HistoryUpdateMode) → Bytes key → rateOk (rate .0) ≡ true → slotIn s w t key .series ≡ false →
       slotIn s w t key .cached ≡ false → eqb count 0 ≡ false → count ≤ mostTotal →
       placeOf w (slotIn s w t key) < slotsOf w →
-      Stands kind s w (applied w (placeOf w (slotIn s w t key)) key (bucketIn s) t (setting (slotIn s w t key) false (limitIn kind s rate) count mode))
+      Stands kind s w (applied w (placeOf w (slotIn s w t key)) key (joinTicks s) t (setting (slotIn s w t key) false (limitIn kind s rate) count mode))
       (placeOf w (slotIn s w t key)) t (keyOf key)
       (limitIn kind s rate) 0 0 1 (bucket count 0 t ∷ [])
   set-begins rate count mode y r e g z m i =
       let x = slotIn s w t key in
       let l = limitIn kind s rate in
       let at = placeOf w x in
-      subst (λ (y : Change). Stands kind s w (applied w at key (bucketIn s) t y) at t (keyOf key) l 0 0 1 (bucket count 0 t ∷ []))
+      subst (λ (y : Change). Stands kind s w (applied w at key (joinTicks s) t y) at t (keyOf key) l 0 0 1 (bucket count 0 t ∷ []))
       (setting-new x l count mode e z g)
-      (begins-stands rate count 0 0 (applied w at key (bucketIn s) t (Take (begins l count 0 0))) (keyOf key) r m i (key-fits key y (p .short))
-      (take-changed w at key (bucketIn s) t (begins l count 0 0) (begins-applies kind s w t key p l count 0 0 m i)))
+      (begins-stands rate count 0 0 (applied w at key (joinTicks s) t (Take (begins l count 0 0))) (keyOf key) r m i (key-fits key y (p .short))
+      (take-changed w at key (joinTicks s) t (begins l count 0 0) (begins-applies kind s w t key p l count 0 0 m i)))

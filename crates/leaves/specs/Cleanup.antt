@@ -1,15 +1,16 @@
 -- What a cleanup leaves: every word but uses and the last reading; of each slot what the rule keeps; slots in use sound, keys in one slot each.
 -- Assumes nothing.
-use mathlib.Core.Path.{_≡_, refl, sym, ap, ap₂, subst, _∙_}
-use mathlib.Core.Bool.{Bool, true, false, not, _&&_, _||_, cond, false≢true}
-use mathlib.Core.List.{List, []}
+use mathlib.Core.Path.{_≡_, refl, sym, ap, subst, _∙_}
+use mathlib.Core.Bool.{Bool, true, false, not, _&&_, _||_, false≢true}
+use mathlib.Core.List.{List}
 use mathlib.Core.Logic.{_≢_}
-use Prim.Native.Nat.{ℕ, _+_, _-_, _*_, _≤_, _<_}
+use Prim.Native.Nat.{ℕ, _-_, _≤_, _<_}
 use native.Mathlib.Omega.{arith}
 use lib.ListN.{length, getD, set, length-set}
 use lib.Seq.{getD-set-same, getD-set-other}
-use lib.Dec.{leb, eqb}
+use lib.Dec.{eqb}
 use borrow.Author.Tests.{eq-eqb, ne-eqb, eqb-true, le-leb, leb-true, lt-ltb, le-ltb}
+use Rattle.settings.specs.Clock.{ageInMilliseconds, ticksIn}
 use Rattle.base.specs.Decides.{and-true, true-and}
 use Rattle.suppression.specs.Factor.{factorWordOk}
 use Rattle.answers.specs.declared.DoneAnswer.the-variants.{Done}
@@ -19,7 +20,6 @@ use Rattle.ring.specs.declared.Bucket.{Bucket}
 use Rattle.layout.specs.Layout.{slotsWord, ringWord, lastWord}
 use Rattle.ring.specs.Ring.{buckets}
 use Rattle.ring.specs.Sound.{soundBuckets, sound-true, true-sound, sound-later}
-use Rattle.keys.specs.declared.Key.{Key}
 use Rattle.room.specs.Room.{slotsOf, ringOf, lastOf, entryOf, Room, useOf, keyAt, bodyOf, withReading}
 use Rattle.keys.specs.Keys.{keyFits}
 use Rattle.room.specs.Laws.{room-same}
@@ -32,32 +32,32 @@ use Rattle.judge.specs.Verdict.{unlessRefused}
 use Rattle.cleanup.specs.Cleanup.{refusal, cleanup}
 use Rattle.stale.specs.Uses.{uses, useAfter, useNext, swept, cleaned}
 use Rattle.rules.specs.Stale.{seriesStays, factorStays}
-use Rattle.cleanup.specs.Laws.{Passed, SoundParts, passed, passed-sound, sound-parts, parts-sound}
+use Rattle.cleanup.specs.Laws.{Passed, passed-sound, sound-parts, parts-sound}
 use Rattle.stale.specs.Swept.{swept-length, swept-other, swept-use}
 
 -- ---- every word
 
--- v is w after a cleanup at reading t
-pub record Cleaned (w v : List ℕ) (t stale : ℕ) : Type 0 where
+-- v is w after a cleanup at reading t; ticks is the number of ticks in a millisecond
+pub record Cleaned (w v : List ℕ) (t ticks stale : ℕ) : Type 0 where
   pub room : Room v
   pub long : length v ≡ length w
   pub slots : slotsOf v ≡ slotsOf w
   pub ring : ringOf v ≡ ringOf w
   pub last : lastOf v ≡ t
-  pub used : (i : ℕ) → i < slotsOf w → useOf v i ≡ useNext w t stale i
+  pub used : (i : ℕ) → i < slotsOf w → useOf v i ≡ useNext w t ticks stale i
   pub words : (j : ℕ) → j ≢ lastWord → ((i : ℕ) → i < slotsOf w → j ≢ entryOf i) → getD v j 0 ≡ getD w j 0
   pub keys : (i : ℕ) → keyAt v i ≡ keyAt w i
   pub bodies : (i : ℕ) → bodyOf v i ≡ bodyOf w i
 
-pub clean-run : (w : List ℕ) (t stale : ℕ) → Room w → Cleaned w (cleaned w t stale) t stale
+pub clean-run : (w : List ℕ) (t ticks stale : ℕ) → Room w → Cleaned w (cleaned w t ticks stale) t ticks stale
 unfolding cleaned withReading
-clean-run w t stale o =
-    let y = swept w t stale (slotsOf w) in
+clean-run w t ticks stale o =
+    let y = swept w t ticks stale (slotsOf w) in
     let v = set y lastWord t in
-    let l = swept-length w t stale (slotsOf w) in
+    let l = swept-length w t ticks stale (slotsOf w) in
     let long : length v ≡ length w = length-set y lastWord t ∙ l in
     let g : (j : ℕ) → j ≢ lastWord → ((i : ℕ) → i < slotsOf w → j ≢ entryOf i) → getD v j 0 ≡ getD w j 0 =
-    λ j n f. getD-set-other y lastWord j t 0 n ∙ swept-other w t stale (slotsOf w) j f in
+    λ j n f. getD-set-other y lastWord j t 0 n ∙ swept-other w t ticks stale (slotsOf w) j f in
     let n : slotsOf v ≡ slotsOf w = g slotsWord (omega arith) (λ i h. omega arith) in
     let r : ringOf v ≡ ringOf w = g ringWord (omega arith) (λ i h. omega arith) in
     record {
@@ -66,7 +66,7 @@ clean-run w t stale o =
       slots = n;
       ring = r;
       last = getD-set-same y lastWord t 0 (omega (arith, o .long, l));
-      used = λ i h. getD-set-other y lastWord (entryOf i) t 0 (omega arith) ∙ swept-use w t stale (slotsOf w) i h (omega (arith, o .long));
+      used = λ i h. getD-set-other y lastWord (entryOf i) t 0 (omega arith) ∙ swept-use w t ticks stale (slotsOf w) i h (omega (arith, o .long));
       words = g;
       keys = λ i. key-ext w v i (λ j p q. g j (omega arith) (λ h a. omega arith));
       bodies = body-ext w v long n r (λ j p. g j (omega arith) (λ h a. omega arith));
@@ -108,35 +108,35 @@ right-after Suppressed u x y e n = go (hasSeries u && x) (hasCached u && y) n
 
 -- ---- each slot: "Cleanup drops a series with no bucket or whose newest age is over the stale time; a cached factor stays only at an age below it"
 
-abbrev pub seriesKept : List ℕ → ℕ → ℕ → ℕ → Bool
-seriesKept w t stale i = hasSeries (useOf w i) && seriesStays (buckets (ringOf w) (bodyOf w i)) t stale
+abbrev pub seriesKept : List ℕ → ℕ → ℕ → ℕ → ℕ → Bool
+seriesKept w t ticks stale i = hasSeries (useOf w i) && seriesStays (buckets (ringOf w) (bodyOf w i)) t ticks stale
 
-abbrev pub cachedKept : List ℕ → ℕ → ℕ → ℕ → Bool
-cachedKept w t stale i = hasCached (useOf w i) && factorStays (factorTimeOf (bodyOf w i)) t stale
+abbrev pub cachedKept : List ℕ → ℕ → ℕ → ℕ → ℕ → Bool
+cachedKept w t ticks stale i = hasCached (useOf w i) && factorStays (factorTimeOf (bodyOf w i)) t ticks stale
 
-module _ {w v : List ℕ} {t stale : ℕ} (c : Cleaned w v t stale) (i : ℕ) (h : i < slotsOf w) where
-  use-is : useOf v i ≡ uses (seriesKept w t stale i) (cachedKept w t stale i)
+module _ {w v : List ℕ} {t ticks stale : ℕ} (c : Cleaned w v t ticks stale) (i : ℕ) (h : i < slotsOf w) where
+  use-is : useOf v i ≡ uses (seriesKept w t ticks stale i) (cachedKept w t ticks stale i)
   unfolding useAfter
   use-is = c .used i h
 
-  pub series-kept : hasSeries (useOf v i) ≡ seriesKept w t stale i
-  series-kept = ap hasSeries use-is ∙ uses-series (seriesKept w t stale i) (cachedKept w t stale i)
+  pub series-kept : hasSeries (useOf v i) ≡ seriesKept w t ticks stale i
+  series-kept = ap hasSeries use-is ∙ uses-series (seriesKept w t ticks stale i) (cachedKept w t ticks stale i)
 
-  pub cached-kept : hasCached (useOf v i) ≡ cachedKept w t stale i
-  cached-kept = ap hasCached use-is ∙ uses-cached (seriesKept w t stale i) (cachedKept w t stale i)
+  pub cached-kept : hasCached (useOf v i) ≡ cachedKept w t ticks stale i
+  cached-kept = ap hasCached use-is ∙ uses-cached (seriesKept w t ticks stale i) (cachedKept w t ticks stale i)
 
   -- a free slot stays free, with every word as it was
   pub free-still : useOf w i ≡ 0 → useOf v i ≡ 0
   free-still e = use-is ∙ ap
-      (λ (u : ℕ). uses (hasSeries u && seriesStays (buckets (ringOf w) (bodyOf w i)) t stale)
-      (hasCached u && factorStays (factorTimeOf (bodyOf w i)) t stale)) e
+      (λ (u : ℕ). uses (hasSeries u && seriesStays (buckets (ringOf w) (bodyOf w i)) t ticks stale)
+      (hasCached u && factorStays (factorTimeOf (bodyOf w i)) t ticks stale)) e
 
   pub was-used : useOf v i ≢ 0 → useOf w i ≢ 0
   was-used n e = n (free-still e)
 
 -- ---- keys
 
-pub clean-distinct : {w v : List ℕ} {t stale : ℕ} → Cleaned w v t stale → Distinct w → Distinct v
+pub clean-distinct : {w v : List ℕ} {t ticks stale : ℕ} → Cleaned w v t ticks stale → Distinct w → Distinct v
 clean-distinct {w} {v} c d = record {
   once = λ i j p q a b e.
       let p′ : i < slotsOf w = omega (arith, c .slots) in
@@ -166,23 +166,23 @@ part-still a false x p q e f g = refl
 part-still true true x p q e f g = f g
 part-still false true x p q e f g = absurd (false≢true (sym e))
 
-module _ (kind : RoomKind) (s : Settings) (w v : List ℕ) (t stale : ℕ) (c : Cleaned w v t stale) (p : Passed kind s w t) where
+module _ (kind : RoomKind) (s : Settings) (w v : List ℕ) (t ticks stale : ℕ) (c : Cleaned w v t ticks stale) (p : Passed kind s w t) where
   pub clean-sound : (i : ℕ) → i < slotsOf w → useOf v i ≢ 0 → soundSlot kind s v i ≡ true
   clean-sound i h n =
       let q = sound-parts kind s w i (passed-sound kind s w t p i h (was-used c i h n)) in
       let e = use-is c i h in
       let series : not (hasSeries (useOf v i)) || soundSeries kind s (ringOf w) t (bodyOf w i) ≡ true =
-      part-still (hasSeries (useOf w i)) (hasSeries (useOf v i)) (seriesStays (buckets (ringOf w) (bodyOf w i)) t stale)
+      part-still (hasSeries (useOf w i)) (hasSeries (useOf v i)) (seriesStays (buckets (ringOf w) (bodyOf w i)) t ticks stale)
       (soundSeries kind s (ringOf w) (lastOf w) (bodyOf w i)) (soundSeries kind s (ringOf w) t (bodyOf w i)) (series-kept c i h)
       (series-later kind s (ringOf w) (lastOf w) t (bodyOf w i) (p .later)) (q .series) in
       let cached : not (hasCached (useOf v i)) || soundCached t (bodyOf w i) ≡ true =
-      part-still (hasCached (useOf w i)) (hasCached (useOf v i)) (factorStays (factorTimeOf (bodyOf w i)) t stale) (soundCached (lastOf w) (bodyOf w i))
+      part-still (hasCached (useOf w i)) (hasCached (useOf v i)) (factorStays (factorTimeOf (bodyOf w i)) t ticks stale) (soundCached (lastOf w) (bodyOf w i))
       (soundCached t (bodyOf w i)) (cached-kept c i h) (cached-later (lastOf w) t (bodyOf w i) (p .later)) (q .cached) in
       parts-sound kind s v i
       (record {
         key = ap keyFits (c .keys i) ∙ q .key;
-        uses = ap (rightUse kind) e ∙ right-after kind (useOf w i) (seriesStays (buckets (ringOf w) (bodyOf w i)) t stale)
-            (factorStays (factorTimeOf (bodyOf w i)) t stale) (q .uses) (λ z. n (e ∙ z));
+        uses = ap (rightUse kind) e ∙ right-after kind (useOf w i) (seriesStays (buckets (ringOf w) (bodyOf w i)) t ticks stale)
+            (factorStays (factorTimeOf (bodyOf w i)) t ticks stale) (q .uses) (λ z. n (e ∙ z));
         series = subst (λ (r : ℕ). not (hasSeries (useOf v i)) || soundSeries kind s r (lastOf v) (bodyOf v i) ≡ true) (sym (c .ring))
             (subst (λ (l : ℕ). not (hasSeries (useOf v i)) || soundSeries kind s (ringOf w) l (bodyOf v i) ≡ true) (sym (c .last))
             (subst (λ (b : List ℕ). not (hasSeries (useOf v i)) || soundSeries kind s (ringOf w) t b ≡ true) (sym (c .bodies i)) series));
@@ -198,7 +198,7 @@ module _ (kind : RoomKind) (s : Settings) (w : List ℕ) (t stale : ℕ) where
   unfolding cleanup unlessRefused
   done-answer e = rw (eq-eqb _ 0 e)
 
-  pub done-words : refusal kind s w t ≡ 0 → cleanup kind s w t stale .words ≡ cleaned w t stale
+  pub done-words : refusal kind s w t ≡ 0 → cleanup kind s w t stale .words ≡ cleaned w t (ticksIn s) stale
   unfolding cleanup unlessRefused
   done-words e = rw (eq-eqb _ 0 e)
 
@@ -209,10 +209,11 @@ module _ (kind : RoomKind) (s : Settings) (w : List ℕ) (t stale : ℕ) where
 
 -- ---- at an age equal to the stale time a series stays and a cached factor goes
 
-pub series-at-stale : (xs : List Bucket) (t stale : ℕ) → 0 < length xs → t - newest xs .time ≡ stale → seriesStays xs t stale ≡ true
+pub series-at-stale : (xs : List Bucket) (t ticks stale : ℕ) → 0 < length xs → ageInMilliseconds ticks t (newest xs .time) ≡ stale →
+    seriesStays xs t ticks stale ≡ true
 unfolding seriesStays
-series-at-stale xs t stale h e = rw (lt-ltb 0 (length xs) h, le-leb (t - newest xs .time) stale (omega arith))
+series-at-stale xs t ticks stale h e = rw (lt-ltb 0 (length xs) h, le-leb (ageInMilliseconds ticks t (newest xs .time)) stale (omega arith))
 
-pub factor-at-stale : (time t stale : ℕ) → t - time ≡ stale → factorStays time t stale ≡ false
+pub factor-at-stale : (time t ticks stale : ℕ) → ageInMilliseconds ticks t time ≡ stale → factorStays time t ticks stale ≡ false
 unfolding factorStays
-factor-at-stale time t stale e = rw (le-ltb (t - time) stale (omega arith))
+factor-at-stale time t ticks stale e = rw (le-ltb (ageInMilliseconds ticks t time) stale (omega arith))

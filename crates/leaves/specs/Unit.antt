@@ -13,7 +13,8 @@ use Rattle.suppression.specs.Factor.{Unit01, factorWordOk}
 use Rattle.common_laws.specs.FactorLaws.{Counted, fresh-unit, fresh-ok, factor-unit, nilWord, oneWord, nil-ok, one-ok, nil-word, one-word}
 use Rattle.common.specs.Ranges.{nil, one}
 use Rattle.common.specs.Limits.{cutWord, softWord}
-use Rattle.settings.specs.Settings.{windowIn, factorIn, cacheIn, Proper}
+use Rattle.settings.specs.Settings.{windowIn, factorIn, Proper}
+use Rattle.settings.specs.Clock.{age, ticksIn, cacheTicks}
 use Rattle.settings.specs.declared.Settings.{Settings}
 use Rattle.answers.specs.declared.RateLimitDecision.{RateLimitDecision}
 use Rattle.answers.specs.declared.RateLimitDecision.the-variants.{Allowed, Rejected, Suppressed, Refused}
@@ -76,17 +77,17 @@ pub record Within01 (f : Float) : Type 0 where
   pub unit : Unit01 f
   pub word : factorWordOk (toBits binary64 f) ≡ true
 
-module _ (w : List ℕ) (t : ℕ) (x : Slot) (o : Sums w t x) (W : ℕ) (p : 1 ≤ W) (q : W ≤ 33554432) where
-  by-rule : (S H : ℕ) (r : FactorRule) → ruleAt S H x ≡ r → Within01 (freshBy r S (x .pass .«live_total») W (secondAt w t x))
+module _ (n : ℕ) (w : List ℕ) (t : ℕ) (x : Slot) (o : Sums n w t x) (W : ℕ) (p : 1 ≤ W) (q : W ≤ 33554432) where
+  by-rule : (S H : ℕ) (r : FactorRule) → ruleAt S H x ≡ r → Within01 (freshBy r S (x .pass .«live_total») W (secondAt n w t x))
   by-rule S H Nil e = record { unit = unit-nil; word = word-nil }
   by-rule S H One e = record { unit = unit-one; word = word-one }
   by-rule S H Worked e =
       let l = worked-soft S H x e in
-      let k : Counted S (x .pass .«live_total») W (secondAt w t x) =
+      let k : Counted S (x .pass .«live_total») W (secondAt n w t x) =
       record { soft = omega arith; few = o .most; from = p; to = q; newest = o .recent } in
       record {
-        unit = fresh-unit S (x .pass .«live_total») W (secondAt w t x) k;
-        word = fresh-ok S (x .pass .«live_total») W (secondAt w t x) k;
+        unit = fresh-unit S (x .pass .«live_total») W (secondAt n w t x) k;
+        word = fresh-ok S (x .pass .«live_total») W (secondAt n w t x) k;
       }
 
 -- ---- the factor that is asked for
@@ -103,25 +104,26 @@ pub record AskedOk (t : ℕ) (a : Asked) : Type 0 where
 usable-cached : (C t : ℕ) (x : Slot) → usableAt C t x ≡ true → x .cached ≡ true
 unfolding usableAt staysAt
 usable-cached C t x e = and-true (x .cached) (eqb (x .pass .expired) 0)
-    (and-true (x .cached && eqb (x .pass .expired) 0) (ltb (t - x .«factor_time») C) e .0) .0
+    (and-true (x .cached && eqb (x .pass .expired) 0) (ltb (age t (x .«factor_time»)) C) e .0) .0
 
-module _ (s : Settings) (p : Proper s) (w : List ℕ) (t : ℕ) (x : Slot) (o : Sums w t x) (h : x .cached ≡ true → factorWordOk (x .factor) ≡ true) where
-  worked-ok : (limit : ℕ) → AskedOk t (workedAt (factorIn s) (windowIn s) w t x limit)
+module _ (s : Settings) (p : Proper s) (w : List ℕ) (t : ℕ) (x : Slot) (o : Sums (ticksIn s) w t x)
+    (h : x .cached ≡ true → factorWordOk (x .factor) ≡ true) where
+  worked-ok : (limit : ℕ) → AskedOk t (workedAt (factorIn s) (windowIn s) (ticksIn s) w t x limit)
   unfolding workedAt
   worked-ok limit =
       let S = softWord (factorIn s) limit in
       let H = cutWord limit in
-      let r = by-rule w t x o (windowIn s) (p .window-low) (p .window-high) S H (ruleAt S H x) refl in
+      let r = by-rule (ticksIn s) w t x o (windowIn s) (p .window-low) (p .window-high) S H (ruleAt S H x) refl in
       record { unit = r .unit; caching = (r .word, omega arith) }
 
-  by-use : (limit : ℕ) (z : Bool) → usableAt (cacheIn s) t x ≡ z →
-      AskedOk t (cond z (asCached (x .factor)) (workedAt (factorIn s) (windowIn s) w t x limit))
-  by-use limit true e = record { unit = factor-unit (x .factor) (h (usable-cached (cacheIn s) t x e)); caching = tt }
+  by-use : (limit : ℕ) (z : Bool) → usableAt (cacheTicks s) t x ≡ z →
+      AskedOk t (cond z (asCached (x .factor)) (workedAt (factorIn s) (windowIn s) (ticksIn s) w t x limit))
+  by-use limit true e = record { unit = factor-unit (x .factor) (h (usable-cached (cacheTicks s) t x e)); caching = tt }
   by-use limit false e = worked-ok limit
 
   pub asked-ok : (limit : ℕ) → AskedOk t (askedAt s w t x limit)
   unfolding askedAt
-  asked-ok limit = by-use limit (usableAt (cacheIn s) t x) refl
+  asked-ok limit = by-use limit (usableAt (cacheTicks s) t x) refl
 
 -- ---- "It lies in 0 to 1": of what each call answers
 
@@ -153,7 +155,8 @@ by-reach Soft a t c draw g = (tt, tt)
 by-reach Over a t c draw g = (unit-one, (word-one, omega arith))
 by-reach Between a t c draw g = (g .unit, g .caching)
 
-module _ (s : Settings) (p : Proper s) (w : List ℕ) (t : ℕ) (x : Slot) (o : Sums w t x) (h : x .cached ≡ true → factorWordOk (x .factor) ≡ true) where
+module _ (s : Settings) (p : Proper s) (w : List ℕ) (t : ℕ) (x : Slot) (o : Sums (ticksIn s) w t x)
+    (h : x .cached ≡ true → factorWordOk (x .factor) ≡ true) where
   pub outcome-ok : (limit n c draw : ℕ) →
       DecisionOk (outcomeAt s w t x limit n c draw .decision) × CachingOk t (outcomeAt s w t x limit n c draw .caching)
   unfolding outcomeAt

@@ -1,3 +1,4 @@
 pub mod Sound
 pub mod Slot
+pub mod Look
 pub mod Right

@@ -11,8 +11,8 @@ use borrow.Author.Tests.{lt-ltb, le-ltb, ltb-false}
 use Rattle.suppression.specs.Factor.{factorWordOk}
 use Rattle.common.specs.Limits.{limitOk}
 use Rattle.settings.specs.Settings.{windowIn, factorIn}
+use Rattle.settings.specs.Clock.{windowTicks}
 use Rattle.settings.specs.declared.Settings.{Settings}
-use Rattle.rules.specs.Buckets.{windowTicks}
 use Rattle.sweep.specs.Sweep.{found, unsound, pick, passOf}
 use Rattle.ring.specs.Ring.{declinedOf, lenOf, buckets}
 use Rattle.ring.specs.Sound.{soundBuckets}
@@ -40,7 +40,7 @@ slotRight kind s last u x = rightUse kind u && (seriesRight kind s x && cachedRi
 pub record Addresses (w key : List ℕ) (s : Settings) (x : Slot) : Type 0 where
   pub room : Room w
   pub reading : ℕ
-  pub is : x ≡ slotOf (windowIn s) w reading (addressed w key)
+  pub is : x ≡ slotOf (windowTicks s) w reading (addressed w key)
 
 -- ---- the words' soundness
 
@@ -59,10 +59,10 @@ module _ (kind : RoomKind) (s : Settings) (W r last t at u : ℕ) (b : List ℕ)
     where
       go :
           (x : Bool) →
-          not x || (pickPass x (passOf r b last t (windowTicks W)) .sound &&
+          not x || (pickPass x (passOf r b last t W) .sound &&
           (declinedRight kind (declinedOf b) && limitOk (windowIn s) (divisor kind (factorIn s)) (limitOf b))) ≡
           not x || (soundBuckets r b last && (declinedRight kind (declinedOf b) && limitOk (windowIn s) (divisor kind (factorIn s)) (limitOf b)))
-      go true = rw (pass-sound r b last t (windowTicks W))
+      go true = rw (pass-sound r b last t W)
       go false = refl
 
   cached-is : cachedRight last (opened W r last t at u b) ≡ not (hasCached u) || soundCached last b
@@ -104,7 +104,7 @@ addressed-le w key = go (ltb 32 (length key))
     go false = find-le w (keyOf key)
 
 pub addressed-at : (w key : List ℕ) (s : Settings) (x : Slot) → Addresses w key s x → x .at ≡ addressed w key
-addressed-at w key s x a = ap (λ (y : Slot). y .at) (a .is) ∙ slot-at (windowIn s) (a .reading) w (addressed w key) (addressed-le w key)
+addressed-at w key s x a = ap (λ (y : Slot). y .at) (a .is) ∙ slot-at (windowTicks s) (a .reading) w (addressed w key) (addressed-le w key)
 
 -- its key is the one that was looked for
 pub addressed-key : (w key : List ℕ) → Bytes key → addressed w key < slotsOf w → keySound w (addressed w key) ≡ true
@@ -128,9 +128,10 @@ sound-some kind s w key x y z a h e =
     let at = addressed w key in
     let p : x .at ≡ at = addressed-at w key s x a in
     let l : at < slotsOf w = omega arith in
-    let q : x ≡ opened (windowIn s) (ringOf w) (lastOf w) (a .reading) at (useOf w at) (bodyOf w at) = a .is ∙ slot-here (windowIn s) (a .reading) w at l in
+    let q : x ≡ opened (windowTicks s) (ringOf w) (lastOf w) (a .reading) at (useOf w at) (bodyOf w at) =
+    a .is ∙ slot-here (windowTicks s) (a .reading) w at l in
     e ∙
     ap (λ (n : ℕ). slotRight kind s (lastOf w) (useOf w n) x) p ∙
     ap (slotRight kind s (lastOf w) (useOf w at)) q ∙
-    right-is kind s (windowIn s) (a .reading) w at (addressed-key w key z l) ∙
+    right-is kind s (windowTicks s) (a .reading) w at (addressed-key w key z l) ∙
     sym (rw (lt-ltb at (slotsOf w) l))

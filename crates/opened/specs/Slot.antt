@@ -1,10 +1,10 @@
 -- A key's slot opened into a value, which calls decide on: what it holds, its words, and what the pass over its buckets finds at reading t.
 -- Assumes nothing.
-use mathlib.Core.Bool.{Bool, true, false, _||_}
+use mathlib.Core.Bool.{Bool, true, false, not, _||_, cond}
 use mathlib.Core.List.{List}
 use Prim.Native.Nat.{ℕ}
-use lib.Dec.{ltb}
-use Rattle.rules.specs.Buckets.{windowTicks}
+use lib.Dec.{ltb, eqb}
+use Rattle.rules.specs.Buckets.{older}
 use Rattle.sweep.specs.Sweep.{passOf, unsound}
 use Rattle.sweep.specs.declared.tally.Pass.{Pass}
 use Rattle.ring.specs.Ring.{totalOf, declinedOf}
@@ -43,14 +43,14 @@ opened W r last t at u b = record {
   declined = declinedOf b;
   factor = factorOf b;
   «factor_time» = factorTimeOf b;
-  pass = pickPass (hasSeries u) (passOf r b last t (windowTicks W));
+  pass = pickPass (hasSeries u) (passOf r b last t W);
 }
 
 abbrev pub pickSlot : Bool → Slot → Slot → Slot
 pickSlot true x y = x
 pickSlot false x y = y
 
--- the slot at, where there is one; W is the window in seconds
+-- the slot at, where there is one; W is the window in ticks
 unfoldable pub slotOf : ℕ → List ℕ → ℕ → ℕ → Slot
 slotOf W w t at =
     pickSlot (ltb at (slotsOf w)) (opened W (ringOf w) (lastOf w) t at (useOf w at) (bodyOf w at)) (noSlot (slotsOf w))
@@ -58,3 +58,40 @@ slotOf W w t at =
 -- "A suppressed slot stays in use while it has a series or a cached factor"
 abbrev pub hasSlot : Slot → Bool
 hasSlot x = x .series || x .cached
+
+-- ---- a first look
+
+-- with another pass
+abbrev pub passing : Pass → Slot → Slot
+passing p x = record {
+  at = x .at;
+  used = x .used;
+  series = x .series;
+  cached = x .cached;
+  limit = x .limit;
+  total = x .total;
+  declined = x .declined;
+  factor = x .factor;
+  «factor_time» = x .«factor_time»;
+  pass = p;
+}
+
+-- nothing is expired
+abbrev pub allStay : Slot → Slot
+allStay x = passing (record {
+  sound = x .pass .sound;
+  buckets = x .pass .buckets;
+  expired = 0;
+  «live_total» = x .total;
+  «live_declined» = x .declined;
+  oldest = x .pass .eldest;
+  newest = x .pass .newest;
+  eldest = x .pass .eldest;
+}) x
+
+-- a first look leaves what is expired unless the oldest bucket's age is over look
+abbrev pub leavesExpired : ℕ → ℕ → Slot → Bool
+leavesExpired look t x = not (eqb (x .pass .expired) 0 || older look t (x .pass .eldest))
+
+unfoldable pub firstLook : ℕ → ℕ → Slot → Slot
+firstLook look t x = cond (leavesExpired look t x) (allStay x) x

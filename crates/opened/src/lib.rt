@@ -1,14 +1,13 @@
 // A slot opened into a value by one pass over its buckets, and whether its words are right.
 ghost use mathlib.Core.Path.{_≡_};
-ghost use Prim.Native.Nat.{_+_, _*_, _<_, _≤_};
+ghost use Prim.Native.Nat.{_≤_};
 ghost use lib.ListN.{length};
-ghost use Rattle.rules.specs.Buckets.{windowTicks};
 ghost use Rattle.sweep.specs.Sweep.{passOf, unsound};
 ghost use Rattle.layout.specs.Layout.{fixedWords};
 ghost use Rattle.room.specs.Room.{Room};
 ghost use Rattle.opened.specs.Sound.{hasSeries, hasCached, rightUse, declinedRight};
 ghost use Rattle.rules.specs.Both.{divisor};
-ghost use Rattle.opened.specs.Slot.{noSlot, pickPass, opened, slotOf, hasSlot};
+ghost use Rattle.opened.specs.Slot.{noSlot, pickPass, opened, slotOf, hasSlot, allStay, leavesExpired, firstLook};
 ghost use Rattle.opened.specs.Right.{seriesRight, cachedRight, slotRight};
 use ring::Bucket;
 use rules::RoomKind;
@@ -46,6 +45,7 @@ fn no_pass() -> Pass
         live_declined: 0,
         oldest: none,
         newest: none,
+        eldest: none,
     }
 }
 
@@ -97,18 +97,17 @@ fn has_cached(u: u64) -> bool
 }
 
 fn series_pass(b: &[u64], r: usize, last: u64, reading: u64, window: u64, series: bool) -> Pass
-    requires { ⌜ window ≤ 33554432 ⌝ }
-    ensures { λ x. ⌜ x ≡ pickPass series (passOf r (now (b .entry)) last reading (windowTicks window)) ⌝ }
+    ensures { λ x. ⌜ x ≡ pickPass series (passOf r (now (b .entry)) last reading window) ⌝ }
 {
     if !series {
         return no_pass();
     }
-    sweep::pass(b, r, last, reading, second::TICKS_PER_SECOND * window)
+    sweep::pass(b, r, last, reading, window)
 }
 
 // The body of slot `at`, of use `u`, opened: the one pass over its buckets is made here.
 fn open_body(b: &[u64], r: usize, last: u64, reading: u64, window: u64, at: usize, u: u64) -> Slot
-    requires { ⌜ (fixedWords ≤ length (now b)) × (window ≤ 33554432) ⌝ }
+    requires { ⌜ fixedWords ≤ length (now b) ⌝ }
     ensures { λ x. ⌜ x ≡ opened window r last reading at u (now (b .entry)) ⌝ }
 {
     let series = has_series(u);
@@ -127,9 +126,9 @@ fn open_body(b: &[u64], r: usize, last: u64, reading: u64, window: u64, at: usiz
     }
 }
 
-// Slot `at`, or none where there are fewer.
+// Slot `at`, or none where there are fewer. `window` is in ticks.
 pub fn open_at(w: &[u64], at: usize, reading: u64, window: u64) -> Slot
-    requires { ⌜ Room (now w) × (window ≤ 33554432) ⌝ }
+    requires { ⌜ Room (now w) ⌝ }
     ensures { λ x. ⌜ x ≡ slotOf window (now (w .entry)) reading at ⌝ }
 {
     let slots = w[layout::SLOTS] as usize;
@@ -142,6 +141,60 @@ pub fn open_at(w: &[u64], at: usize, reading: u64, window: u64) -> Slot
     let a = room::start(w, at);
     let e = a + (layout::FIXED + layout::CELL * r);
     open_body(&w[a..e], r, last, reading, window, at, u)
+}
+
+// The slot with all its buckets.
+pub fn all_stay(x: Slot) -> Slot
+    ensures { λ y. ⌜ y ≡ allStay x ⌝ }
+{
+    let pass = x.pass;
+    let eldest = pass.eldest;
+    let newest = pass.newest;
+    let pass = Pass {
+        sound: pass.sound,
+        buckets: pass.buckets,
+        expired: 0,
+        live_total: x.total,
+        live_declined: x.declined,
+        oldest: eldest,
+        newest,
+        eldest,
+    };
+    Slot {
+        at: x.at,
+        used: x.used,
+        series: x.series,
+        cached: x.cached,
+        limit: x.limit,
+        total: x.total,
+        declined: x.declined,
+        factor: x.factor,
+        factor_time: x.factor_time,
+        pass,
+    }
+}
+
+// Whether a first look leaves buckets that are expired: the oldest bucket's age is not over `look`.
+pub fn leaves_expired(look: u64, reading: u64, x: Slot) -> bool
+    ensures { λ r. ⌜ r ≡ leavesExpired look reading x ⌝ }
+{
+    let pass = x.pass;
+    let expired = pass.expired;
+    let eldest = pass.eldest;
+    if expired == 0 {
+        return false;
+    }
+    ring::less(reading, eldest.time) <= look
+}
+
+// The slot as a first look leaves it.
+pub fn first_look(look: u64, reading: u64, x: Slot) -> Slot
+    ensures { λ y. ⌜ y ≡ firstLook look reading x ⌝ }
+{
+    if leaves_expired(look, reading, x) {
+        return all_stay(x);
+    }
+    x
 }
 
 pub fn divisor(kind: RoomKind, factor: f64) -> f64

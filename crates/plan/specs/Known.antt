@@ -11,8 +11,9 @@ use Rattle.base.specs.Decides.{other-true, and-true}
 use Rattle.suppression.specs.Factor.{factorWordOk}
 use Rattle.common.specs.Limits.{limitOk}
 use Rattle.settings.specs.Settings.{windowIn, factorIn}
+use Rattle.settings.specs.Clock.{windowTicks}
 use Rattle.settings.specs.declared.Settings.{Settings}
-use Rattle.rules.specs.Buckets.{windowTicks}
+use Rattle.rules.specs.Buckets.{goneIf}
 use Rattle.sweep.specs.Measured.{Measured, pass-judges, pass-measures}
 use Rattle.sweep.specs.Sweep.{passOf}
 use Rattle.ring.specs.declared.Bucket.{Bucket}
@@ -38,13 +39,13 @@ use Rattle.plan.specs.Plan.{opening}
 -- the slot of a key that has a slot
 pub record Found (kind : RoomKind) (s : Settings) (w : List ℕ) (t at : ℕ) (x : Slot) : Type 0 where
   pub inside : at < slotsOf w
-  pub is : x ≡ opened (windowIn s) (ringOf w) (lastOf w) t at (useOf w at) (bodyOf w at)
+  pub is : x ≡ opened (windowTicks s) (ringOf w) (lastOf w) t at (useOf w at) (bodyOf w at)
   pub sound : soundSlot kind s w at ≡ true
 
--- and of one that has a series: its words, and what the pass found of its buckets
-pub record Known (kind : RoomKind) (s : Settings) (w : List ℕ) (t at : ℕ) (x : Slot) : Type 0 where
+-- and of one that has a series: its words, and what the pass found of its buckets; out says whether the expired ones are out
+pub record Known (kind : RoomKind) (s : Settings) (w : List ℕ) (t at : ℕ) (out : Bool) (x : Slot) : Type 0 where
   pub inside : at < slotsOf w
-  pub measured : Measured (ringOf w) (bodyOf w at) (lastOf w) t (windowTicks (windowIn s)) (x .pass)
+  pub measured : Measured (ringOf w) (bodyOf w at) (lastOf w) (goneIf out (windowTicks s) t (buckets (ringOf w) (bodyOf w at))) (x .pass)
   pub now : Sound (ringOf w) (bodyOf w at) t
   pub at-is : x .at ≡ at
   pub used-is : x .used ≡ useOf w at
@@ -66,11 +67,11 @@ unfolding soundAt
 sound-there kind s w at h e = rw (lt-ltb at (slotsOf w) h) at e
 
 module _ (kind : RoomKind) (s : Settings) (w : List ℕ) (t : ℕ) (key : List ℕ) (p : Passed kind s w t key) where
-  pub found : addressed w key < slotsOf w → Found kind s w t (addressed w key) (slotOf (windowIn s) w t (addressed w key))
-  found h = record { inside = h; is = slot-here (windowIn s) t w (addressed w key) h; sound = sound-there kind s w (addressed w key) h (p .sound) }
+  pub found : addressed w key < slotsOf w → Found kind s w t (addressed w key) (slotOf (windowTicks s) w t (addressed w key))
+  found h = record { inside = h; is = slot-here (windowTicks s) t w (addressed w key) h; sound = sound-there kind s w (addressed w key) h (p .sound) }
 
-  pub none : slotsOf w ≤ addressed w key → slotOf (windowIn s) w t (addressed w key) ≡ noSlot (slotsOf w)
-  none h = slot-none (windowIn s) t w (addressed w key) h
+  pub none : slotsOf w ≤ addressed w key → slotOf (windowTicks s) w t (addressed w key) ≡ noSlot (slotsOf w)
+  none h = slot-none (windowTicks s) t w (addressed w key) h
 
 -- ---- what is sound
 
@@ -114,19 +115,19 @@ module _ (kind : RoomKind) (s : Settings) (w : List ℕ) (t at : ℕ) (x : Slot)
         earlier = omega (arith, leb-true (factorTimeOf (bodyOf w at)) (lastOf w) (d .1), ap (λ (y : Slot). y .«factor_time») (f .is));
       }
 
-  pub series-known : lastOf w ≤ t → x .series ≡ true → Known kind s w t at x
+  pub series-known : lastOf w ≤ t → x .series ≡ true → Known kind s w t at true x
   unfolding soundSeries opened
   series-known later e =
       let h : hasSeries (useOf w at) ≡ true = sym series-is ∙ e in
       let q = other-true (hasSeries (useOf w at)) _ h (parts .1 .0) in
       let a = and-true (soundBuckets (ringOf w) (bodyOf w at) (lastOf w)) _ q in
       let c = and-true (declinedRight kind (declinedOf (bodyOf w at))) _ (a .1) in
-      let m : x .pass ≡ passOf (ringOf w) (bodyOf w at) (lastOf w) t (windowTicks (windowIn s)) =
-      ap (λ (y : Slot). y .pass) (f .is) ∙ ap (λ (z : Bool). pickPass z (passOf (ringOf w) (bodyOf w at) (lastOf w) t (windowTicks (windowIn s)))) h in
+      let m : x .pass ≡ passOf (ringOf w) (bodyOf w at) (lastOf w) t (windowTicks s) =
+      ap (λ (y : Slot). y .pass) (f .is) ∙ ap (λ (z : Bool). pickPass z (passOf (ringOf w) (bodyOf w at) (lastOf w) t (windowTicks s))) h in
       record {
         inside = f .inside;
-        measured = pass-measures (ringOf w) (bodyOf w at) (lastOf w) t (windowTicks (windowIn s)) (x .pass) m
-            (pass-judges (ringOf w) (bodyOf w at) (lastOf w) t (windowTicks (windowIn s)) (x .pass) m ∙ a .0);
+        measured = pass-measures (ringOf w) (bodyOf w at) (lastOf w) t (windowTicks s) (x .pass) m
+            (pass-judges (ringOf w) (bodyOf w at) (lastOf w) t (windowTicks s) (x .pass) m ∙ a .0);
         now = sound-later t later (sound-true (ringOf w) (bodyOf w at) (lastOf w) (a .0));
         at-is = at-as;
         used-is = used-as;
@@ -154,7 +155,7 @@ module _ (w : List ℕ) (at : ℕ) (o : Room w) (h : at < slotsOf w) where
     edits = record { long = room-long; one = o .some; small = o .small; stays = λ e. absurd (false≢true (sym e)); acts = a };
   }
 
-module _ (kind : RoomKind) (s : Settings) (w : List ℕ) (t at : ℕ) (x : Slot) (o : Room w) (k : Known kind s w t at x) where
+module _ (kind : RoomKind) (s : Settings) (w : List ℕ) (t at : ℕ) (out : Bool) (x : Slot) (o : Room w) (k : Known kind s w t at out x) where
   -- the buckets, and those that are live
   pub view : List Bucket
   view = buckets (ringOf w) (bodyOf w at)

@@ -1,4 +1,5 @@
 pub mod Plan
 pub mod Fits
 pub mod Known
+pub mod Looked
 pub mod Seen

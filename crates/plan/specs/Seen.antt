@@ -2,15 +2,15 @@
 -- Assumes nothing.
 use mathlib.Core.Path.{_≡_, refl, sym, ap, ap₂, subst, _∙_}
 use mathlib.Core.Bool.{Bool, true, false, not, _&&_, _||_, cond, false≢true}
-use mathlib.Core.List.{List, [], _∷_}
-use Prim.Native.Nat.{ℕ, suc, _-_, _≤_, _<_}
+use mathlib.Core.List.{List, []}
+use Prim.Native.Nat.{ℕ, _-_, _≤_, _<_}
 use native.Mathlib.Omega.{arith}
 use lib.Dec.{leb, ltb}
 use lib.ListN.{length, getD, drop, length-drop}
 use borrow.Author.Tests.{lt-ltb, le-ltb, ltb-true, ltb-false}
-use Rattle.settings.specs.Settings.{windowIn}
+use Rattle.settings.specs.Clock.{windowTicks, lookTicks}
 use Rattle.settings.specs.declared.Settings.{Settings}
-use Rattle.rules.specs.Buckets.{windowTicks, older, recent, ahead, gone, live, newest, joins, lastSecond}
+use Rattle.rules.specs.Buckets.{ahead, gone, goneIf, outIf, newest, joins}
 use Rattle.rules.specs.Laws.{newest-drop}
 use Rattle.sweep.specs.Sweep.{passOf, unsound}
 use Rattle.sweep.specs.declared.tally.Pass.{Pass}
@@ -19,59 +19,47 @@ use Rattle.ring.specs.Ring.{noBucket, sumOf, counts, declineds, buckets}
 use Rattle.ring.specs.View.{view-length}
 use Rattle.rules.specs.declared.RoomKind.{RoomKind}
 use Rattle.rules.specs.Held.{Held, nothing, hasAny, lacksSlot}
-use Rattle.rules.specs.Both.{ringFull}
+use Rattle.rules.specs.Both.{overdueIn, ringFull}
 use Rattle.room.specs.Room.{slotsOf, ringOf, lastOf, useOf, bodyOf, vacant}
 use Rattle.opened.specs.declared.Slot.{Slot}
 use Rattle.opened.specs.Sound.{limitOf, factorOf, factorTimeOf, hasSeries, hasCached, addressed}
-use Rattle.opened.specs.Slot.{noSlot, pickPass, opened, hasSlot}
+use Rattle.opened.specs.Slot.{noSlot, pickPass, opened, hasSlot, passing, allStay, firstLook}
 use Rattle.judge.specs.Held.{heldBy, heldOf, heldIn, noneFree, held-here, held-none}
 use Rattle.judge.specs.Judge.{Passed, slotIn}
 use Rattle.plan.specs.Plan.{placeOf, lacksAt, joinsAfter, fullAfter}
+use Rattle.plan.specs.Looked.{by-overdue}
 use Rattle.plan.specs.Known.{Found, Known, found, none, at-as, series-known, series-is, cached-is}
 
--- x is the slot of a key that holds h, opened at reading t
-pub record Seen (W t : ℕ) (h : Held) (x : Slot) : Type 0 where
+-- x is the slot of a key that holds h, opened at reading t; W is the window in ticks, out says whether the expired buckets are out
+pub record Seen (W t : ℕ) (out : Bool) (h : Held) (x : Slot) : Type 0 where
   pub absent : h .known ≡ false → h .buckets ≡ []
   pub series-is : x .series ≡ h .known
   pub cached-is : x .cached ≡ h .cached
   pub limit-is : h .known ≡ true → x .limit ≡ h .limit
   pub total-is : h .known ≡ true → x .total ≡ counts (h .buckets)
+  pub stored-is : h .known ≡ true → x .declined ≡ declineds (h .buckets)
   pub factor-is : h .cached ≡ true → x .factor ≡ h .factor
   pub since-is : h .cached ≡ true → x .«factor_time» ≡ h .since
   pub length-is : x .pass .buckets ≡ length (h .buckets)
-  pub gone-is : x .pass .expired ≡ gone W t (h .buckets)
-  pub live-is : x .pass .«live_total» ≡ counts (live W t (h .buckets))
-  pub declined-is : x .pass .«live_declined» ≡ declineds (live W t (h .buckets))
-  pub oldest-is : x .pass .oldest ≡ getD (h .buckets) (gone W t (h .buckets)) noBucket
+  pub gone-is : x .pass .expired ≡ goneIf out W t (h .buckets)
+  pub live-is : x .pass .«live_total» ≡ counts (outIf out W t (h .buckets))
+  pub declined-is : x .pass .«live_declined» ≡ declineds (outIf out W t (h .buckets))
+  pub oldest-is : x .pass .oldest ≡ getD (h .buckets) (goneIf out W t (h .buckets)) noBucket
   pub newest-is : x .pass .newest ≡ newest (h .buckets)
-
--- ---- the last second is within what is live
-
-older-more : (v w t : ℕ) (x : Bucket) → v ≤ w → older w t x ≡ true → older v t x ≡ true
-unfolding older
-older-more v w t x h e = lt-ltb v (t - x .time) (omega (arith, ltb-true w (t - x .time) e))
-
-pub recent-live : (v w t : ℕ) → v ≤ w → (xs : List Bucket) → recent v t xs ≡ recent v t (drop (ahead w t xs) xs)
-unfolding recent ahead
-recent-live v w t h [] = refl
-recent-live v w t h (x ∷ xs) = go (older w t x) refl (recent-live v w t h xs)
-  where
-    go : (o : Bool) → older w t x ≡ o → recent v t xs ≡ recent v t (drop (ahead w t xs) xs) →
-        cond (older v t x) (recent v t xs) (x ∷ recent v t xs) ≡ recent v t (drop (cond o (suc (ahead w t xs)) 0) (x ∷ xs))
-    go true e i = ap (λ (z : Bool). cond z (recent v t xs) (x ∷ recent v t xs)) (older-more v w t x h e) ∙ i
-    go false e i = refl
+  pub eldest-is : x .pass .eldest ≡ getD (h .buckets) 0 noBucket
 
 -- ---- a slot that is there, and none
 
 pass-of-none : (W t : ℕ) (x : Slot) (y : Bool) (factor since : ℕ) → x .series ≡ false → x .cached ≡ y → x .pass ≡ unsound →
-    (y ≡ true → x .factor ≡ factor) → (y ≡ true → x .«factor_time» ≡ since) → Seen W t (heldBy false y 0 [] factor since) x
-unfolding ahead recent sumOf
+    (y ≡ true → x .factor ≡ factor) → (y ≡ true → x .«factor_time» ≡ since) → Seen W t true (heldBy false y 0 [] factor since) x
+unfolding ahead sumOf
 pass-of-none W t x y factor since e c p f m = record {
   absent = λ z. refl;
   series-is = e;
   cached-is = c;
   limit-is = λ z. absurd (false≢true z);
   total-is = λ z. absurd (false≢true z);
+  stored-is = λ z. absurd (false≢true z);
   factor-is = λ z. f z ∙ sym (ap (λ (k : Bool). cond k factor 0) z);
   since-is = λ z. m z ∙ sym (ap (λ (k : Bool). cond k since 0) z);
   length-is = ap (λ (q : Pass). q .buckets) p;
@@ -80,6 +68,7 @@ pass-of-none W t x y factor since e c p f m = record {
   declined-is = ap (λ (q : Pass). q .«live_declined») p;
   oldest-is = ap (λ (q : Pass). q .oldest) p;
   newest-is = ap (λ (q : Pass). q .newest) p;
+  eldest-is = ap (λ (q : Pass). q .eldest) p;
 }
 
 module _ (kind : RoomKind) (s : Settings) (w : List ℕ) (t at : ℕ) (x : Slot) (f : Found kind s w t at x) where
@@ -104,12 +93,11 @@ module _ (kind : RoomKind) (s : Settings) (w : List ℕ) (t at : ℕ) (x : Slot)
   unfolding opened
   pass-as e =
       ap (λ (y : Slot). y .pass) (f .is) ∙
-      ap (λ (z : Bool). pickPass z (passOf (ringOf w) (bodyOf w at) (lastOf w) t (windowTicks (windowIn s)))) e
+      ap (λ (z : Bool). pickPass z (passOf (ringOf w) (bodyOf w at) (lastOf w) t (windowTicks s))) e
 
-  known-seen : 1 ≤ windowIn s → Known kind s w t at x → x .series ≡ true → Seen (windowIn s) t (held true) x
-  known-seen low k e =
+  known-seen : Known kind s w t at true x → x .series ≡ true → Seen (windowTicks s) t true (held true) x
+  known-seen k e =
       let m = k .measured in
-      let W = windowTicks (windowIn s) in
       let xs = buckets (ringOf w) b in
       record {
         absent = λ z. absurd (false≢true (sym z));
@@ -117,6 +105,7 @@ module _ (kind : RoomKind) (s : Settings) (w : List ℕ) (t at : ℕ) (x : Slot)
         cached-is = cached-is kind s w t at x f;
         limit-is = λ z. k .limit-is;
         total-is = λ z. k .total-is ∙ k .now .total;
+        stored-is = λ z. k .declined-is ∙ k .now .declined;
         factor-is = λ z. factor-as ∙ sym (ap (λ (y : Bool). cond y (factorOf b) 0) z);
         since-is = λ z. since-as ∙ sym (ap (λ (y : Bool). cond y (factorTimeOf b) 0) z);
         length-is = m .buckets-are ∙ sym (view-length (ringOf w) b);
@@ -125,39 +114,85 @@ module _ (kind : RoomKind) (s : Settings) (w : List ℕ) (t at : ℕ) (x : Slot)
         declined-is = m .declined ∙ ap (λ (i : ℕ). declineds (drop i xs)) (m .expired-are);
         oldest-is = m .oldest-is ∙ ap (λ (i : ℕ). getD xs i noBucket) (m .expired-are);
         newest-is = m .newest-is;
+        eldest-is = m .eldest-is;
       }
 
-  lone-seen : x .series ≡ false → hasSeries u ≡ false → Seen (windowIn s) t (held false) x
+  lone-seen : x .series ≡ false → hasSeries u ≡ false → Seen (windowTicks s) t true (held false) x
   lone-seen e z =
-      pass-of-none (windowIn s) t x (hasCached u) (factorOf b) (factorTimeOf b) e (cached-is kind s w t at x f) (pass-as z) (λ y. factor-as) (λ y. since-as)
+      pass-of-none (windowTicks s) t x (hasCached u) (factorOf b) (factorTimeOf b) e (cached-is kind s w t at x f) (pass-as z) (λ y. factor-as) (λ y. since-as)
 
-  pub found-seen : 1 ≤ windowIn s → lastOf w ≤ t → Seen (windowIn s) t (heldOf (ringOf w) u b) x
-  found-seen low later = go (hasSeries u) refl
+  pub found-seen : lastOf w ≤ t → Seen (windowTicks s) t true (heldOf (ringOf w) u b) x
+  found-seen later = go (hasSeries u) refl
     where
-      go : (z : Bool) → hasSeries (useOf w at) ≡ z → Seen (windowIn s) t (held (hasSeries (useOf w at))) x
+      go : (z : Bool) → hasSeries (useOf w at) ≡ z → Seen (windowTicks s) t true (held (hasSeries (useOf w at))) x
       go true z =
           let e : x .series ≡ true = series-is kind s w t at x f ∙ z in
-          subst (λ (y : Bool). Seen (windowIn s) t (held y) x) (sym z) (known-seen low (series-known kind s w t at x f later e) e)
+          subst (λ (y : Bool). Seen (windowTicks s) t true (held y) x) (sym z) (known-seen (series-known kind s w t at x f later e) e)
       go false z =
           let e : x .series ≡ false = series-is kind s w t at x f ∙ z in
-          subst (λ (y : Bool). Seen (windowIn s) t (held y) x) (sym z) (lone-seen e z)
+          subst (λ (y : Bool). Seen (windowTicks s) t true (held y) x) (sym z) (lone-seen e z)
 
-no-seen : (W t n : ℕ) → Seen W t nothing (noSlot n)
+no-seen : (W t n : ℕ) → Seen W t true nothing (noSlot n)
 no-seen W t n = pass-of-none W t (noSlot n) false 0 0 refl refl refl (λ y. refl) (λ y. refl)
 
 -- a call that passes refusals 1 to 7
-pub seen : (kind : RoomKind) (s : Settings) (w : List ℕ) (t : ℕ) (key : List ℕ) → Passed kind s w t key → Seen (windowIn s) t (heldIn w key) (slotIn s w t key)
+pub seen : (kind : RoomKind) (s : Settings) (w : List ℕ) (t : ℕ) (key : List ℕ) → Passed kind s w t key →
+    Seen (windowTicks s) t true (heldIn w key) (slotIn s w t key)
 seen kind s w t key p = go (ltb (addressed w key) (slotsOf w)) refl
   where
-    go : (z : Bool) → ltb (addressed w key) (slotsOf w) ≡ z → Seen (windowIn s) t (heldIn w key) (slotIn s w t key)
+    go : (z : Bool) → ltb (addressed w key) (slotsOf w) ≡ z → Seen (windowTicks s) t true (heldIn w key) (slotIn s w t key)
     go true e =
         let l = ltb-true _ _ e in
-        subst (λ (h : Held). Seen (windowIn s) t h (slotIn s w t key)) (sym (held-here w key l))
-        (found-seen kind s w t (addressed w key) (slotIn s w t key) (found kind s w t key p l) (p .settings .window-low) (p .later))
+        subst (λ (h : Held). Seen (windowTicks s) t true h (slotIn s w t key)) (sym (held-here w key l))
+        (found-seen kind s w t (addressed w key) (slotIn s w t key) (found kind s w t key p l) (p .later))
     go false e =
         let l = ltb-false _ _ e in
-        subst (λ (h : Held). Seen (windowIn s) t h (slotIn s w t key)) (sym (held-none w key l))
-        (subst (λ (x : Slot). Seen (windowIn s) t nothing x) (sym (none kind s w t key p l)) (no-seen (windowIn s) t (slotsOf w)))
+        subst (λ (h : Held). Seen (windowTicks s) t true h (slotIn s w t key)) (sym (held-none w key l))
+        (subst (λ (x : Slot). Seen (windowTicks s) t true nothing x) (sym (none kind s w t key p l)) (no-seen (windowTicks s) t (slotsOf w)))
+
+-- ---- and as a first look leaves it
+
+module _ (s : Settings) (t : ℕ) (h : Held) (x : Slot) (o : Seen (windowTicks s) t true h x) where
+  -- with another pass, that leaves all
+  seen-but : (p : Pass) → p .buckets ≡ x .pass .buckets → p .expired ≡ 0 → p .«live_total» ≡ counts (h .buckets) → p .«live_declined» ≡ declineds (h .buckets) →
+      p .oldest ≡ getD (h .buckets) 0 noBucket → p .newest ≡ x .pass .newest → p .eldest ≡ x .pass .eldest → Seen (windowTicks s) t false h (passing p x)
+  seen-but p n e total declined oldest new first = record {
+    absent = o .absent;
+    series-is = o .series-is;
+    cached-is = o .cached-is;
+    limit-is = o .limit-is;
+    total-is = o .total-is;
+    stored-is = o .stored-is;
+    factor-is = o .factor-is;
+    since-is = o .since-is;
+    length-is = n ∙ o .length-is;
+    gone-is = e;
+    live-is = total;
+    declined-is = declined;
+    oldest-is = oldest;
+    newest-is = new ∙ o .newest-is;
+    eldest-is = first ∙ o .eldest-is;
+  }
+
+  seen-none : gone (windowTicks s) t (h .buckets) ≡ 0 → Seen (windowTicks s) t false h x
+  seen-none z =
+      let xs = h .buckets in
+      seen-but (x .pass) refl (o .gone-is ∙ z) (o .live-is ∙ ap (λ (k : ℕ). counts (drop k xs)) z) (o .declined-is ∙ ap (λ (k : ℕ). declineds (drop k xs)) z)
+      (o .oldest-is ∙ ap (λ (k : ℕ). getD xs k noBucket) z) refl refl
+
+  -- a key whose buckets go has a series
+  seen-all : (gone (windowTicks s) t (h .buckets) ≡ 0 → ⊥) → Seen (windowTicks s) t false h (allStay x)
+  unfolding ahead
+  seen-all n = go (h .known) refl
+    where
+      go : (z : Bool) → h .known ≡ z → Seen (windowTicks s) t false h (allStay x)
+      go true e = seen-but (allStay x .pass) refl refl (o .total-is e) (o .stored-is e) (o .eldest-is) refl refl
+      go false e = absurd (n (ap (λ (xs : List Bucket). gone (windowTicks s) t xs) (o .absent e)))
+
+  pub seen-looked : Seen (windowTicks s) t (overdueIn s t h) h (firstLook (lookTicks s) t x)
+  seen-looked =
+      by-overdue s t (h .buckets) x (o .gone-is) (o .eldest-is) (λ (out : Bool) (y : Slot). Seen (windowTicks s) t out h y) (λ e. o) seen-none
+      (λ n e. seen-all n)
 
 -- the buckets of a key that has a series stand in its slot
 pub held-there : (kind : RoomKind) (s : Settings) (w : List ℕ) (t : ℕ) (key : List ℕ) → Passed kind s w t key → slotIn s w t key .series ≡ true →
@@ -203,7 +238,7 @@ full-after r b t k x xs n e =
     let l : x .pass .buckets - k ≡ length (drop k xs) = ap (λ (m : ℕ). m - k) n ∙ sym (length-drop k xs) in
     ap₂ (λ (y : Bool) (m : ℕ). not y && leb r m) j l
 
-module _ (W t : ℕ) (h : Held) (x : Slot) (o : Seen W t h x) where
+module _ (W t : ℕ) (out : Bool) (h : Held) (x : Slot) (o : Seen W t out h x) where
   pub has-is : hasSlot x ≡ hasAny h
   has-is = ap₂ _||_ (o .series-is) (o .cached-is)
 

@@ -1,7 +1,7 @@
 -- What each call that is not turned away answers, in document 01's numbers and values: a line for each call, by the rules on what the key holds.
 -- Assumes nothing.
 use mathlib.Core.Path.{_≡_, ap, _∙_}
-use mathlib.Core.Bool.{Bool, cond}
+use mathlib.Core.Bool.{Bool, true, cond}
 use mathlib.Core.List.{List}
 use Prim.Native.Nat.{ℕ}
 use borrow.Author.Tests.{eq-eqb}
@@ -19,7 +19,7 @@ use Rattle.settings.specs.declared.Settings.{Settings}
 use Rattle.ring.specs.Ring.{counts}
 use Rattle.rules.specs.declared.RoomKind.{RoomKind}
 use Rattle.rules.specs.declared.RoomKind.the-variants.{Absolute, Suppressed}
-use Rattle.rules.specs.Both.{liveOf}
+use Rattle.rules.specs.Both.{liveOf, overdueIn}
 use Rattle.rules.specs.Absolute as absolute
 use Rattle.rules.specs.Suppressed as suppressed
 use Rattle.rules.specs.Sets as rules
@@ -43,9 +43,9 @@ ruleRow kind s w t (get key) = row 0 1 (counts (liveOf s t (heldIn w key))) 0 0
 ruleRow kind s w t (draws key rate count draw) =
     decisionRow (suppressed.outcome s t (suppressed.limitFor s rate (heldIn w key)) count draw (heldIn w key) .decision)
 ruleRow kind s w t (snapshot key) =
-    let x = suppressed.snapshotOf s t (heldIn w key) (suppressed.asking s t (heldIn w key) .factor) in
+    let x = suppressed.snapshotOf s t (heldIn w key) (suppressed.asking s t true (heldIn w key) .factor) in
     row 0 1 (x .total) (x .«total_declined») (bits (x .«suppression_factor»))
-ruleRow kind s w t (getFactor key) = row 0 1 (bits (suppressed.asking s t (heldIn w key) .factor)) 0 0
+ruleRow kind s w t (getFactor key) = row 0 1 (bits (suppressed.asking s t (overdueIn s t (heldIn w key)) (heldIn w key) .factor)) 0 0
 ruleRow kind s w t (setRate key rate) = oldRateRow (rules.oldRate kind s (heldIn w key))
 ruleRow kind s w t (set key rate comparator count mode) =
     setRow (setAnswer.Set (rules.outcome s t (rules.stillFor kind s t rate comparator count mode (heldIn w key)) comparator count (heldIn w key)))

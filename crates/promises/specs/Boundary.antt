@@ -38,7 +38,7 @@ use Rattle.room.specs.Room as Room
 use Rattle.keys.specs.Keys as Keys
 use Rattle.room.specs.Room.{useOf, vacant}
 use Rattle.judge.specs.Judge as Judge
-use Rattle.judge.specs.Judge.{slotIn}
+use Rattle.judge.specs.Judge.{lookedIn}
 use Rattle.opened.specs.Slot as Slot
 use Rattle.opened.specs.Sound as Sound
 use Rattle.opened.specs.Sound.{addressed}
@@ -71,6 +71,7 @@ use Rattle.finding.specs.Finding as Finding
 use Rattle.finding.specs.Finding.{bucketsOf}
 use Rattle.promises.specs.Rules.{incTable}
 use Rattle.promises.specs.Cases.{half, hardBy, perSecond, key, room, ainc, aget, ten, sinc, factorAt, sget, eightAndTwo, twenty, clean}
+use Rattle.promises.specs.Cases.{at, ninc, nask, nget, ndraws, nfactor, nsnapshot, nclean, nthree, nten, ntwenty, neight}
 use Rattle.promises.specs.Cases.{incAt, most, full, single, inSlot, sevenFive, preserve, twentieth, linkTested}
 
 pub record Boundary : Type 0 where
@@ -114,6 +115,48 @@ pub record Boundary : Type 0 where
   pub both-before : useOf twenty 0 ≡ 3
   pub series-after : useOf (clean 500 500 twenty .words) 0 ≡ 1
 
+-- the boundary values with readings in nanoseconds (document 02, ticket 8): `at m n` is m milliseconds and n nanoseconds
+pub record NanoBoundary : Type 0 where
+  -- at 10,000 ms a bucket is live for all, and none takes it out
+  pub live-get : nget (at 10000 0) nten .answer ≡ total.Total 10
+  pub live-left : bucketsOf (nget (at 10000 0) nten .words) key ≡ bucket 10 0 0 ∷ []
+  pub live-rejected : ninc (at 10000 0) 1 nten .answer ≡ Rejected (record { 0 = 10 }) 0 10
+  -- at 10,000 ms and 1 ns it is gone for `get`
+  pub gone-get : nget (at 10000 1) nten .answer ≡ total.Total 0
+  pub gone-left : bucketsOf (nget (at 10000 1) nten .words) key ≡ []
+  pub gone-snapshot : nsnapshot (at 10000 1) ntwenty .answer ≡ snapshot.Snapshot noSnapshot
+  pub gone-after : bucketsOf (nsnapshot (at 10000 1) ntwenty .words) key ≡ []
+  -- and left by an increment, by `is_allowed` and by `get_suppression_factor`, up to 10,000 ms and 999,999 ns
+  pub left-inc : bucketsOf (ninc (at 10000 1) 2 nthree .words) key ≡ bucket 3 0 0 ∷ bucket 2 0 (at 10000 1) ∷ []
+  pub left-rejected : ninc (at 10000 999999) 1 nten .answer ≡ Rejected (record { 0 = 10 }) 0 10
+  pub left-asked : bucketsOf (nask (at 10000 999999) nten .words) key ≡ bucket 10 0 0 ∷ []
+  pub left-draws : bucketsOf (ndraws (at 10000 999999) 1 ntwenty .words) key ≡ bucket 20 0 0 ∷ bucket 1 1 (at 10000 999999) ∷ []
+  pub left-factor : bucketsOf (nfactor (at 10000 1) ntwenty .words) key ≡ bucket 20 0 0 ∷ []
+  -- at 10,001 ms it is gone for all that evict, of the absolute limiter at its limit
+  pub evicts-inc : bucketsOf (ninc (at 10001 0) 1 nten .words) key ≡ bucket 1 0 (at 10001 0) ∷ []
+  pub evicts-asked : nask (at 10001 0) nten .answer ≡ Allowed
+  pub evicts-left : bucketsOf (nask (at 10001 0) nten .words) key ≡ []
+  pub evicts-draws : bucketsOf (ndraws (at 10001 0) 1 ntwenty .words) key ≡ bucket 1 0 (at 10001 0) ∷ []
+  pub evicts-factor : bucketsOf (nfactor (at 10001 0) ntwenty .words) key ≡ []
+  -- an increment joins at 100 ms and 999,999 ns, and adds at 101 ms
+  pub joins-100 : bucketsOf (ninc (at 100 999999) 2 nthree .words) key ≡ bucket 5 0 0 ∷ []
+  pub adds-101 : bucketsOf (ninc (at 101 0) 2 nthree .words) key ≡ bucket 3 0 0 ∷ bucket 2 0 (at 101 0) ∷ []
+  -- a factor that is cached at 2450 ms is used a nanosecond before 100 ms, and not at 100 ms
+  pub cached-2450 : nfactor (at 2450 0) neight .answer ≡ factor.Factor half
+  pub used-99 : nfactor (at 2549 999999) (nfactor (at 2450 0) neight .words) .answer ≡ factor.Factor half
+  pub afresh-100 : nfactor (at 2550 0) (nfactor (at 2450 0) neight .words) .answer ≡ factor.Factor nil
+  -- 1,000 ms and 999,999 ns are in the last second, 1,001 ms are not
+  pub second-1000 : nfactor (at 2500 999999) neight .answer ≡ factor.Factor half
+  pub second-1001 : nfactor (at 2501 0) neight .answer ≡ factor.Factor nil
+  -- a rejection's wait is in milliseconds
+  pub waits-50 : ninc (at 50 999999) 1 nten .answer ≡ Rejected (record { 0 = 10 }) 9950 10
+  -- 6 compares nanoseconds
+  pub back-1 : nget 0 (ninc 1 3 room .words) .answer ≡ total.Refused 6
+  -- cleanup 500: both stay a nanosecond before 500 ms, the series up to 500 ms and 999,999 ns
+  pub both-499 : useOf (nclean (at 499 999999) 500 ntwenty .words) 0 ≡ 3
+  pub series-500 : useOf (nclean (at 500 999999) 500 ntwenty .words) 0 ≡ 1
+  pub none-501 : useOf (nclean (at 501 0) 500 ntwenty .words) 0 ≡ 0
+
 -- further cases that other promises are told by, computed beside these
 
 -- of one limiter, from an empty room on
@@ -142,8 +185,8 @@ pub record Further : Type 0 where
   pub absolute-below : AbsoluteRules.allowed defaults 0 (heldIn (single kind.Absolute) key) ≡ true
   pub absolute-same : addressed (single kind.Absolute) key ≡ 0
   pub suppressed : Fills kind.Suppressed
-  pub suppressed-first : placeOf room (slotIn (hardBy 2) room 0 key) ≡ 0
-  pub suppressed-same : placeOf (single kind.Suppressed) (slotIn (hardBy 2) (single kind.Suppressed) 0 key) ≡ 0
+  pub suppressed-first : placeOf room (lookedIn (hardBy 2) room 0 key) ≡ 0
+  pub suppressed-same : placeOf (single kind.Suppressed) (lookedIn (hardBy 2) (single kind.Suppressed) 0 key) ≡ 0
   -- the suppressed limiter's limits, and that 1 more than 20 is not admitted
   pub hard-20 : hardOf (hardBy 2) (perSecond one) ≡ 20
   pub soft-10 : softOf (hardBy 2) (perSecond one) ≡ 10
@@ -159,6 +202,7 @@ pub record Further : Type 0 where
 
 pub record Computed : Type 0 where
   pub table : Boundary
+  pub nano-table : NanoBoundary
   pub further : Further
 
 pub computed : Computed
@@ -167,12 +211,15 @@ unfolding Seek.seek Splice.splice Tab.tab Factor.freshFactor Factor.factorWordOk
     Ring.bucketAt Ring.buckets Ring.shaped Ring.pushed Ring.rewritten Ring.without RingSound.soundBuckets Rules.older Rules.recent Rules.ahead Rules.joins
     Rules.partial Sweep.passOf HistoryWords.incremented Preserving.wholes Preserving.partWords Preserving.shrunkWords Preserving.preservedWords
     Room.fits Room.empty Keys.keyOf Keys.sameKey Keys.unusedZero Keys.keyFits Room.keyAt Room.free Room.has Room.bodyFrom Room.entered Room.withUse
-    Room.withReading Judge.misfits Slot.opened Slot.slotOf Sound.rightUse Sound.soundSeries Sound.soundCached Sound.soundSlot Sound.addressed Sound.soundAt
+    Room.withReading Judge.misfits Slot.opened Slot.slotOf Slot.firstLook Sound.rightUse Sound.soundSeries Sound.soundCached Sound.soundSlot Sound.addressed
+    Sound.soundAt
     Verdicts.unlessRefused Bodies.begun Bodies.started Bodies.acted Bodies.fixed Bodies.edited Words.withEdit Words.updated Words.taken Words.carried
-    Words.applied Every.every Uses.useAfter Uses.swept Uses.cleaned Cleanup.slotPasses Cleanup.misfits Cleanup.cleanup Absolute.get Absolute.inc
+    Words.applied Every.every Uses.useAfter Uses.swept Uses.cleaned Cleanup.slotPasses Cleanup.misfits Cleanup.cleanup Absolute.get Absolute.isAllowed
+    Absolute.inc
     Edits.recached Edits.getChange Edits.factorChange Edits.incEdit Edits.incChange Finding.bucketsOf Ieee.le Ieee.lt Ieee.eq Ieee.mul Ieee.div Ieee.sub
     Ieee.add Ieee.ofInt Ieee.ofBits Ieee.ofFields Ieee.toBits Ieee.toUnsigned Ieee.fits SuppressedCalls.get SuppressedCalls.getFactor SuppressedCalls.inc
-    Sets.set Held.heldIn Plan.placeOf Both.passes Both.ringFull AbsoluteRules.below AbsoluteRules.tested AbsoluteRules.allowed AbsoluteRules.decided
+    Sets.set Held.heldIn Plan.placeOf Both.overdue Both.passes Both.ringFull AbsoluteRules.below AbsoluteRules.tested AbsoluteRules.allowed
+    AbsoluteRules.decided
     AbsoluteRules.takesOut AbsoluteEdits.getChange AbsoluteEdits.incChange SuppressedRules.stays SuppressedRules.asked SuppressedRules.reachOf
     SuppressedRules.drawn SuppressedRules.outcome SuppressedSlots.staysAt SetRules.already SetRules.idle SetRules.outcome SetsOpened.stored SetsOpened.setting
     Stale.seriesStays Stale.factorStays
@@ -205,6 +252,37 @@ computed = record {
     most-passed = refl;
     both-before = refl;
     series-after = refl;
+  };
+  nano-table = record {
+    live-get = refl;
+    live-left = refl;
+    live-rejected = refl;
+    gone-get = refl;
+    gone-left = refl;
+    gone-snapshot = refl;
+    gone-after = refl;
+    left-inc = refl;
+    left-rejected = refl;
+    left-asked = refl;
+    left-draws = refl;
+    left-factor = refl;
+    evicts-inc = refl;
+    evicts-asked = refl;
+    evicts-left = refl;
+    evicts-draws = refl;
+    evicts-factor = refl;
+    joins-100 = refl;
+    adds-101 = refl;
+    cached-2450 = refl;
+    used-99 = refl;
+    afresh-100 = refl;
+    second-1000 = refl;
+    second-1001 = refl;
+    waits-50 = refl;
+    back-1 = refl;
+    both-499 = refl;
+    series-500 = refl;
+    none-501 = refl;
   };
   further = record {
     empty-slot = refl;
@@ -250,6 +328,9 @@ computed = record {
 
 pub boundary : Boundary
 boundary = computed .table
+
+pub nano-boundary : NanoBoundary
+nano-boundary = computed .nano-table
 
 pub further : Further
 further = computed .further

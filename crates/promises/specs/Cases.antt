@@ -2,11 +2,12 @@
 -- Assumes nothing.
 use mathlib.Core.Bool.{false}
 use mathlib.Core.List.{List, [], _∷_}
-use Prim.Native.Nat.{ℕ}
+use Prim.Native.Nat.{ℕ, _+_, _*_}
 use lib.IntN.{pos, negsuc}
 use lib.Ieee.{Float, fin, binary64, div, ofInt}
 use Rattle.common.specs.Ranges.{one}
-use Rattle.settings.specs.Settings.{defaults, withFactor}
+use Rattle.settings.specs.Settings.{defaults, withFactor, withClock}
+use Rattle.settings.specs.declared.ClockMode.the-variants.{Nanoseconds}
 use Rattle.answers.specs.declared.DoneAnswer.{DoneAnswer}
 use Rattle.answers.specs.declared.FactorAnswer.{FactorAnswer}
 use Rattle.answers.specs.declared.RateLimitDecision.{RateLimitDecision}
@@ -138,3 +139,47 @@ twentieth t count w = Suppressed.inc (hardBy 4) w t key (perSecond (ratio 1 20))
 -- a link test of count 0 at reading 0
 abbrev pub linkTested : List ℕ
 linkTested = twentieth 0 0 room .words
+
+-- ---- the same rooms with readings in nanoseconds
+
+-- m milliseconds and n nanoseconds
+abbrev pub at : ℕ → ℕ → ℕ
+at m n = 1000000 * m + n
+
+abbrev pub nano : Settings → Settings
+nano s = withClock s Nanoseconds
+
+abbrev pub ninc : ℕ → ℕ → List ℕ → Verdict RateLimitDecision
+ninc t count w = Absolute.inc (nano defaults) w t key (perSecond one) count
+
+abbrev pub nask : ℕ → List ℕ → Verdict RateLimitDecision
+nask t w = Absolute.isAllowed (nano defaults) w t key
+
+abbrev pub nget : ℕ → List ℕ → Verdict TotalAnswer
+nget t w = Absolute.get (nano defaults) w t key
+
+abbrev pub ndraws : ℕ → ℕ → List ℕ → Verdict RateLimitDecision
+ndraws t count w = Suppressed.inc (nano (hardBy 2)) w t key (perSecond one) count 0
+
+abbrev pub nfactor : ℕ → List ℕ → Verdict FactorAnswer
+nfactor t w = Suppressed.getFactor (nano (hardBy 2)) w t key
+
+abbrev pub nsnapshot : ℕ → List ℕ → Verdict SnapshotAnswer
+nsnapshot t w = Suppressed.get (nano (hardBy 2)) w t key
+
+abbrev pub nclean : ℕ → ℕ → List ℕ → Verdict DoneAnswer
+nclean t stale w = Cleanup.cleanup kind.Suppressed (nano (hardBy 2)) w t stale
+
+-- 3 and 10 of the absolute limiter, and 20 of the suppressed one, at reading 0
+abbrev pub nthree : List ℕ
+nthree = ninc 0 3 room .words
+
+abbrev pub nten : List ℕ
+nten = ninc 0 10 room .words
+
+abbrev pub ntwenty : List ℕ
+ntwenty = ndraws 0 20 room .words
+
+-- 8 at reading 0 and 2 at 1500 ms
+abbrev pub neight : List ℕ
+neight = ndraws (at 1500 0) 2 (ndraws 0 8 room .words) .words

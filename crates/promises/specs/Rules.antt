@@ -8,6 +8,7 @@ use mathlib.Core.List.{List}
 use Prim.Native.Nat.{ℕ}
 use lib.Dec.{eqb}
 use borrow.Author.Tests.{eq-eqb}
+use Rattle.settings.specs.Clock.{ticksIn}
 use Rattle.common.specs.Refusals.{first}
 use Rattle.answers.specs.declared.DoneAnswer.the-variants as done
 use Rattle.answers.specs.declared.RateLimitDecision.{RateLimitDecision}
@@ -21,7 +22,7 @@ use Rattle.ring.specs.declared.Bucket.{Bucket}
 use Rattle.frame.specs.Keys.{Bytes}
 use Rattle.rules.specs.declared.RoomKind.{RoomKind}
 use Rattle.rules.specs.declared.RoomKind.the-variants as kind
-use Rattle.judge.specs.Judge.{slotIn}
+use Rattle.judge.specs.Judge.{slotIn, lookedIn}
 use Rattle.judge.specs.Verdict.{Verdict}
 use Rattle.clearing.specs.Clear as Clear
 use Rattle.calls.specs.Delete as Delete
@@ -80,7 +81,7 @@ incTable kind.Suppressed s w t key rate count draw = suppressedInc s w t key rat
 abbrev pub IncRule : RoomKind → Settings → List ℕ → ℕ → List ℕ → RateLimit → ℕ → ℕ → Verdict RateLimitDecision → Type 0
 IncRule kind.Absolute s w t key rate count draw v = IncLaw s w t key rate count v
 IncRule kind.Suppressed s w t key rate count draw v =
-    Counts s w t key (limitFor s rate (heldIn w key)) count (slotIn s w t key) (outcome s t (limitFor s rate (heldIn w key)) count draw (heldIn w key)) v
+    Counts s w t key (limitFor s rate (heldIn w key)) count (lookedIn s w t key) (outcome s t (limitFor s rate (heldIn w key)) count draw (heldIn w key)) v
 
 -- of a key of bytes, where it is not turned away
 abbrev pub IncByRules : RoomKind → Inc → Type 0
@@ -143,9 +144,9 @@ cleans-both s a b t stale e =
     let y : true ≡ eqb (Provider.refusalOfBoth s a b t) 0 = sym (eq-eqb _ 0 n) in
     record {
       answer = rw n;
-      absolute = subst (λ (x : Bool). CleanRule kind.Absolute s a (cond x (Uses.cleaned a t stale) a) t stale) y
+      absolute = subst (λ (x : Bool). CleanRule kind.Absolute s a (cond x (Uses.cleaned a t (ticksIn s) stale) a) t stale) y
           (clean-follows kind.Absolute s a t stale (z .0));
-      suppressed = subst (λ (x : Bool). CleanRule kind.Suppressed s b (cond x (Uses.cleaned b t stale) b) t stale) y
+      suppressed = subst (λ (x : Bool). CleanRule kind.Suppressed s b (cond x (Uses.cleaned b t (ticksIn s) stale) b) t stale) y
           (clean-follows kind.Suppressed s b t stale (z .1));
     }
 

@@ -12,7 +12,7 @@ use lib.Dec.{eqb}
 use borrow.Author.Tests.{ltb-false, not-false}
 use Rattle.common.specs.Ranges.{rateOk}
 use Rattle.common.specs.Refusals.{first, all-false}
-use Rattle.settings.specs.Settings.{windowIn, bucketIn}
+use Rattle.settings.specs.Clock.{ticksIn, windowTicks, joinTicks}
 use Rattle.answers.specs.declared.DeleteAnswer.{DeleteAnswer}
 use Rattle.answers.specs.declared.DeleteAnswer.the-variants as delete
 use Rattle.answers.specs.declared.DoneAnswer.{DoneAnswer}
@@ -91,7 +91,7 @@ pub record SetRule
       Changed w (v .words) (placeOf w x) 0 (keyAt w (placeOf w x)) (bodyOf w (placeOf w x)) t
   pub known : still ≡ false → eqb count 0 ≡ false → heldIn w key .known ≡ true →
       Stands kind s w (v .words) (x .at) t (keyAt w (x .at)) (limitIn kind s rate) (x .factor) (x .«factor_time») 1
-      (rules.resetTo (windowIn s) t mode count (heldIn w key .buckets))
+      (rules.resetTo (windowTicks s) t mode count (heldIn w key .buckets))
   pub lone : still ≡ false → eqb count 0 ≡ false → heldIn w key .known ≡ false → heldIn w key .cached ≡ true →
       Stands kind s w (v .words) (placeOf w x) t (keyAt w (placeOf w x)) (limitIn kind s rate) (x .factor) (x .«factor_time») 1 (bucket count 0 t ∷ [])
   pub new : still ≡ false → eqb count 0 ≡ false → heldIn w key .known ≡ false → heldIn w key .cached ≡ false →
@@ -106,7 +106,7 @@ pub record ClearRule (w : List ℕ) (t : ℕ) (v : Verdict DoneAnswer) : Type 0 
 -- uses and the last reading, and what
 -- stays is sound
 pub record CleanRule (kind : RoomKind) (s : Settings) (w v : List ℕ) (t stale : ℕ) : Type 0 where
-  pub leaves : Cleaned w v t stale
+  pub leaves : Cleaned w v t (ticksIn s) stale
   pub sound : (i : ℕ) → i < slotsOf w → useOf v i ≢ 0 → soundSlot kind s v i ≡ true
 
 -- ---- and that they do it
@@ -118,11 +118,11 @@ module _ (kind : RoomKind) (s : Settings) (w : List ℕ) (t : ℕ) (key : List �
   abbrev h : Held
   h = heldIn w key
 
-  o : Seen (windowIn s) t (heldIn w key) (slotIn s w t key)
+  o : Seen (windowTicks s) t true (heldIn w key) (slotIn s w t key)
   o = seen kind s w t key p
 
   rate-does : (rate : RateLimit) → rateOk (rate .0) ≡ true → (v : Verdict OldRateAnswer) → v .answer ≡ rules.oldRate kind s (heldIn w key) →
-      v .words ≡ applied w (slotIn s w t key .at) key (bucketIn s) t (limiting (slotIn s w t key) (limitIn kind s rate)) →
+      v .words ≡ applied w (slotIn s w t key .at) key (joinTicks s) t (limiting (slotIn s w t key) (limitIn kind s rate)) →
       RateRule kind s w t key rate (slotIn s w t key) v
   unfolding limiting
   rate-does rate r v a b =
@@ -132,24 +132,24 @@ module _ (kind : RoomKind) (s : Settings) (w : List ℕ) (t : ℕ) (key : List �
         known = λ e.
             let g = o .series-is ∙ e in
             subst (λ (y : List ℕ). Stands kind s w y (x .at) t (keyAt w (x .at)) l (x .factor) (x .«factor_time») (usedWith x l) (h .buckets)) (sym b)
-            (subst (λ (ys : List Bucket). Stands kind s w (applied w (x .at) key (bucketIn s) t (limiting x l)) (x .at) t (keyAt w (x .at)) l (x .factor)
+            (subst (λ (ys : List Bucket). Stands kind s w (applied w (x .at) key (joinTicks s) t (limiting x l)) (x .at) t (keyAt w (x .at)) l (x .factor)
             (x .«factor_time») (usedWith x l) ys)
             (held-there kind s w t key p g) (rate-stands kind s w t key p rate r g));
         unknown = λ e.
-            b ∙ ap (λ (z : Bool). applied w (x .at) key (bucketIn s) t (cond z (Update (relimited (keeping x Nothing) l (usedWith x l))) Keep))
+            b ∙ ap (λ (z : Bool). applied w (x .at) key (joinTicks s) t (cond z (Update (relimited (keeping x Nothing) l (usedWith x l))) Keep))
             (o .series-is ∙ e) ∙
-            keep-words w (x .at) key (bucketIn s) t;
+            keep-words w (x .at) key (joinTicks s) t;
       }
 
   set-does : (rate : RateLimit) (comparator : RateLimitComparator) (count : ℕ) (mode : HistoryUpdateMode) (still : Bool) → Bytes key →
       rateOk (rate .0) ≡ true → count ≤ mostTotal →
       (still ≡ false → slotIn s w t key .series ≡ false → slotIn s w t key .cached ≡ false → placeOf w (slotIn s w t key) < slotsOf w) →
       (v : Verdict SetAnswer) → v .answer ≡ set.Set (rules.outcome s t still comparator count (heldIn w key)) →
-      v .words ≡ applied w (placeOf w (slotIn s w t key)) key (bucketIn s) t (setting (slotIn s w t key) still (limitIn kind s rate) count mode) →
+      v .words ≡ applied w (placeOf w (slotIn s w t key)) key (joinTicks s) t (setting (slotIn s w t key) still (limitIn kind s rate) count mode) →
       SetRule kind s w t key rate comparator count mode still (slotIn s w t key) v
   set-does rate comparator count mode still y r m inside v a b =
       let l = limitIn kind s rate in
-      let after : Bool → List ℕ = λ (z : Bool). applied w (placeOf w x) key (bucketIn s) t (setting x z l count mode) in
+      let after : Bool → List ℕ = λ (z : Bool). applied w (placeOf w x) key (joinTicks s) t (setting x z l count mode) in
       let at : still ≡ false → after false ≡ v .words = λ i. ap after (sym i) ∙ sym b in
       record {
         answer = a;
@@ -159,9 +159,9 @@ module _ (kind : RoomKind) (s : Settings) (w : List ℕ) (t : ℕ) (key : List �
         known = λ i z e.
             let g = o .series-is ∙ e in
             subst (λ (u : List ℕ). Stands kind s w u (x .at) t (keyAt w (x .at)) l (x .factor) (x .«factor_time») 1
-            (rules.resetTo (windowIn s) t mode count (h .buckets))) (at i)
+            (rules.resetTo (windowTicks s) t mode count (h .buckets))) (at i)
             (subst (λ (ys : List Bucket). Stands kind s w (after false) (x .at) t (keyAt w (x .at)) l (x .factor) (x .«factor_time») 1
-            (rules.resetTo (windowIn s) t mode count ys))
+            (rules.resetTo (windowTicks s) t mode count ys))
             (held-there kind s w t key p g) (set-stands kind s w t key p rate count mode r g z m));
         lone = λ i z e c.
             subst (λ (u : List ℕ). Stands kind s w u (placeOf w x) t (keyAt w (placeOf w x)) l (x .factor) (x .«factor_time») 1 (bucket count 0 t ∷ [])) (at i)
@@ -192,7 +192,7 @@ module _ (kind : RoomKind) (s : Settings) (w : List ℕ) (t : ℕ) (key : List �
   unfolding Delete.delete
   delete-follows e =
       let p = passing [] e in
-      let i = has-is (windowIn s) t (heldIn w key) (slotIn s w t key) (seen kind s w t key p) in
+      let i = has-is (windowTicks s) t true (heldIn w key) (slotIn s w t key) (seen kind s w t key p) in
       follows delete.Refused _ w _ (DeleteRule s w t key (slotIn s w t key))
       (λ z. record { answer = refl; frees = λ g. delete-frees kind s w t key p (i ∙ g); keeps = λ g. delete-keeps kind s w t key p (i ∙ g) }) .done e
 
@@ -208,7 +208,7 @@ module _ (kind : RoomKind) (s : Settings) (w : List ℕ) (t : ℕ) (key : List �
       let still = rules.stillFor kind s t rate comparator count mode h in
       let p = passing own e in
       let g = all-false own (omega arith) (unrefused-own kind s w t key own e) in
-      let l = lacks-is (windowIn s) t h x (seen kind s w t key p) w in
+      let l = lacks-is (windowTicks s) t true h x (seen kind s w t key p) w in
       follows set.Refused _ w _ (SetRule kind s w t key rate comparator count mode still x)
       (λ z.
       set-does kind s w t key p rate comparator count mode still y (not-false (rateOk (rate .0)) (g .0)) (ltb-false mostTotal count (g .1 .0))
@@ -222,8 +222,8 @@ clear-follows s w t e =
 
 -- a room that is not turned away, cleaned
 pub clean-follows : (kind : RoomKind) (s : Settings) (w : List ℕ) (t stale : ℕ) → Cleanup.refusal kind s w t ≡ 0 →
-    CleanRule kind s w (Uses.cleaned w t stale) t stale
+    CleanRule kind s w (Uses.cleaned w t (ticksIn s) stale) t stale
 clean-follows kind s w t stale e =
     let p = CleanupLaws.passed kind s w t e in
-    let c = clean-run w t stale (p .room) in
-    record { leaves = c; sound = clean-sound kind s w (Uses.cleaned w t stale) t stale c p }
+    let c = clean-run w t (ticksIn s) stale (p .room) in
+    record { leaves = c; sound = clean-sound kind s w (Uses.cleaned w t (ticksIn s) stale) t (ticksIn s) stale c p }

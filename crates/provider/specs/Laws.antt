@@ -1,22 +1,22 @@
 -- What the code has tested, turned into what the definition says; that the definition leaves nothing open; and which number is the lowest.
 -- Assumes nothing.
 use mathlib.Core.Path.{_≡_, refl, sym, ap, ap₂, _∙_}
-use mathlib.Core.Bool.{Bool, true, false, not, _&&_, _||_, cond}
+use mathlib.Core.Bool.{Bool, true, false, not, _&&_, _||_}
 use mathlib.Core.List.{List, [], _∷_, _++_}
 use mathlib.Core.Logic.{_≢_}
-use Prim.Native.Nat.{ℕ, _≤_, _<_, min}
+use Prim.Native.Nat.{ℕ, _≤_, _<_}
 use native.Mathlib.Nat.{min-eq-left, min-eq-right, le-of-lt}
 use native.Mathlib.Omega.{arith}
 use lib.Dec.{eqb, ltb}
 use borrow.Author.Tests.{eq-eqb, ne-eqb, eqb-true, eqb-false, ltb-true, ltb-false}
 use Rattle.common.specs.Refusals.{first, first-found, first-none}
 use Rattle.settings.specs.Settings.{faults}
+use Rattle.settings.specs.Clock.{ticksIn}
 use Rattle.answers.specs.declared.DoneAnswer.{DoneAnswer}
 use Rattle.answers.specs.declared.DoneAnswer.the-variants.{Done, Refused}
 use Rattle.settings.specs.declared.Settings.{Settings}
 use Rattle.room.specs.Room.{sized, lastOf}
 use Rattle.judge.specs.Laws.{faults-positive}
-use Rattle.rules.specs.declared.RoomKind.{RoomKind}
 use Rattle.rules.specs.declared.RoomKind.the-variants.{Absolute, Suppressed}
 use Rattle.cleanup.specs.Cleanup.{allPass, misfits, refusal}
 use Rattle.stale.specs.Uses.{cleaned, Ready}
@@ -85,7 +85,8 @@ module _ (s : Settings) (a b : List ℕ) (t stale : ℕ) where
       let p : eqb (refusalOfBoth s a b t) 0 ≡ false = ap (λ (k : ℕ). eqb k 0) (sym e) ∙ ne-eqb n 0 z in
       record { answer = sym (rw (p, sym e)); absolute = sym (rw p); suppressed = sym (rw p) }
 
-  pub both-done : (x y : List ℕ) → refusalOfBoth s a b t ≡ 0 → x ≡ cleaned a t stale → y ≡ cleaned b t stale → Told (cleanup s a b t stale) Done x y
+  pub both-done : (x y : List ℕ) → refusalOfBoth s a b t ≡ 0 → x ≡ cleaned a t (ticksIn s) stale → y ≡ cleaned b t (ticksIn s) stale →
+      Told (cleanup s a b t stale) Done x y
   unfolding decided
   both-done x y e f g =
       let p : eqb (refusalOfBoth s a b t) 0 ≡ true = eq-eqb (refusalOfBoth s a b t) 0 e in

@@ -8,6 +8,7 @@ use Prim.Native.Nat.{ℕ, min}
 use lib.Dec.{eqb}
 use Rattle.answers.specs.declared.DoneAnswer.{DoneAnswer}
 use Rattle.answers.specs.declared.DoneAnswer.the-variants.{Done, Refused}
+use Rattle.settings.specs.Clock.{ticksIn}
 use Rattle.settings.specs.declared.Settings.{Settings}
 use Rattle.rules.specs.declared.RoomKind.the-variants.{Absolute, Suppressed}
 use Rattle.cleanup.specs.Cleanup.{refusal}
@@ -27,16 +28,16 @@ pub record Verdict : Type 0 where
   pub absolute : List ℕ
   pub suppressed : List ℕ
 
--- refused with n, unless n is 0: "cleans both rooms or neither"
-unfoldable pub decided : ℕ → List ℕ → List ℕ → ℕ → ℕ → Verdict
-decided n a b t stale = record {
+-- refused with n, unless n is 0: "cleans both rooms or neither"; ticks is the number of ticks in a millisecond
+unfoldable pub decided : ℕ → List ℕ → List ℕ → ℕ → ℕ → ℕ → Verdict
+decided n a b t ticks stale = record {
   answer = cond (eqb n 0) Done (Refused n);
-  absolute = cond (eqb n 0) (cleaned a t stale) a;
-  suppressed = cond (eqb n 0) (cleaned b t stale) b;
+  absolute = cond (eqb n 0) (cleaned a t ticks stale) a;
+  suppressed = cond (eqb n 0) (cleaned b t ticks stale) b;
 }
 
 abbrev pub cleanup : Settings → List ℕ → List ℕ → ℕ → ℕ → Verdict
-cleanup s a b t stale = decided (refusalOfBoth s a b t) a b t stale
+cleanup s a b t stale = decided (refusalOfBoth s a b t) a b t (ticksIn s) stale
 
 -- the answer and the words after are the verdict's
 pub record Told (v : Verdict) (r : DoneAnswer) (a b : List ℕ) : Type 0 where

@@ -45,7 +45,9 @@ pub fn cleanup(
     if code != 0 {
         return DoneAnswer::Refused(code);
     }
-    stale::clean(absolute, reading, stale);
-    stale::clean(suppressed, reading, stale);
+    let clock = settings.clock_mode;
+    let ticks = clock.ticks_per_millisecond();
+    stale::clean(absolute, reading, ticks, stale);
+    stale::clean(suppressed, reading, ticks, stale);
     DoneAnswer::Done
 }

@@ -19,6 +19,7 @@ use common::RateLimitComparator;
 use common::SuppressionFactorCachePeriod;
 use common::WindowSize;
 use rules::RoomKind;
+use settings::ClockMode;
 use settings::Settings;
 
 // ---- answers as the list has them: a kind and three numbers; a refusal is kind 0 with its number
@@ -140,6 +141,7 @@ fn settings_of(n: [u64; 6]) -> Settings {
         bucket_size: BucketSize(n[3]),
         hard_limit_factor: common::double_of(n[5]),
         suppression_factor_cache_period: SuppressionFactorCachePeriod(n[4]),
+        clock_mode: ClockMode::Milliseconds,
     }
 }
 

@@ -1,12 +1,13 @@
 -- The laws of directory entries: free and held slots, freeing slots one by one.
 -- Assumes nothing.
 use mathlib.Core.Path.{_≡_, refl, sym, ap, _∙_}
-use mathlib.Core.Bool.{true, false}
+use mathlib.Core.Bool.{Bool, true, false, not, _&&_}
 use mathlib.Core.List.{List}
 use mathlib.Core.Logic.{_≢_}
 use Prim.Native.Nat.{ℕ, zero, suc, _+_, _-_, _<_}
 use native.Mathlib.Numerals.{add-one}
 use native.Mathlib.Omega.{arith}
+use lib.Dec.{eqb}
 use lib.ListN.{length, getD, length-set}
 use lib.Seq.{getD-set-other}
 use borrow.Author.Tests.{eq-eqb, ne-eqb, eqb-true}
@@ -37,6 +38,23 @@ has-free w k s e = rw (free-yes w s e)
 pub has-used : (w : List ℕ) (k : Key) (s : ℕ) → useOf w s ≢ 0 → has w k s ≡ sameKey (keyAt w s) k
 unfolding has
 has-used w k s h = rw (free-no w s h)
+
+-- the same by the key first
+pub has-other : (w : List ℕ) (k : Key) (s : ℕ) → sameKey (keyAt w s) k ≡ false → has w k s ≡ false
+unfolding has
+has-other w k s e = ap (λ (x : Bool). not (free w s) && x) e ∙ go (not (free w s))
+  where
+    go : (x : Bool) → x && false ≡ false
+    go true = refl
+    go false = refl
+
+pub has-same : (w : List ℕ) (k : Key) (s : ℕ) → sameKey (keyAt w s) k ≡ true → has w k s ≡ not (eqb (useOf w s) 0)
+unfolding has free
+has-same w k s e = ap (λ (x : Bool). not (free w s) && x) e ∙ go (not (free w s))
+  where
+    go : (x : Bool) → x && true ≡ x
+    go true = refl
+    go false = refl
 
 -- ---- slots freed one by one
 

@@ -125,10 +125,10 @@ fn holds(w: &[u64], k: Key, s: usize) -> bool
     requires { ⌜ Directory (now w) × (s < slotsOf (now w)) ⌝ }
     ensures { λ x. ⌜ x ≡ has (now (w .entry)) k s ⌝ }
 {
-    if use_of(w, s) == layout::FREE {
+    if !keys::same_key(key_at(w, s), k) {
         return false;
     }
-    keys::same_key(key_at(w, s), k)
+    use_of(w, s) != layout::FREE
 }
 
 // The lowest slot with key `k`, or the number of slots.

@@ -1,28 +1,23 @@
 -- The rules on a key's buckets, oldest first: what is expired, the last second, joining, replacing and preserving a history.
--- W is the window in seconds, t the reading, b the bucket size in milliseconds.
+-- In ticks are w, the window, t, the reading, and b, the longest age that joins (`joinTicks`); n is the number of ticks in a millisecond.
 -- Assumes nothing.
 use mathlib.Core.Bool.{Bool, _&&_, cond}
 use mathlib.Core.List.{List, [], _∷_, _++_, reverse}
-use Prim.Native.Nat.{ℕ, suc, _+_, _*_, _-_}
+use Prim.Native.Nat.{ℕ, suc, _+_, _-_}
 use lib.ListN.{length, getD, set, drop}
 use lib.Dec.{leb, ltb, eqb}
 use Rattle.share.specs.Share.{mulDiv}
+use Rattle.settings.specs.Clock.{age, longest}
 use Rattle.answers.specs.declared.HistoryPreservation.{HistoryPreservation}
 use Rattle.answers.specs.declared.HistoryPreservation.the-variants.{PreserveNewest, PreserveOldest}
 use Rattle.ring.specs.declared.Bucket.{Bucket}
 use Rattle.ring.specs.Ring.{bucket, noBucket, counts}
 
-abbrev pub ticksPerSecond : ℕ
-ticksPerSecond = 1000
-
-abbrev pub windowTicks : ℕ → ℕ
-windowTicks W = ticksPerSecond * W
-
 -- ---- expired
 
--- the age, reading less stored time, is over w
+-- the age is over w
 unfoldable pub older : ℕ → ℕ → Bucket → Bool
-older w t x = ltb w (t - x .time)
+older w t x = ltb w (age t (x .time))
 
 -- the buckets whose age is at most w, wherever they stand
 unfoldable pub recent : ℕ → ℕ → List Bucket → List Bucket
@@ -34,23 +29,30 @@ unfoldable pub ahead : ℕ → ℕ → List Bucket → ℕ
 ahead w t [] = 0
 ahead w t (x ∷ xs) = cond (older w t x) (suc (ahead w t xs)) 0
 
--- "A bucket is expired when its age is over 1000 W ms"; eviction takes every expired bucket out
+-- "A bucket is expired when its age is over 1000 W ms", in full precision; eviction takes every expired bucket out
 abbrev pub expired : ℕ → ℕ → Bucket → Bool
-expired W t x = older (windowTicks W) t x
+expired w t x = older w t x
 
 abbrev pub evicted : ℕ → ℕ → List Bucket → List Bucket
-evicted W t xs = recent (windowTicks W) t xs
+evicted w t xs = recent w t xs
 
 -- where times do not fall, that is the oldest ones
 abbrev pub gone : ℕ → ℕ → List Bucket → ℕ
-gone W t xs = ahead (windowTicks W) t xs
+gone w t xs = ahead w t xs
 
 abbrev pub live : ℕ → ℕ → List Bucket → List Bucket
-live W t xs = drop (gone W t xs) xs
+live w t xs = drop (gone w t xs) xs
 
--- "the counts at age at most 1000 ms"
-abbrev pub lastSecond : ℕ → List Bucket → ℕ
-lastSecond t xs = counts (recent ticksPerSecond t xs)
+-- with the expired ones out, or not
+abbrev pub goneIf : Bool → ℕ → ℕ → List Bucket → ℕ
+goneIf out w t xs = cond out (gone w t xs) 0
+
+abbrev pub outIf : Bool → ℕ → ℕ → List Bucket → List Bucket
+outIf out w t xs = drop (goneIf out w t xs) xs
+
+-- "the counts at age at most 1000 ms", cut to milliseconds (`Ages.antt`: `older-cut`)
+abbrev pub lastSecond : ℕ → ℕ → List Bucket → ℕ
+lastSecond n t xs = counts (recent (longest n 1000) t xs)
 
 -- ---- an increment
 
@@ -61,9 +63,9 @@ newest xs = getD xs (length xs - 1) noBucket
 unfoldable pub raised : ℕ → ℕ → ℕ → List Bucket → List Bucket
 raised i c d xs = set xs i (bucket (getD xs i noBucket .count + c) (getD xs i noBucket .declined + d) (getD xs i noBucket .time))
 
--- "An increment joins the newest bucket at age at most b; else it adds one with the reading"
+-- "An increment joins the newest bucket at age at most b; else it adds one with the reading", cut to milliseconds (`Ages.antt`: `joins-cut`)
 unfoldable pub joins : ℕ → ℕ → List Bucket → Bool
-joins b t xs = ltb 0 (length xs) && leb (t - newest xs .time) b
+joins b t xs = ltb 0 (length xs) && leb (age t (newest xs .time)) b
 
 unfoldable pub joined : ℕ → ℕ → ℕ → ℕ → List Bucket → List Bucket
 joined b t c d xs = cond (joins b t xs) (raised (length xs - 1) c d xs) (xs ++ (bucket c d t ∷ []))

@@ -16,12 +16,13 @@ use Rattle.suppression.specs.Factor.{freshFactor, admitted}
 use Rattle.common_laws.specs.FactorLaws.{fresh-none, nil-admits}
 use Rattle.common.specs.Limits.{cutWord, softWord}
 use Rattle.common.specs.Ranges.{nil, one}
-use Rattle.settings.specs.Settings.{windowIn, bucketIn, factorIn}
+use Rattle.settings.specs.Settings.{windowIn, factorIn}
+use Rattle.settings.specs.Clock.{ticksIn, windowTicks, joinTicks, longest}
 use Rattle.settings.specs.declared.Settings.{Settings}
 use Rattle.answers.specs.declared.HistoryUpdateMode.{HistoryUpdateMode}
 use Rattle.common.specs.declared.units.RateLimit.{RateLimit}
 use Rattle.answers.specs.declared.RateLimitDecision.the-variants.{Allowed, Suppressed}
-use Rattle.rules.specs.Buckets.{older, recent, gone, newest, joins, lastSecond}
+use Rattle.rules.specs.Buckets.{older, recent, gone, outIf, newest, joins, lastSecond}
 use Rattle.ring.specs.declared.Bucket.{Bucket}
 use Rattle.layout.specs.Layout.{mostTotal}
 use Rattle.ring.specs.Ring.{noBucket, sumOf, counts, declineds}
@@ -31,7 +32,7 @@ use Rattle.rules.specs.declared.FactorRule.the-variants.{Nil, One, Worke
 use Rattle.rules.specs.declared.Reach.{Reach}
 use Rattle.rules.specs.declared.Reach.the-variants.{Hard, Soft, Over, Between}
 use Rattle.rules.specs.Held.{Held}
-use Rattle.rules.specs.Both.{liveOf, passes, ringFull}
+use Rattle.rules.specs.Both.{liveOf, overdueIn, lookedOf, passes, ringFull}
 use Rattle.rules.specs.Absolute as absolute
 use Rattle.rules.specs.Sets as sets
 use Rattle.rules.specs.Suppressed as suppressed
@@ -110,29 +111,32 @@ fresh-by-none S H W last declined none low high h e = go none (leb H 0) (ltb (0 
     go false false false true f g = absurd (not-both (0 - declined) (omega arith) g)
     go false false false false f g = worked
 
-module _ (s : Settings) (t limit : ℕ) (h : Held) (low : 1 ≤ windowIn s) (high : windowIn s ≤ 33554432) (none : counts (liveOf s t h) ≡ 0)
-    (anew : usable s t h ≡ false) where
-  pub empty-factor : 0 < cutWord limit → asked s t limit h .factor ≡ nil
+module _ (s : Settings) (t limit : ℕ) (h : Held) (low : 1 ≤ windowIn s) (high : windowIn s ≤ 33554432) (out : Bool)
+    (none : counts (outIf out (windowTicks s) t (h .buckets)) ≡ 0) (anew : usable s t out h ≡ false) where
+  pub empty-factor : 0 < cutWord limit → asked s t out limit h .factor ≡ nil
   unfolding asked
   empty-factor l =
-      let xs = liveOf s t h in
+      let xs = outIf out (windowTicks s) t (h .buckets) in
       let S = softWord (factorIn s) limit in
       let H = cutWord limit in
-      ap (λ (z : Bool). cond z (asCached (h .factor)) (freshOn S H (windowIn s) t xs) .factor) anew ∙
-      ap (λ (n : ℕ). freshBy (clauses S H (eqb (length xs) 0) n (declineds xs)) S n (windowIn s) (lastSecond t xs)) none ∙
-      fresh-by-none S H (windowIn s) (lastSecond t xs) (declineds xs) (eqb (length xs) 0) low high l (omega (arith, recent-among 1000 t xs))
+      let last = lastSecond (ticksIn s) t xs in
+      ap (λ (z : Bool). cond z (asCached (h .factor)) (freshOn S H (windowIn s) (ticksIn s) t xs) .factor) anew ∙
+      ap (λ (n : ℕ). freshBy (clauses S H (eqb (length xs) 0) n (declineds xs)) S n (windowIn s) last) none ∙
+      fresh-by-none S H (windowIn s) last (declineds xs) (eqb (length xs) 0) low high l (omega (arith, recent-among (longest (ticksIn s) 1000) t xs))
 
-  -- a count up to the hard limit, whatever the draw
-  pub empty-admits : (c draw : ℕ) → c ≤ cutWord limit → admits (outcome s t limit c draw h .decision) ≡ true
-  unfolding outcome drawn
-  empty-admits c draw l =
-      let n = forecast (liveOf s t h) c in
-      let S = softWord (factorIn s) limit in
-      let H = cutWord limit in
-      let e : n ≡ c = omega arith in
-      by-tests n S H (asked s t limit h) t c draw (λ (r : Reach). admits (outcomeOf r (asked s t limit h) t c draw .decision) ≡ true)
-      (λ k. refl) (λ k. refl) (λ j k. absurd (omega arith))
-      (λ j k. ap (λ (f : Float). admitted f draw) (empty-factor (omega arith)) ∙ nil-admits draw)
+-- a count up to the hard limit, whatever the draw
+pub empty-admits : (s : Settings) (t limit : ℕ) (h : Held) → 1 ≤ windowIn s → windowIn s ≤ 33554432 → counts (lookedOf s t h) ≡ 0 →
+    usable s t (overdueIn s t h) h ≡ false → (c draw : ℕ) → c ≤ cutWord limit → admits (outcome s t limit c draw h .decision) ≡ true
+unfolding outcome drawn
+empty-admits s t limit h low high none anew c draw l =
+    let n = forecast (lookedOf s t h) c in
+    let S = softWord (factorIn s) limit in
+    let H = cutWord limit in
+    let e : n ≡ c = omega arith in
+    let a = asked s t (overdueIn s t h) limit h in
+    by-tests n S H a t c draw (λ (r : Reach). admits (outcomeOf r a t c draw .decision) ≡ true)
+    (λ k. refl) (λ k. refl) (λ j k. absurd (omega arith))
+    (λ j k. ap (λ (f : Float). admitted f draw) (empty-factor s t limit h low high (overdueIn s t h) none anew (omega arith)) ∙ nil-admits draw)
 
 -- ---- "Refusing 12 while an absolute ring is full of expired buckets" is a slip: 12 is met only where live buckets fill the ring, and 10 only where live
 -- counts pass 2^53
@@ -178,50 +182,49 @@ full-drop r b t k xs l e = go (not (joins b t (drop k xs)) && leb r (length (dro
         ap₂ (λ (x y : Bool). not x && y) (sym (joins-drop b t k xs h)) (le-leb r (length xs) (omega (arith, length-drop k xs)) ∙ sym (le-leb r _ n)) ∙ f in
         absurd (false≢true (sym e ∙ whole))
 
--- of either limiter, xs are the key's live buckets
+-- xs are the key's live buckets, or in the suppressed limiter those that its first look leaves
 pub record Live (r c : ℕ) (ten twelve : Bool) (xs : List Bucket) : Type 0 where
   pub ten-live : ten ≡ true → mostTotal < counts xs + c
   pub twelve-live : twelve ≡ true → r ≤ length xs
 
-by-live : (s : Settings) (r t c : ℕ) (h : Held) →
-    Live r c (passes c (counts (liveOf s t h))) (ringFull r (bucketIn s) t (liveOf s t h)) (liveOf s t h)
-by-live s r t c h = record { ten-live = passes-over c (counts (liveOf s t h)); twelve-live = full-long r (bucketIn s) t (liveOf s t h) }
+by-live : (r b t c : ℕ) (xs : List Bucket) → Live r c (passes c (counts xs)) (ringFull r b t xs) xs
+by-live r b t c xs = record { ten-live = passes-over c (counts xs); twelve-live = full-long r b t xs }
 
 -- where the expired buckets are not out, neither is met
 module _ (s : Settings) (r t c : ℕ) (h : Held) where
-  kept-fits : absolute.outFor s r t c h ≡ false → (passes c (counts (h .buckets)) ≡ false) × (ringFull r (bucketIn s) t (h .buckets) ≡ false)
+  kept-fits : absolute.outFor s r t c h ≡ false → (passes c (counts (h .buckets)) ≡ false) × (ringFull r (joinTicks s) t (h .buckets) ≡ false)
   unfolding absolute.takesOut
-  kept-fits e = parts (absolute.testsAgain (absolute.wholeLimit h) (h .buckets)) (passes c (counts (h .buckets))) (ringFull r (bucketIn s) t (h .buckets)) e
+  kept-fits e = parts (absolute.testsAgain (absolute.wholeLimit h) (h .buckets)) (passes c (counts (h .buckets))) (ringFull r (joinTicks s) t (h .buckets)) e
     where
       parts : (x y z : Bool) → x || (y || z) ≡ false → (y ≡ false) × (z ≡ false)
       parts true y z e = absurd (false≢true (sym e))
       parts false true z e = absurd (false≢true (sym e))
       parts false false z e = (refl, e)
 
-  found-live : Live r c (passes c (counts (absolute.foundFor s r t c h))) (ringFull r (bucketIn s) t (absolute.foundFor s r t c h)) (liveOf s t h)
+  found-live : Live r c (passes c (counts (absolute.foundFor s r t c h))) (ringFull r (joinTicks s) t (absolute.foundFor s r t c h)) (liveOf s t h)
   found-live = go (absolute.outFor s r t c h) refl
     where
       go : (z : Bool) → absolute.outFor s r t c h ≡ z →
-          Live r c (passes c (counts (absolute.outIf z (windowIn s) t (h .buckets))))
-          (ringFull r (bucketIn s) t (absolute.outIf z (windowIn s) t (h .buckets))) (liveOf s t h)
-      go true e = by-live s r t c h
+          Live r c (passes c (counts (outIf z (windowTicks s) t (h .buckets))))
+          (ringFull r (joinTicks s) t (outIf z (windowTicks s) t (h .buckets))) (liveOf s t h)
+      go true e = by-live r (joinTicks s) t c (liveOf s t h)
       go false e =
           let k = kept-fits e in
           record { ten-live = λ f. absurd (false≢true (sym (k .0) ∙ f)); twelve-live = λ f. absurd (false≢true (sym (k .1) ∙ f)) }
 
   -- so whether they are out or not, it is the live ones that count
   found-exactly : 1 ≤ r → (passes c (counts (absolute.foundFor s r t c h)) ≡ passes c (counts (liveOf s t h))) ×
-      (ringFull r (bucketIn s) t (absolute.foundFor s r t c h) ≡ ringFull r (bucketIn s) t (liveOf s t h))
+      (ringFull r (joinTicks s) t (absolute.foundFor s r t c h) ≡ ringFull r (joinTicks s) t (liveOf s t h))
   found-exactly l = go (absolute.outFor s r t c h) refl
     where
       go : (z : Bool) → absolute.outFor s r t c h ≡ z →
-          (passes c (counts (absolute.outIf z (windowIn s) t (h .buckets))) ≡ passes c (counts (liveOf s t h))) ×
-          (ringFull r (bucketIn s) t (absolute.outIf z (windowIn s) t (h .buckets)) ≡ ringFull r (bucketIn s) t (liveOf s t h))
+          (passes c (counts (outIf z (windowTicks s) t (h .buckets))) ≡ passes c (counts (liveOf s t h))) ×
+          (ringFull r (joinTicks s) t (outIf z (windowTicks s) t (h .buckets)) ≡ ringFull r (joinTicks s) t (liveOf s t h))
       go true e = (refl, refl)
       go false e =
           let k = kept-fits e in
-          let n = gone (windowIn s) t (h .buckets) in
-          (k .0 ∙ sym (passes-drop c n (h .buckets) (k .0)), k .1 ∙ sym (full-drop r (bucketIn s) t n (h .buckets) l (k .1)))
+          let n = gone (windowTicks s) t (h .buckets) in
+          (k .0 ∙ sym (passes-drop c n (h .buckets) (k .0)), k .1 ∙ sym (full-drop r (joinTicks s) t n (h .buckets) l (k .1)))
 
 -- the condition of a number in a list of refusals, false where it does not stand there
 abbrev pub condition : ℕ → List (ℕ × Bool) → Bool
@@ -239,21 +242,21 @@ absolute-live s r full t rate c h =
     }
 
 pub suppressed-live : (s : Settings) (r : ℕ) (full : Bool) (t : ℕ) (rate : RateLimit) (c draw : ℕ) (h : Held) →
-    let turns = suppressed.incTurns s r full t rate c draw h in Live r c (condition 10 turns) (condition 12 turns) (liveOf s t h)
-suppressed-live s r full t rate c draw h = by-live s r t c h
+    let turns = suppressed.incTurns s r full t rate c draw h in Live r c (condition 10 turns) (condition 12 turns) (lookedOf s t h)
+suppressed-live s r full t rate c draw h = by-live r (joinTicks s) t c (lookedOf s t h)
 
 -- and exactly there: the key is allowed, and its live buckets meet the number
 pub absolute-exactly : (s : Settings) (r : ℕ) (full : Bool) (t : ℕ) (rate : RateLimit) (c : ℕ) (h : Held) → 1 ≤ r →
     let turns = absolute.incTurns s r full t rate c h in
     (condition 10 turns ≡ (absolute.allowed s t h && passes c (counts (liveOf s t h)))) ×
-    (condition 12 turns ≡ (absolute.allowed s t h && ringFull r (bucketIn s) t (liveOf s t h)))
+    (condition 12 turns ≡ (absolute.allowed s t h && ringFull r (joinTicks s) t (liveOf s t h)))
 absolute-exactly s r full t rate c h l =
     let o = found-exactly s r t c h l in
     (ap (λ (z : Bool). absolute.allowed s t h && z) (o .0), ap (λ (z : Bool). absolute.allowed s t h && z) (o .1))
 
 pub suppressed-exactly : (s : Settings) (r : ℕ) (full : Bool) (t : ℕ) (rate : RateLimit) (c draw : ℕ) (h : Held) →
     let turns = suppressed.incTurns s r full t rate c draw h in
-    (condition 10 turns ≡ passes c (counts (liveOf s t h))) × (condition 12 turns ≡ ringFull r (bucketIn s) t (liveOf s t h))
+    (condition 10 turns ≡ passes c (counts (lookedOf s t h))) × (condition 12 turns ≡ ringFull r (joinTicks s) t (lookedOf s t h))
 suppressed-exactly s r full t rate c draw h = (refl, refl)
 
 -- ---- a set of a key that is unknown, or has an expired bucket, or another limit: what changes nothing
@@ -266,6 +269,6 @@ already-live s t limit count mode h e =
     let a = and-true (sets.preserves mode) _ e .1 in
     let b = and-true (ltb 0 count) _ a .1 in
     let c = and-true (eqb (counts (liveOf s t h)) count) _ b in
-    let d = and-true (eqb (gone (windowIn s) t (h .buckets)) 0) _ (c .1) in
-    let n : gone (windowIn s) t (h .buckets) ≡ 0 = eqb-true (gone (windowIn s) t (h .buckets)) 0 (d .0) in
+    let d = and-true (eqb (gone (windowTicks s) t (h .buckets)) 0) _ (c .1) in
+    let n : gone (windowTicks s) t (h .buckets) ≡ 0 = eqb-true (gone (windowTicks s) t (h .buckets)) 0 (d .0) in
     (ap (λ (k : ℕ). counts (drop k (h .buckets))) (sym n) ∙ eqb-true (counts (liveOf s t h)) count (c .0), eqb-true (h .limit) limit (d .1))

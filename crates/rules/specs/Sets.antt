@@ -8,6 +8,7 @@ use lib.Dec.{ltb, eqb}
 use Rattle.common.specs.Comparator.{matches}
 use Rattle.common.specs.Limits.{rateBack}
 use Rattle.settings.specs.Settings.{windowIn, factorIn}
+use Rattle.settings.specs.Clock.{windowTicks}
 use Rattle.settings.specs.declared.Settings.{Settings}
 use Rattle.common.specs.declared.units.RateLimit.{RateLimit}
 use Rattle.answers.specs.declared.DeleteAnswer.{DeleteAnswer}
@@ -40,7 +41,7 @@ met s t comparator h = matches comparator (counts (liveOf s t h))
 unfoldable pub already : Settings → ℕ → ℕ → ℕ → HistoryUpdateMode → Held → Bool
 already s t limit count mode h =
     preserves mode &&
-    (ltb 0 count && (eqb (counts (liveOf s t h)) count && (eqb (gone (windowIn s) t (h .buckets)) 0 && eqb (h .limit) limit)))
+    (ltb 0 count && (eqb (counts (liveOf s t h)) count && (eqb (gone (windowTicks s) t (h .buckets)) 0 && eqb (h .limit) limit)))
 
 -- "Nothing changes .. if the comparator is not met, the key is unknown and count 0, or Preserve has .."
 unfoldable pub idle : Settings → ℕ → ℕ → RateLimitComparator → ℕ → HistoryUpdateMode → Held → Bool
@@ -57,8 +58,8 @@ outcome s t still comparator count h = record {
 
 -- "then Replace (one bucket) or Preserve"
 abbrev pub resetTo : ℕ → ℕ → HistoryUpdateMode → ℕ → List Bucket → List Bucket
-resetTo W t mode.Replace count xs = replaced t count
-resetTo W t (mode.Preserve p) count xs = preserved p t count (live W t xs)
+resetTo w t mode.Replace count xs = replaced t count
+resetTo w t (mode.Preserve p) count xs = preserved p t count (live w t xs)
 
 -- whether nothing changes, of a rate
 abbrev pub stillFor : RoomKind → Settings → ℕ → RateLimit → RateLimitComparator → ℕ → HistoryUpdateMode → Held → Bool

@@ -1,5 +1,6 @@
--- The suppressed limiter's rules, in document 01's words and order. h is the key, xs its live buckets, S and H the soft and the hard limit as whole
--- numbers, W the window in seconds, t the reading, c the count, r the ring.
+-- The suppressed limiter's rules, in document 01's words and order. h is the key, xs its buckets once it has evicted, S and H the soft and the hard limit as
+-- whole numbers, W the window in seconds, n the number of ticks in a millisecond, t the reading, c the count, r the ring. out says whether the call evicts:
+-- `get` does at once, an increment and `get_suppression_factor` by a first look.
 -- Assumes nothing.
 use mathlib.Core.Bool.{Bool, true, false, _&&_, cond}
 use mathlib.Core.List.{List, [], _∷_}
@@ -11,14 +12,15 @@ use Rattle.suppression.specs.Factor.{freshFactor, admitted}
 use Rattle.answers.specs.HistoryMode.{noSnapshot}
 use Rattle.common.specs.Limits.{cutWord, softWord}
 use Rattle.common.specs.Ranges.{nil, one}
-use Rattle.settings.specs.Settings.{windowIn, bucketIn, factorIn, cacheIn}
+use Rattle.settings.specs.Settings.{windowIn, factorIn, cacheIn}
+use Rattle.settings.specs.Clock.{ageInMilliseconds, ticksIn, windowTicks, joinTicks}
 use Rattle.settings.specs.declared.Settings.{Settings}
 use Rattle.answers.specs.declared.RateLimitDecision.{RateLimitDecision}
 use Rattle.answers.specs.declared.RateLimitDecision.the-variants.{Allowed, Rejected, Suppressed, Refused}
 use Rattle.suppression.specs.declared.CachedFactor.{CachedFactor}
 use Rattle.answers.specs.declared.SuppressedRateLimitSnapshot.{SuppressedRateLimitSnapshot}
 use Rattle.common.specs.declared.units.RateLimit.{RateLimit}
-use Rattle.rules.specs.Buckets.{gone, lastSecond}
+use Rattle.rules.specs.Buckets.{goneIf, outIf, lastSecond}
 use Rattle.ring.specs.declared.Bucket.{Bucket}
 use Rattle.ring.specs.Ring.{counts, declineds}
 use Rattle.rules.specs.declared.Asked.{Asked}
@@ -31,7 +33,7 @@ use Rattle.rules.specs.declared.Reach.{Reach}
 use Rattle.rules.specs.declared.Reach.the-variants.{Hard, Soft, Over, Between}
 use Rattle.rules.specs.declared.RoomKind.the-variants as kind
 use Rattle.rules.specs.Held.{Held, lacksSlot}
-use Rattle.rules.specs.Both.{limitIn, liveOf, unrated, passes, ringFull}
+use Rattle.rules.specs.Both.{limitIn, liveOf, overdueIn, lookedOf, unrated, passes, ringFull}
 
 -- ---- the limit: "H = hard cut, and the soft limit is S = hard / F cut"; a series has its own
 
@@ -41,12 +43,12 @@ limitFor s rate h = cond (h .known) (h .limit) (limitIn kind.Suppressed s rate)
 -- ---- the cached factor
 
 -- "Evict if the oldest is expired, and then forget the cached factor"
-unfoldable pub stays : Settings → ℕ → Held → Bool
-stays s t h = h .cached && eqb (gone (windowIn s) t (h .buckets)) 0
+unfoldable pub stays : Settings → ℕ → Bool → Held → Bool
+stays s t out h = h .cached && eqb (goneIf out (windowTicks s) t (h .buckets)) 0
 
--- "the cached factor at age below C"
-abbrev pub usable : Settings → ℕ → Held → Bool
-usable s t h = stays s t h && ltb (t - h .since) (cacheIn s)
+-- "the cached factor at age below C", cut to milliseconds
+abbrev pub usable : Settings → ℕ → Bool → Held → Bool
+usable s t out h = stays s t out h && ltb (ageInMilliseconds (ticksIn s) t (h .since)) (cacheIn s)
 
 abbrev pub cachedAt : Float → ℕ → CachedFactor
 cachedAt f t = record { «suppression_factor» = f; time = t }
@@ -82,14 +84,15 @@ ruleOn S H xs = clauses S H (eqb (length xs) 0) (counts xs) (declineds xs)
 abbrev pub asCached : ℕ → Asked
 asCached factor = record { factor = ofBits binary64 factor; caching = Left }
 
--- of the live buckets
-abbrev pub freshOn : ℕ → ℕ → ℕ → ℕ → List Bucket → Asked
-freshOn S H W t xs = freshly (ruleOn S H xs) S W t (counts xs) (lastSecond t xs)
+-- of the buckets
+abbrev pub freshOn : ℕ → ℕ → ℕ → ℕ → ℕ → List Bucket → Asked
+freshOn S H W n t xs = freshly (ruleOn S H xs) S W t (counts xs) (lastSecond n t xs)
 
 -- "the cached factor at age below C, else a fresh one", at this limit
-unfoldable pub asked : Settings → ℕ → ℕ → Held → Asked
-asked s t limit h =
-    cond (usable s t h) (asCached (h .factor)) (freshOn (softWord (factorIn s) limit) (cutWord limit) (windowIn s) t (liveOf s t h))
+unfoldable pub asked : Settings → ℕ → Bool → ℕ → Held → Asked
+asked s t out limit h =
+    cond (usable s t out h) (asCached (h .factor))
+    (freshOn (softWord (factorIn s) limit) (cutWord limit) (windowIn s) (ticksIn s) t (outIf out (windowTicks s) t (h .buckets)))
 
 -- ---- an increment
 
@@ -127,7 +130,7 @@ outcomeOf Between a t c draw = drawn a c draw
 -- the outcome of a count at this limit
 unfoldable pub outcome : Settings → ℕ → ℕ → ℕ → ℕ → Held → Outcome
 outcome s t limit c draw h =
-    outcomeOf (reachOf (forecast (liveOf s t h) c) (softWord (factorIn s) limit) (cutWord limit)) (asked s t limit h) t c draw
+    outcomeOf (reachOf (forecast (lookedOf s t h) c) (softWord (factorIn s) limit) (cutWord limit)) (asked s t (overdueIn s t h) limit h) t c draw
 
 -- whether a decision admits its count
 abbrev pub admits : RateLimitDecision → Bool
@@ -140,14 +143,14 @@ admits (Refused n) = false
 abbrev pub mostDraw : ℕ
 mostDraw = 9007199254740991
 
--- 8 to 12; 10 and 12 are judged on the live buckets. full says that no slot is free
+-- 8 to 12; 10 and 12 are judged on the buckets that the first look leaves. full says that no slot is free
 abbrev pub incTurns : Settings → ℕ → Bool → ℕ → RateLimit → ℕ → ℕ → Held → List (ℕ × Bool)
 incTurns s r full t rate c draw h =
     (8, unrated rate) ∷
     (9, ltb mostDraw draw) ∷
-    (10, passes c (counts (liveOf s t h))) ∷
+    (10, passes c (counts (lookedOf s t h))) ∷
     (11, lacksSlot full h) ∷
-    (12, ringFull r (bucketIn s) t (liveOf s t h)) ∷ []
+    (12, ringFull r (joinTicks s) t (lookedOf s t h)) ∷ []
 
 -- ---- `get` and `get_suppression_factor`
 
@@ -159,8 +162,8 @@ snapshotOf s t h f =
     noSnapshot
 
 -- the factor that they ask for: at the limit that is stored
-abbrev pub asking : Settings → ℕ → Held → Asked
-asking s t h = asked s t (h .limit) h
+abbrev pub asking : Settings → ℕ → Bool → Held → Asked
+asking s t out h = asked s t out (h .limit) h
 
 -- 11, of `get_suppression_factor`; `get` has none of its own
 abbrev pub factorTurns : Bool → Held → List (ℕ × Bool)

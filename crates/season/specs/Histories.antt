@@ -130,11 +130,12 @@ unfolding Decide.decLe Seek.seek Splice.splice Tab.tab Factor.factorWordOk Facto
     Limits.softWord Limits.limitOk Ranges.rateOk Ranges.factorOk Refusals.first Settings.faults Order.fine Ring.sumOf Ring.wrap Ring.bucketAt
     Ring.buckets Ring.shaped Ring.pushed Ring.rewritten Ring.without RingSound.soundBuckets Rules.older Rules.recent Rules.ahead Rules.joins
     Sweep.passOf HistoryWords.incremented Room.fits Room.empty Keys.keyOf Keys.sameKey Keys.unusedZero Keys.keyFits Room.keyAt Room.free Room.has
-    Room.bodyFrom Room.entered Room.withUse Room.withReading Judge.misfits Slot.opened Slot.slotOf Sound.rightUse Sound.soundSeries Sound.soundCached
+    Room.bodyFrom Room.entered Room.withUse Room.withReading Judge.misfits Slot.opened Slot.slotOf Slot.firstLook Sound.rightUse Sound.soundSeries
+    Sound.soundCached
     Sound.soundSlot Sound.addressed Sound.soundAt Verdicts.unlessRefused Bodies.begun Bodies.started Bodies.acted Bodies.fixed Bodies.edited
     Words.withEdit Words.updated Words.taken Words.carried Words.applied Calls.inc Edits.recached Edits.incEdit Edits.incChange Ieee.le Ieee.lt
     Ieee.eq Ieee.mul Ieee.div Ieee.sub Ieee.add Ieee.ofInt Ieee.ofBits Ieee.ofFields Ieee.toBits Ieee.toUnsigned Ieee.fits Held.heldIn Plan.placeOf
-    Slots.staysAt Both.passes Both.ringFull Suppressed.stays Suppressed.asked Suppressed.reachOf Suppressed.drawn Suppressed.outcome Table.isTable
+    Slots.staysAt Both.overdue Both.passes Both.ringFull Suppressed.stays Suppressed.asked Suppressed.reachOf Suppressed.drawn Suppressed.outcome Table.isTable
     Table.emptyTable Table.numbered Table.names Table.entryFor Table.isKnown Table.once Table.soundEntry Table.soundFor Table.lastNumber Table.remembered
     Gate.isHeld Gate.gateTurns Gate.unlessRefused Gate.shot Gate.newSeason
 computed = record {

@@ -6,12 +6,13 @@ use mathlib.Core.List.{List, [], _∷_, _++_}
 use Prim.Native.Nat.{ℕ, zero, suc, _+_, _-_, _≤_, _<_}
 use native.Mathlib.Nat.{not-suc-le-zero, le-of-suc-le-suc}
 use native.Mathlib.Omega.{arith}
-use lib.ListN.{length, getD, take, drop, take-append-drop}
+use lib.ListN.{length, getD, take, drop, take-append-drop, length-drop}
+use lib.Seq.{getD-drop, drop-drop}
 use borrow.Author.Tests.{lt-ltb, le-ltb}
 use Rattle.layout.specs.Layout.{mostTotal}
 use Rattle.ring.specs.declared.Bucket.{Bucket}
 use Rattle.ring.specs.Ring.{noBucket, sumOf, countOf, counts, lenOf, cellOf, bucketAt, buckets}
-use Rattle.ring.specs.Order.{Fine}
+use Rattle.ring.specs.Order.{Fine, fine-drop}
 use Rattle.ring.specs.Sums.{sum-split}
 use Rattle.ring.specs.Sound.{Sound}
 use Rattle.ring.specs.View.{view-length, view-at, view-turn, view-end}
@@ -63,7 +64,8 @@ module _ (r : ℕ) (b : List ℕ) (w t : ℕ) where
       let z : drop n (buckets r b) ≡ [] = view-end r b n (omega arith) in
       (sym (ap counts z), ap (recent w t) z ∙ sym z)
 
-  module _ (last k sum : ℕ) (x : Bucket) (o : Sound r b last) (p : 0 < k) (h : k ≤ lenOf b) (e : x ≡ bucketAt r b (cellOf r b (k - 1)))
+  -- g of the oldest are out
+  module _ (last g k sum : ℕ) (x : Bucket) (o : Sound r b last) (p : g < k) (h : k ≤ lenOf b) (e : x ≡ bucketAt r b (cellOf r b (k - 1)))
       (i : Walks r b w t k sum) where
     turn : drop (k - 1) (buckets r b) ≡ x ∷ drop k (buckets r b)
     turn =
@@ -81,22 +83,28 @@ module _ (r : ℕ) (b : List ℕ) (w t : ℕ) where
     pub walk-on : t - x .time ≤ w → Walks r b w t (k - 1) (sum + x .count)
     walk-on y = (counted, ap (recent w t) turn ∙ recent-young w t x (drop k (buckets r b)) y (i .1) ∙ sym turn)
 
-    pub walk-old : w < t - x .time → sum ≡ counts (recent w t (buckets r b))
+    pub walk-old : w < t - x .time → sum ≡ counts (recent w t (drop g (buckets r b)))
     walk-old y =
         let xs = buckets r b in
-        let l : k - 1 < length xs = omega (arith, view-length r b) in
-        let s : suc (k - 1) ≡ k = omega arith in
-        let z : getD xs (k - 1) noBucket ≡ x = view-at r b (k - 1) (omega arith) ∙ sym e in
-        let v : w < t - getD xs (k - 1) noBucket .time = omega (arith, ap (λ (q : Bucket). q .time) z) in
-        let none : recent w t (take k xs) ≡ [] =
-        ap (λ (m : ℕ). recent w t (take m xs)) (sym s) ∙
-        recent-none w t 0 (take (suc (k - 1)) xs) (getD xs (k - 1) noBucket .time) (fine-upto (k - 1) 0 xs last (o .each) l) v in
-        let all : recent w t xs ≡ drop k xs =
-        ap (recent w t) (sym (take-append-drop k xs)) ∙ recent-append w t (take k xs) (drop k xs) ∙
-        ap₂ (λ (ys zs : List Bucket). ys ++ zs) none (i .1) in
+        let ys = drop g xs in
+        let j = k - g in
+        let l : j - 1 < length ys = omega (arith, length-drop g xs, view-length r b) in
+        let s : suc (j - 1) ≡ j = omega arith in
+        let n : g + (j - 1) ≡ k - 1 = omega arith in
+        let m : g + j ≡ k = omega arith in
+        let z : getD ys (j - 1) noBucket ≡ x =
+        getD-drop g xs (j - 1) noBucket ∙ ap (λ (u : ℕ). getD xs u noBucket) n ∙ view-at r b (k - 1) (omega arith) ∙ sym e in
+        let v : w < t - getD ys (j - 1) noBucket .time = omega (arith, ap (λ (q : Bucket). q .time) z) in
+        let none : recent w t (take j ys) ≡ [] =
+        ap (λ (u : ℕ). recent w t (take u ys)) (sym s) ∙
+        recent-none w t 0 (take (suc (j - 1)) ys) (getD ys (j - 1) noBucket .time) (fine-upto (j - 1) 0 ys last (fine-drop g 0 xs last (o .each)) l) v in
+        let rest : drop j ys ≡ drop k xs = drop-drop j g xs ∙ ap (λ (u : ℕ). drop u xs) m in
+        let all : recent w t ys ≡ drop k xs =
+        ap (recent w t) (sym (take-append-drop j ys)) ∙ recent-append w t (take j ys) (drop j ys) ∙
+        ap₂ (λ (us zs : List Bucket). us ++ recent w t zs) none rest ∙ i .1 in
         i .0 ∙ sym (ap counts all)
 
-  pub walk-end : (k sum : ℕ) → k ≤ 0 → Walks r b w t k sum → sum ≡ counts (recent w t (buckets r b))
-  walk-end k sum h i =
-      let z : k ≡ 0 = omega arith in
+  pub walk-end : (g k sum : ℕ) → g ≤ k → k ≤ g → Walks r b w t k sum → sum ≡ counts (recent w t (drop g (buckets r b)))
+  walk-end g k sum h l i =
+      let z : k ≡ g = omega arith in
       i .0 ∙ ap counts (sym (i .1)) ∙ ap (λ (m : ℕ). counts (recent w t (drop m (buckets r b)))) z

@@ -1,4 +1,4 @@
--- The settings of a room: their defaults, a change of one of them, and refusals 1 to 4.
+-- The settings of a room: their defaults, a change of one of them, and refusals 1 to 4. Any clock mode is in range.
 -- Assumes nothing.
 use mathlib.Core.Path.{_≡_, refl, ap}
 use mathlib.Core.Bool.{Bool, true, not}
@@ -8,6 +8,8 @@ use native.Mathlib.Omega.{arith}
 use lib.Ieee.{Float, fits, le}
 use borrow.Author.Tests.{not-false}
 use Rattle.settings.specs.declared.Settings.{Settings}
+use Rattle.settings.specs.declared.ClockMode.{ClockMode}
+use Rattle.settings.specs.declared.ClockMode.the-variants.{Milliseconds}
 use Rattle.common.specs.declared.units.WindowSize.{WindowSize}
 use Rattle.common.specs.declared.units.BucketSize.{BucketSize}
 use Rattle.common.specs.declared.units.SuppressionFactorCachePeriod.{SuppressionFactorCachePeriod}
@@ -40,6 +42,7 @@ defaults = record {
   «bucket_size» = record { 0 = defaultBucket };
   «hard_limit_factor» = defaultFactor;
   «suppression_factor_cache_period» = record { 0 = defaultCache };
+  «clock_mode» = Milliseconds;
 }
 
 -- ---- one value changed
@@ -50,6 +53,7 @@ withWindow s v = record {
   «bucket_size» = s .«bucket_size»;
   «hard_limit_factor» = s .«hard_limit_factor»;
   «suppression_factor_cache_period» = s .«suppression_factor_cache_period»;
+  «clock_mode» = s .«clock_mode»;
 }
 
 abbrev pub withBucket : Settings → BucketSize → Settings
@@ -58,6 +62,7 @@ withBucket s v = record {
   «bucket_size» = v;
   «hard_limit_factor» = s .«hard_limit_factor»;
   «suppression_factor_cache_period» = s .«suppression_factor_cache_period»;
+  «clock_mode» = s .«clock_mode»;
 }
 
 abbrev pub withFactor : Settings → Float → Settings
@@ -66,6 +71,7 @@ withFactor s v = record {
   «bucket_size» = s .«bucket_size»;
   «hard_limit_factor» = v;
   «suppression_factor_cache_period» = s .«suppression_factor_cache_period»;
+  «clock_mode» = s .«clock_mode»;
 }
 
 abbrev pub withCache : Settings → SuppressionFactorCachePeriod → Settings
@@ -74,6 +80,16 @@ withCache s v = record {
   «bucket_size» = s .«bucket_size»;
   «hard_limit_factor» = s .«hard_limit_factor»;
   «suppression_factor_cache_period» = v;
+  «clock_mode» = s .«clock_mode»;
+}
+
+abbrev pub withClock : Settings → ClockMode → Settings
+withClock s v = record {
+  «window_size» = s .«window_size»;
+  «bucket_size» = s .«bucket_size»;
+  «hard_limit_factor» = s .«hard_limit_factor»;
+  «suppression_factor_cache_period» = s .«suppression_factor_cache_period»;
+  «clock_mode» = v;
 }
 
 -- ---- refusals 1 to 4: window, bucket, cache period, factor outside its range

@@ -1,5 +1,5 @@
 -- Short histories of one key on a room of one slot and a ring of two buckets, and what each admits, computed by the calls themselves. Default settings (window
--- 10 s, bucket 100 ms, factor 1) and 1 per second, so that H = S = 10, unless something else is said. Newest first.
+-- 10 s, bucket 100 ms, factor 1, readings in milliseconds) and 1 per second, so that H = S = 10, unless something else is said. Newest first.
 -- Assumes nothing.
 use mathlib.Core.Path.{_≡_, refl}
 use mathlib.Core.Bool.{true, false}
@@ -21,6 +21,7 @@ use Rattle.common.specs.Ranges as Ranges
 use Rattle.common.specs.Refusals as Refusals
 use Rattle.common.specs.declared.comparator.RateLimitComparator.the-variants.{Always}
 use Rattle.settings.specs.Settings as Settings
+use Rattle.settings.specs.declared.ClockMode.the-variants.{Nanoseconds}
 use Rattle.settings.specs.declared.Settings as settings
 use Rattle.common.specs.declared.units.RateLimit.{RateLimit}
 use Rattle.rules.specs.Buckets as Rules
@@ -57,7 +58,7 @@ use Rattle.calls.specs.Set as Set
 use Rattle.shared_opened.specs.Opened as Shared
 use Rattle.sets_opened.specs.Sets as SetsOpened
 use Rattle.admissions.specs.Log.{inSpan, aged}
-use Rattle.steps.specs.Ops.{Op, draws, setRate, set, delete, cleanup, clear, Call, words}
+use Rattle.steps.specs.Ops.{Op, draws, snapshot, setRate, set, delete, cleanup, clear, Call, words}
 use Rattle.demand3.specs.History.{admitted, hardOf, softOf}
 
 abbrev pub one : RateLimit
@@ -69,6 +70,10 @@ two = record { 0 = Ieee.ofInt Ieee.binary64 (pos 2) }
 -- the defaults with hard limit factor 2: H = 20, S = 10
 abbrev pub doubled : settings.Settings
 doubled = Settings.withFactor Settings.defaults (two .0)
+
+-- the defaults with readings in nanoseconds
+abbrev pub nano : settings.Settings
+nano = Settings.withClock Settings.defaults Nanoseconds
 
 abbrev pub room : List ℕ
 room = Room.empty 1 2
@@ -97,6 +102,10 @@ expired = counted 10001 10 ∷ joinedLate
 abbrev pub cleaned : List (Call kind.Suppressed)
 cleaned = counted 10000 10 ∷ call 10000 (cleanup 9999) ∷ joinedLate
 
+-- in nanoseconds: 0 counted at 0 begins a bucket, 10 at 100 ms and 999,999 ns join it, and a tick after its window `get` takes it out: 10 more
+abbrev pub nanoExpired : List (Call kind.Suppressed)
+nanoExpired = counted 10000000001 10 ∷ call 10000000001 (snapshot []) ∷ counted 100999999 10 ∷ counted 0 0 ∷ []
+
 -- 10 counted, a call, and n more
 abbrev pub around : Op kind.Suppressed → ℕ → List (Call kind.Suppressed)
 around op n = counted 0 n ∷ call 0 op ∷ tenOnce
@@ -112,8 +121,8 @@ begun = call 0 (draws [] two 20 0) ∷ []
 -- ---- what they admit, and what follows them
 
 -- what the key was admitted from one reading to another, both included
-abbrev pub spent : ℕ → ℕ → List (Call kind.Suppressed) → ℕ
-spent from to calls = inSpan from to (admitted Settings.defaults [] room calls)
+abbrev pub spent : settings.Settings → ℕ → ℕ → List (Call kind.Suppressed) → ℕ
+spent s from to calls = inSpan from to (admitted s [] room calls)
 
 -- what n counted at reading t after the calls are answered
 abbrev pub answerTo : settings.Settings → List (Call kind.Suppressed) → ℕ → ℕ → RateLimitDecision
@@ -121,18 +130,24 @@ answerTo s calls t n = Calls.inc s (words kind.Suppressed s room calls) t [] one
 
 pub record Computed : Type 0 where
   pub hard : hardOf Settings.defaults one ≡ 10
-  pub reaches : spent 0 9900 tenOnce ≡ 10
-  pub expires : spent 100 10001 expired ≡ 20
-  pub cleans : spent 100 10000 cleaned ≡ 20
-  pub sets : spent 0 9900 (around lowers 1) ≡ 11
-  pub deletes : spent 0 9900 (around (delete []) 10) ≡ 20
-  pub clears : spent 0 9900 (around clear 10) ≡ 20
-  pub rates : spent 0 9900 (around (setRate [] two) 10) ≡ 20
-  pub begins : spent 0 9900 begun ≡ 20
+  pub reaches : spent Settings.defaults 0 9900 tenOnce ≡ 10
+  pub expires : spent Settings.defaults 100 10001 expired ≡ 20
+  pub nano-hard : hardOf nano one ≡ 10
+  pub nano-expires : spent nano 100999999 10000000001 nanoExpired ≡ 20
+  pub cleans : spent Settings.defaults 100 10000 cleaned ≡ 20
+  pub sets : spent Settings.defaults 0 9900 (around lowers 1) ≡ 11
+  pub deletes : spent Settings.defaults 0 9900 (around (delete []) 10) ≡ 20
+  pub clears : spent Settings.defaults 0 9900 (around clear 10) ≡ 20
+  pub rates : spent Settings.defaults 0 9900 (around (setRate [] two) 10) ≡ 20
+  pub begins : spent Settings.defaults 0 9900 begun ≡ 20
   -- 1 more at 10,000, when the 10 are as old as the window, is over H
   pub soft : softOf Settings.defaults one ≡ 10
   pub past : aged 9999 10000 (admitted Settings.defaults [] room tenOnce) ≡ 0
   pub over : answerTo Settings.defaults tenOnce 10000 1 ≡ decided.Suppressed Ranges.one false
+  -- in nanoseconds 1 more at 10,000 ms and 999,999 ns is, when the 10 are as old as a first look takes for the window
+  pub nano-soft : softOf nano one ≡ 10
+  pub nano-past : aged 10000999998 10000999999 (admitted nano [] room tenOnce) ≡ 0
+  pub nano-over : answerTo nano tenOnce 10000999999 1 ≡ decided.Suppressed Ranges.one false
   -- 11 on an empty room lie between S and H: admitted, by the factor
   pub soft-doubled : softOf doubled one ≡ 10
   pub between : answerTo doubled [] 0 11 ≡ decided.Suppressed Ranges.nil true
@@ -143,17 +158,21 @@ unfolding Decide.decLe Seek.seek Splice.splice Tab.tab Answers.decisionRow Facto
     Ring.bucketAt Ring.buckets Ring.shaped Ring.pushed Ring.rewritten Ring.without RingSound.soundBuckets Rules.older Rules.recent Rules.ahead
     Rules.joins Sweep.passOf HistoryWords.incremented HistoryWords.replacedWords Room.fits Room.empty Keys.keyOf Keys.sameKey Keys.unusedZero
     Keys.keyFits Room.keyAt Room.free Room.has Room.bodyFrom Room.entered Room.withUse Room.withReading Room.freed Judge.misfits Slot.opened
-    Slot.slotOf Sound.rightUse Sound.soundSeries Sound.soundCached Sound.soundSlot Sound.addressed Sound.soundAt Verdicts.unlessRefused Bodies.begun
+    Slot.slotOf Slot.firstLook Sound.rightUse Sound.soundSeries Sound.soundCached Sound.soundSlot Sound.addressed Sound.soundAt Verdicts.unlessRefused
+    Bodies.begun
     Bodies.started Bodies.acted Bodies.fixed Bodies.edited Words.withEdit Words.updated Words.taken Words.carried Words.applied Every.every
     Uses.useAfter Uses.swept Uses.cleaned Cleanup.slotPasses Cleanup.misfits Cleanup.cleanup Clear.unclear Delete.delete Rate.setRateLimit Set.set
-    Shared.deleting Shared.usedWith Shared.limiting SetsOpened.stored SetsOpened.setting Calls.inc Edits.recached Edits.incEdit Edits.incChange
+    Shared.deleting Shared.usedWith Shared.limiting SetsOpened.stored SetsOpened.setting Calls.inc Calls.get Edits.getChange Edits.recached Edits.incEdit
+    Edits.incChange
     Ieee.le Ieee.lt Ieee.eq Ieee.mul Ieee.div Ieee.sub Ieee.add Ieee.ofInt Ieee.ofBits Ieee.ofFields Ieee.toBits Ieee.toUnsigned Ieee.fits Held.heldIn
-    Plan.placeOf Slots.staysAt Both.passes Both.ringFull SetRules.already SetRules.idle SetRules.rateTurns Stale.seriesStays Stale.factorStays
+    Plan.placeOf Slots.staysAt Both.overdue Both.passes Both.ringFull SetRules.already SetRules.idle SetRules.rateTurns Stale.seriesStays Stale.factorStays
     Suppressed.stays Suppressed.asked Suppressed.reachOf Suppressed.drawn Suppressed.outcome
 computed = record {
   hard = refl;
   reaches = refl;
   expires = refl;
+  nano-hard = refl;
+  nano-expires = refl;
   cleans = refl;
   sets = refl;
   deletes = refl;
@@ -163,6 +182,9 @@ computed = record {
   soft = refl;
   past = refl;
   over = refl;
+  nano-soft = refl;
+  nano-past = refl;
+  nano-over = refl;
   soft-doubled = refl;
   between = refl;
 }

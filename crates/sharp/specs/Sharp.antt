@@ -1,6 +1,6 @@
--- That demand 3 is sharp in each clause: with a larger span, a lower limit or one call more that is let pass the ceiling fails, and with a shorter look
--- back or a higher limit the floor. Each by a history of a few calls that the checker computes (`Histories.antt`). P is what is asked of the calls
--- otherwise: the mission's wording, or anything that asks for less, as `Spares` does (`alone-spares`).
+-- That demand 3 is sharp in each clause, the span and the look back in both clock modes: with a larger span, a lower limit or one call more that is let
+-- pass the ceiling fails, and with a shorter look back or a higher limit the floor. Each by a history of a few calls that the checker computes
+-- (`Histories.antt`). P is what is asked of the calls otherwise: the mission's wording, or anything that asks for less, as `Spares` does (`alone-spares`).
 -- Assumes nothing.
 use mathlib.Core.Path.{_≡_, refl, sym, ap, _∙_}
 use mathlib.Core.Bool.{Bool}
@@ -16,15 +16,18 @@ use Rattle.answers.specs.declared.RateLimitDecision.{RateLimitDecision}
 use Rattle.answers.specs.declared.RateLimitDecision.the-variants as decided
 use Rattle.common.specs.declared.comparator.RateLimitComparator.the-variants.{Always}
 use Rattle.common.specs.declared.units.RateLimit.{RateLimit}
-use Rattle.settings.specs.Settings.{defaults, bucketIn}
+use Rattle.settings.specs.Settings.{defaults, windowIn}
+use Rattle.settings.specs.Clock.{windowInMilliseconds, windowTicks, joinTicks}
+use Rattle.settings.specs.declared.ClockMode.{ClockMode}
+use Rattle.settings.specs.declared.ClockMode.the-variants.{Milliseconds, Nanoseconds}
 use Rattle.settings.specs.declared.Settings.{Settings}
 use Rattle.frame.specs.Keys.{Bytes}
 use Rattle.rules.specs.declared.RoomKind.the-variants as kind
 use Rattle.admissions.specs.Log.{aged}
-use Rattle.steps.specs.Ops.{Op, draws, setRate, set, delete, cleanup, clear, Call, words}
+use Rattle.steps.specs.Ops.{Op, draws, snapshot, setRate, set, delete, cleanup, clear, Call, words}
 use Rattle.demand3.specs.History.{IsKey, admitted, hardOf, softOf, Clause, Or, AllBy, Gives, LeavesAlone}
-use Rattle.demand3.specs.Demand3.{lessBucket, oneWindow, Ceiling, increment, Floor}
-use Rattle.sharp.specs.Histories.{one, two, doubled, room, tenOnce, expired, cleaned, around, lowers, begun, spent, answerTo, computed}
+use Rattle.demand3.specs.Demand3.{lessBucket, lookBack, Ceiling, increment, Floor}
+use Rattle.sharp.specs.Histories.{one, two, doubled, nano, room, tenOnce, expired, nanoExpired, cleaned, around, lowers, begun, spent, answerTo, computed}
 
 fine : IsKey []
 fine = record { bytes = λ i. omega arith; short = omega arith }
@@ -34,15 +37,19 @@ own : Bytes [] × (_≡_ {A = List ℕ} [] [] → one ≡ one)
 own = (fine .bytes, λ e. refl)
 
 -- calls that are by the clause, and that are admitted n in a span, more than the limit
-breaks : (span : Settings → ℕ) (limit : Settings → RateLimit → ℕ) (Q : Clause) (calls : List (Call kind.Suppressed)) (from n : ℕ) →
-    AllBy Q defaults [] one room calls → spent from (from + span defaults) calls ≡ n → limit defaults one < n → Ceiling span limit Q → ⊥
-breaks span limit Q calls from n p e h f =
-    let g : spent from (from + span defaults) calls ≤ limit defaults one = f defaults 1 2 [] one calls fine (omega arith) p from in
+breaksIn : (s : Settings) (span : Settings → ℕ) (limit : Settings → RateLimit → ℕ) (Q : Clause) (calls : List (Call kind.Suppressed)) (from n : ℕ) →
+    joinTicks s ≤ windowTicks s → AllBy Q s [] one room calls → spent s from (from + span s) calls ≡ n → limit s one < n → Ceiling span limit Q → ⊥
+breaksIn s span limit Q calls from n le p e h f =
+    let g : spent s from (from + span s) calls ≤ limit s one = f s 1 2 [] one calls fine le p from in
     absurd (omega (arith, e, h, g))
+
+breaks : (span : Settings → ℕ) (limit : Settings → RateLimit → ℕ) (Q : Clause) (calls : List (Call kind.Suppressed)) (from n : ℕ) →
+    AllBy Q defaults [] one room calls → spent defaults from (from + span defaults) calls ≡ n → limit defaults one < n → Ceiling span limit Q → ⊥
+breaks span limit Q calls from n = breaksIn defaults span limit Q calls from n (omega arith)
 
 -- n counted after the calls, at most the limit with what is admitted, that are answered Suppressed
 falls : (back : Settings → ℕ) (limit : Settings → RateLimit → ℕ) (Q : Clause) (s : Settings) (calls : List (Call kind.Suppressed)) (t n : ℕ) (x : Float)
-    (is : Bool) → bucketIn s ≤ oneWindow s → AllBy Q s [] one room (increment t [] one n 0 ∷ calls) → answerTo s calls t n ≡ decided.Suppressed x is →
+    (is : Bool) → joinTicks s ≤ windowTicks s → AllBy Q s [] one room (increment t [] one n 0 ∷ calls) → answerTo s calls t n ≡ decided.Suppressed x is →
     n + aged (back s) t (admitted s [] room calls) ≤ limit s one → Floor back limit Q → ⊥
 unfolding decisionRow
 falls back limit Q s calls t n x is le p e h f =
@@ -50,11 +57,18 @@ falls back limit Q s calls t n x is le p e h f =
     let c : _≡_ {A = ℕ} 3 1 = ap (λ (d : RateLimitDecision). getD (decisionRow d) 1 0) (sym e ∙ a) in
     absurd (omega (arith, c))
 
+-- 1 in one clock mode, 0 in the other
+abbrev pub oneIn : ClockMode → ClockMode → ℕ
+oneIn Milliseconds Milliseconds = 1
+oneIn Milliseconds Nanoseconds = 0
+oneIn Nanoseconds Milliseconds = 0
+oneIn Nanoseconds Nanoseconds = 1
+
 -- ---- one call more that is let pass
 
 -- the stale time: a cleanup with window less 1
 abbrev pub Cleans : Clause
-Cleans s key rate w t op = op ≡ cleanup (oneWindow s - 1)
+Cleans s key rate w t op = op ≡ cleanup (windowInMilliseconds (windowIn s) - 1)
 
 -- a set, at the key's rate
 abbrev pub Sets : Clause
@@ -79,11 +93,15 @@ module _ (P : Clause) (less : Gives LeavesAlone P) where
   counts : {s : Settings} {w : List ℕ} {t n : ℕ} → P s [] one w t (draws [] one n 0)
   counts {s} {w} {t} {n} = less s [] one w t (draws [] one n 0) own
 
-  -- the span: one millisecond more
-  pub span-sharp : Ceiling (λ s. lessBucket s + 1) hardOf P → ⊥
-  span-sharp =
-      breaks (λ s. lessBucket s + 1) hardOf P expired 100 20 (counts, (counts, (counts, tt))) (computed .expires)
+  -- the span: one tick more, of either clock mode alone
+  pub span-sharp : (mode : ClockMode) → Ceiling (λ s. lessBucket s + oneIn mode (s .«clock_mode»)) hardOf P → ⊥
+  span-sharp Milliseconds =
+      breaks (λ s. lessBucket s + oneIn Milliseconds (s .«clock_mode»)) hardOf P expired 100 20 (counts, (counts, (counts, tt))) (computed .expires)
       (omega (arith, computed .hard))
+  span-sharp Nanoseconds =
+      breaksIn nano (λ s. lessBucket s + oneIn Nanoseconds (s .«clock_mode»)) hardOf P nanoExpired 100999999 20 (omega arith)
+      (counts, (less nano [] one _ 10000000001 (snapshot []) (fine .bytes), (counts, (counts, tt)))) (computed .nano-expires)
+      (omega (arith, computed .nano-hard))
 
   -- the hard limit: it is reached
   pub hard-sharp : Ceiling lessBucket (λ s rate. hardOf s rate - 1) P → ⊥
@@ -97,7 +115,7 @@ module _ (P : Clause) (less : Gives LeavesAlone P) where
 
   -- a call between 10 counted and n more, with which the key is admitted m
   between-sharp : (Q : Clause) (op : Op kind.Suppressed) (n m : ℕ) → Q defaults [] one (words kind.Suppressed defaults room tenOnce) 0 op →
-      spent 0 9900 (around op n) ≡ m → 10 < m → Ceiling lessBucket hardOf (Or P Q) → ⊥
+      spent defaults 0 9900 (around op n) ≡ m → 10 < m → Ceiling lessBucket hardOf (Or P Q) → ⊥
   between-sharp Q op n m q e h =
       breaks lessBucket hardOf (Or P Q) (around op n) 0 m (inl counts, (inr q, (inl counts, tt))) e (omega (arith, h, computed .hard))
 
@@ -117,14 +135,17 @@ module _ (P : Clause) (less : Gives LeavesAlone P) where
   increment-sharp =
       breaks lessBucket hardOf (Or P Increments) begun 0 20 (inr (two, (20, refl)), tt) (computed .begins) (omega (arith, computed .hard))
 
-  -- the floor's window: one millisecond less
-  pub window-sharp : Floor (λ s. oneWindow s - 1) softOf P → ⊥
-  window-sharp =
-      falls (λ s. oneWindow s - 1) softOf P defaults tenOnce 10000 1 _ _ (omega arith) (counts, (counts, tt)) (computed .over)
+  -- the floor's look back: one tick less, of either clock mode alone
+  pub window-sharp : (mode : ClockMode) → Floor (λ s. lookBack s - oneIn mode (s .«clock_mode»)) softOf P → ⊥
+  window-sharp Milliseconds =
+      falls (λ s. lookBack s - oneIn Milliseconds (s .«clock_mode»)) softOf P defaults tenOnce 10000 1 _ _ (omega arith) (counts, (counts, tt)) (computed .over)
       (omega (arith, computed .past, computed .soft))
+  window-sharp Nanoseconds =
+      falls (λ s. lookBack s - oneIn Nanoseconds (s .«clock_mode»)) softOf P nano tenOnce 10000999999 1 _ _ (omega arith) (counts, (counts, tt))
+      (computed .nano-over) (omega (arith, computed .nano-past, computed .nano-soft))
 
   -- its soft limit: one more
-  pub soft-sharp : Floor oneWindow (λ s rate. softOf s rate + 1) P → ⊥
+  pub soft-sharp : Floor lookBack (λ s rate. softOf s rate + 1) P → ⊥
   soft-sharp =
-      falls oneWindow (λ s rate. softOf s rate + 1) P doubled [] 0 11 _ _ (omega arith) (counts, tt) (computed .between)
+      falls lookBack (λ s rate. softOf s rate + 1) P doubled [] 0 11 _ _ (omega arith) (counts, tt) (computed .between)
       (omega (arith, computed .soft-doubled))

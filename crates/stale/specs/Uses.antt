@@ -1,4 +1,4 @@
--- What a cleanup leaves: the use of each slot, and the words.
+-- What a cleanup leaves: the use of each slot, and the words. ticks is the number of ticks in a millisecond.
 -- Assumes nothing.
 use mathlib.Core.Path.{_≡_}
 use mathlib.Core.Bool.{Bool, true, _&&_, cond}
@@ -13,33 +13,33 @@ use Rattle.opened.specs.Sound.{factorTimeOf, hasSeries, hasCached}
 
 -- ---- what stays
 
-abbrev pub seriesUse : List Bucket → ℕ → ℕ → ℕ
-seriesUse xs t stale = cond (seriesStays xs t stale) 1 0
+abbrev pub seriesUse : List Bucket → ℕ → ℕ → ℕ → ℕ
+seriesUse xs t ticks stale = cond (seriesStays xs t ticks stale) 1 0
 
-abbrev pub factorUse : ℕ → ℕ → ℕ → ℕ
-factorUse time t stale = cond (factorStays time t stale) 2 0
+abbrev pub factorUse : ℕ → ℕ → ℕ → ℕ → ℕ
+factorUse time t ticks stale = cond (factorStays time t ticks stale) 2 0
 
 -- a slot's use: 1 for a series, 2 for a cached factor, 3 for both, 0 for neither
 abbrev pub uses : Bool → Bool → ℕ
 uses series cached = cond series 1 0 + cond cached 2 0
 
 -- the use afterwards: r is the ring, u the use, b the body
-unfoldable pub useAfter : ℕ → ℕ → List ℕ → ℕ → ℕ → ℕ
-useAfter r u b t stale = uses (hasSeries u && seriesStays (buckets r b) t stale) (hasCached u && factorStays (factorTimeOf b) t stale)
+unfoldable pub useAfter : ℕ → ℕ → List ℕ → ℕ → ℕ → ℕ → ℕ
+useAfter r u b t ticks stale = uses (hasSeries u && seriesStays (buckets r b) t ticks stale) (hasCached u && factorStays (factorTimeOf b) t ticks stale)
 
-abbrev pub useNext : List ℕ → ℕ → ℕ → ℕ → ℕ
-useNext w t stale i = useAfter (ringOf w) (useOf w i) (bodyOf w i) t stale
+abbrev pub useNext : List ℕ → ℕ → ℕ → ℕ → ℕ → ℕ
+useNext w t ticks stale i = useAfter (ringOf w) (useOf w i) (bodyOf w i) t ticks stale
 
 -- ---- the words after
 
 -- the first n slots have their use afterwards: no other word changes
-unfoldable pub swept : List ℕ → ℕ → ℕ → ℕ → List ℕ
-swept w t stale zero = w
-swept w t stale (suc n) = withUse (swept w t stale n) n (useNext w t stale n)
+unfoldable pub swept : List ℕ → ℕ → ℕ → ℕ → ℕ → List ℕ
+swept w t ticks stale zero = w
+swept w t ticks stale (suc n) = withUse (swept w t ticks stale n) n (useNext w t ticks stale n)
 
 -- every slot, and the reading
-unfoldable pub cleaned : List ℕ → ℕ → ℕ → List ℕ
-cleaned w t stale = withReading (swept w t stale (slotsOf w)) t
+unfoldable pub cleaned : List ℕ → ℕ → ℕ → ℕ → List ℕ
+cleaned w t ticks stale = withReading (swept w t ticks stale (slotsOf w)) t
 
 -- what sweeping asks of a body of use u, of a slot, and of all: a series has the words of a ring
 pub record Opens (r u : ℕ) (b : List ℕ) : Type 0 where

@@ -10,7 +10,8 @@ use lib.Dec.{eqb}
 use borrow.Author.Tests.{eqb-true, eqb-false, ltb-false, not-false}
 use Rattle.common.specs.Ranges.{rateOk}
 use Rattle.common.specs.Refusals.{first, first-found, first-none, all-false}
-use Rattle.settings.specs.Settings.{windowIn, faults}
+use Rattle.settings.specs.Settings.{faults}
+use Rattle.settings.specs.Clock.{ticksIn, windowTicks}
 use Rattle.common.specs.declared.comparator.RateLimitComparator.{RateLimitComparator}
 use Rattle.answers.specs.declared.HistoryUpdateMode.{HistoryUpdateMode}
 use Rattle.settings.specs.declared.Settings.{Settings}
@@ -44,14 +45,15 @@ use Rattle.suppressed_edits.specs.Edits.{getChange, factorChange, incChange}
 use Rattle.suppressed_refusals.specs.Refusals.{incLate}
 use Rattle.answers.specs.declared.SetAnswer.the-variants as answers
 use Rattle.rules.specs.Held.{Held, lacksSlot}
-use Rattle.rules.specs.Both.{limitIn}
+use Rattle.rules.specs.Both.{limitIn, overdueIn}
 use Rattle.rules.specs.Absolute as absolute
 use Rattle.rules.specs.Sets as sets
 use Rattle.rules.specs.Suppressed as rules
 use Rattle.judge.specs.Held.{heldIn, noneFree}
-use Rattle.judge.specs.Judge.{early, Passed, slotIn}
+use Rattle.judge.specs.Judge.{early, Passed, slotIn, lookedIn}
 use Rattle.plan.specs.Plan.{placeOf, lacksAt}
-use Rattle.plan.specs.Seen.{Seen, seen, lacks-is}
+use Rattle.plan.specs.Seen as slots
+use Rattle.plan.specs.Seen.{Seen, lacks-is}
 use Rattle.absolute_opened.specs.Opened as edits
 use Rattle.shared_opened.specs.Opened.{deleting, limiting}
 use Rattle.sets_opened.specs.Sets.{setting}
@@ -60,17 +62,17 @@ use Rattle.calls.specs.Seen.{idle-is}
 use Rattle.absolute_verdicts.specs.Laws.{get-applies, ask-applies, inc-applies, may-unknown}
 use Rattle.absolute_verdicts.specs.Opened.{mayIn, outIn}
 use Rattle.absolute_verdicts.specs.Seen.{own-is, makes-is}
-use Rattle.factor_opened.specs.Opened.{askedAt}
 use Rattle.forecast_opened.specs.Forecast.{forecastAt}
 use Rattle.suppressed_verdicts.specs.Opened.{limitAt, incOutcome}
-use Rattle.suppressed_verdicts.specs.Seen.{second-is, asking-is, limit-is, decides, late-is}
-use Rattle.suppressed_verdicts.specs.Standing.{place-inside}
+use Rattle.suppressed_verdicts.specs.Seen as seen
+use Rattle.suppressed_verdicts.specs.Seen.{second-is, second-looked, asking-is, limit-is, decides, late-is}
+use Rattle.suppressed_verdicts.specs.Standing.{stood-looked, place-inside}
 use Rattle.suppressed_verdicts.specs.Calls as OnSuppressed
 use Rattle.suppressed_verdicts.specs.Laws as suppressed
 use Rattle.provider.specs.Provider as Provider
 use Rattle.provider.specs.Laws.{both-passed}
 use Rattle.leaves.specs.Cleanup.{done-words, refused-words}
-use Rattle.leaves.specs.Leaves.{factor-ok, decision-ok}
+use Rattle.leaves.specs.Leaves.{found-ok, looked-ok, decision-ok}
 use Rattle.leaves.specs.Unit.{CachingOk}
 use Rattle.steps.specs.Ops.{Op, inc, isAllowed, get, draws, snapshot, getFactor, setRate, set, delete, cleanup, cleanupBoth, clear, cleanedBoth}
 use Rattle.steps.specs.Ops.{after, Keyed}
@@ -98,7 +100,7 @@ module _ (s : Settings) (w : List ℕ) (t : ℕ) (key : List ℕ) where
   module _ (rate : RateLimit) (c : ℕ) where
     abbrev counts : Change
     counts = edits.incChange (limitIn kind.Absolute s rate) c (absolute.allowed s t (heldIn w key)) (absolute.outFor s (ringOf w) t c (heldIn w key))
-        (slotIn s w t key)
+        (slotIn s w t key) (lookedIn s w t key)
 
     abbrev ownInc : List (ℕ × Bool)
     ownInc = absolute.incTurns s (ringOf w) (noneFree w) t rate c (heldIn w key)
@@ -107,7 +109,7 @@ module _ (s : Settings) (w : List ℕ) (t : ℕ) (key : List ℕ) where
     inc-does by e f =
         let p = passed kind.Absolute s w t key e in
         let l = limitIn kind.Absolute s rate in
-        let may = mayIn x in
+        let may = mayIn s t x in
         let out = outIn s w t c x in
         let a = inc-applies s w t key p l c (rateOk (rate .0)) may out (may-unknown s w t key p) (ap first (own-is s w t key p rate c) ∙ f) in
         subst (λ (u : Change). Does kind.Absolute s w t key (placeOf w x) u) (makes-is s w t key p rate c)
@@ -126,7 +128,7 @@ module _ (s : Settings) (w : List ℕ) (t : ℕ) (key : List ℕ) where
   abbrev asksAgain : Bool
   asksAgain = absolute.testsAgain (absolute.wholeLimit (heldIn w key)) (heldIn w key .buckets)
 
-  pub ask-does : early kind.Absolute s w t key ≡ 0 → (again : Bool) → Does kind.Absolute s w t key (x .at) (edits.askChange again x)
+  pub ask-does : early kind.Absolute s w t key ≡ 0 → (again : Bool) → Does kind.Absolute s w t key (x .at) (edits.askChange again (lookedIn s w t key))
   ask-does e again =
       let p = passed kind.Absolute s w t key e in
       record { passed = p; applies = ask-applies s w t key p again; moves = ask-moves s w t key p again; stores = ask-stores s w t key p again }
@@ -135,7 +137,7 @@ module _ (s : Settings) (w : List ℕ) (t : ℕ) (key : List ℕ) where
   unfolding OnAbsolute.isAllowed
   ask-step =
       call-step decisions.Refused kind.Absolute s w t (isAllowed key) key [] _
-      (λ e f. changed key refl (x .at) (edits.askChange asksAgain x) (ask-does e asksAgain) refl)
+      (λ e f. changed key refl (x .at) (edits.askChange asksAgain (lookedIn s w t key)) (ask-does e asksAgain) refl)
 
   pub get-does : early kind.Absolute s w t key ≡ 0 → Does kind.Absolute s w t key (x .at) (edits.getChange x)
   get-does e =
@@ -148,29 +150,40 @@ module _ (s : Settings) (w : List ℕ) (t : ℕ) (key : List ℕ) where
 
   -- ---- suppressed
 
+  -- as a first look leaves it
+  abbrev z : Slot
+  z = lookedIn s w t key
+
+  abbrev out : Bool
+  out = overdueIn s t (heldIn w key)
+
   abbrev asks : Asked
-  asks = rules.asking s t (heldIn w key)
+  asks = rules.asking s t true (heldIn w key)
+
+  abbrev looks : Asked
+  looks = rules.asking s t (overdueIn s t (heldIn w key)) (heldIn w key)
 
   -- of a call that passes refusals 1 to 7: the slot is seen as what the key holds
   module _ (e : early kind.Suppressed s w t key ≡ 0) where
     passing : Passed kind.Suppressed s w t key
     passing = passed kind.Suppressed s w t key e
 
-    sees : Seen (windowIn s) t (heldIn w key) (slotIn s w t key)
-    sees = seen kind.Suppressed s w t key passing
-
-    asked-as : rules.asking s t (heldIn w key) ≡ askedAt s w t (slotIn s w t key) (slotIn s w t key .limit)
-    asked-as = sym (asking-is s t h x sees w (second-is s w t key passing))
+    sees : Seen (windowTicks s) t (overdueIn s t (heldIn w key)) (heldIn w key) (lookedIn s w t key)
+    sees = seen.looks s w t key passing
 
     caching : CachingOk t (asks .caching)
-    caching = subst (λ (y : Asked). CachingOk t (y .caching)) (sym asked-as) (factor-ok s w t key e x refl .caching)
+    caching =
+        found-ok s w t key e asks (sym (asking-is s t true h x (seen.sees s w t key passing) w (second-is s w t key passing))) .caching
+
+    look-caching : CachingOk t (looks .caching)
+    look-caching = looked-ok s w t key e looks (sym (asking-is s t out h z sees w (second-looked s w t key passing))) .caching
 
     -- a slot that is not lacking is there
-    not-lacking : lacksSlot (noneFree w) (heldIn w key) ≡ false → lacksAt w (placeOf w (slotIn s w t key)) (slotIn s w t key) ≡ false
-    not-lacking g = lacks-is (windowIn s) t h x sees w ∙ g
+    not-lacking : lacksSlot (noneFree w) (heldIn w key) ≡ false → lacksAt w (placeOf w (lookedIn s w t key)) (lookedIn s w t key) ≡ false
+    not-lacking g = lacks-is (windowTicks s) t out h z sees w ∙ g
 
-    inside : lacksSlot (noneFree w) (heldIn w key) ≡ false → placeOf w (slotIn s w t key) < slotsOf w
-    inside g = place-inside s w t key passing x refl (not-lacking g)
+    inside : lacksSlot (noneFree w) (heldIn w key) ≡ false → placeOf w (lookedIn s w t key) < slotsOf w
+    inside g = place-inside s w t out z (stood-looked s w t key passing z refl) (not-lacking g)
 
   pub snapshot-does : early kind.Suppressed s w t key ≡ 0 → Does kind.Suppressed s w t key (x .at) (getChange x (asks .caching))
   snapshot-does e =
@@ -190,26 +203,26 @@ module _ (s : Settings) (w : List ℕ) (t : ℕ) (key : List ℕ) where
       (λ e f. changed key refl (x .at) (getChange x (asks .caching)) (snapshot-does e) refl)
 
   abbrev lacking : Bool
-  lacking = lacksAt w (placeOf w (slotIn s w t key)) (slotIn s w t key)
+  lacking = lacksAt w (placeOf w (lookedIn s w t key)) (lookedIn s w t key)
 
   pub factor-does : Bytes key → early kind.Suppressed s w t key ≡ 0 → first (rules.factorTurns (noneFree w) h) ≡ 0 →
-      Does kind.Suppressed s w t key (placeOf w x) (factorChange x (asks .caching) t)
+      Does kind.Suppressed s w t key (placeOf w z) (factorChange z (looks .caching) t)
   factor-does by e f =
       let p = passed kind.Suppressed s w t key e in
-      let k = asks .caching in
+      let k = looks .caching in
       let g = all-false (rules.factorTurns (noneFree w) h) (omega arith) f in
       record {
         passed = p;
-        applies = suppressed.factor-applies s w t key e x refl (placeOf w x) refl lacking refl (not-lacking e (g .0)) k (factorChange x k t) refl;
+        applies = suppressed.factor-applies s w t key e z refl (placeOf w z) refl lacking refl (not-lacking e (g .0)) k (factorChange z k t) refl;
         moves = factor-moves s w t key p by k (inside e (g .0));
-        stores = factor-stores s w t key p k (caching e);
+        stores = factor-stores s w t key p k (look-caching e);
       }
 
   factor-step : Bytes key → Step kind.Suppressed s w t (getFactor key) (OnSuppressed.getFactor s w t key .words)
   unfolding OnSuppressed.getFactor
   factor-step by =
       call-step factors.Refused kind.Suppressed s w t (getFactor key) key (rules.factorTurns (noneFree w) h) _
-      (λ e f. changed key refl (placeOf w x) (factorChange x (asks .caching) t) (factor-does by e f) refl)
+      (λ e f. changed key refl (placeOf w z) (factorChange z (looks .caching) t) (factor-does by e f) refl)
 
   module _ (rate : RateLimit) (c draw : ℕ) where
     abbrev limit : ℕ
@@ -222,40 +235,40 @@ module _ (s : Settings) (w : List ℕ) (t : ℕ) (key : List ℕ) where
     own = rules.incTurns s (ringOf w) (noneFree w) t rate c draw (heldIn w key)
 
     abbrev lates : List (ℕ × Bool)
-    lates = incLate s (slotIn s w t key) lacking (ringOf w) t rate c draw
+    lates = incLate s (lookedIn s w t key) lacking (ringOf w) t rate c draw
 
     abbrev adds : Change
-    adds = incChange x limit c (outcome .declined) (outcome .caching)
+    adds = incChange z limit c (outcome .declined) (outcome .caching)
 
     late : early kind.Suppressed s w t key ≡ 0 → first own ≡ 0 → first lates ≡ 0
     late e f = ap first (late-is s w t key rate c draw (passed kind.Suppressed s w t key e)) ∙ f
 
     -- what the code works out is what the rules decide
-    worked : (e : early kind.Suppressed s w t key ≡ 0) → outcome ≡ incOutcome s w t rate c draw x
+    worked : (e : early kind.Suppressed s w t key ≡ 0) → outcome ≡ incOutcome s w t rate c draw z
     worked e = sym (decides s w t key rate c draw (passed kind.Suppressed s w t key e))
 
-    pub draws-does : Bytes key → early kind.Suppressed s w t key ≡ 0 → first own ≡ 0 → Does kind.Suppressed s w t key (placeOf w x) adds
+    pub draws-does : Bytes key → early kind.Suppressed s w t key ≡ 0 → first own ≡ 0 → Does kind.Suppressed s w t key (placeOf w z) adds
     draws-does by e f =
         let p = passed kind.Suppressed s w t key e in
-        let l = limitAt s x rate in
+        let l = limitAt s z rate in
         let g = all-false own (omega arith) f in
         let o = outcome in
-        let u = incChange x l c (o .declined) (o .caching) in
-        subst (λ (n : ℕ). Does kind.Suppressed s w t key (placeOf w x) (incChange x n c (o .declined) (o .caching))) (limit-is s t h x (sees e) rate)
+        let u = incChange z l c (o .declined) (o .caching) in
+        subst (λ (n : ℕ). Does kind.Suppressed s w t key (placeOf w z) (incChange z n c (o .declined) (o .caching))) (limit-is s t out h z (sees e) rate)
         (record {
           passed = p;
-          applies = suppressed.inc-applies s w t key e x refl (placeOf w x) refl lacking refl rate c draw (ringOf w) (first lates) refl refl (late e f) o l
-              (forecastAt x c) refl refl (worked e) u refl;
+          applies = suppressed.inc-applies s w t key e z refl (placeOf w z) refl lacking refl rate c draw (ringOf w) (first lates) refl refl (late e f) o l
+              (forecastAt z c) refl refl (worked e) u refl;
           moves = draws-moves s w t key p by l c (o .declined) (o .caching) (inside e (g .1 .1 .1 .0));
           stores = draws-stores s w t key p rate c (o .declined) (o .caching)
-              (decision-ok s w t key e x refl rate c draw (late e f) o (worked e) .1) (not-false _ (g .0));
+              (decision-ok s w t key e rate c draw (late e f) o (worked e) .1) (not-false _ (g .0));
         })
 
     draws-step : Bytes key → Step kind.Suppressed s w t (draws key rate c draw) (OnSuppressed.inc s w t key rate c draw .words)
     unfolding OnSuppressed.inc
     draws-step by =
         call-step decisions.Refused kind.Suppressed s w t (draws key rate c draw) key own _
-        (λ e f. changed key refl (placeOf w x) adds (draws-does by e f) refl)
+        (λ e f. changed key refl (placeOf w z) adds (draws-does by e f) refl)
 
 -- ---- both
 
@@ -304,12 +317,12 @@ module _ (k : RoomKind) (s : Settings) (w : List ℕ) (t : ℕ) where
           Does k s w t key (placeOf w slot) (setting slot still (limitIn k s rate) count mode)
       set-does by e f =
           let p = passed k s w t key e in
-          let o = seen k s w t key p in
+          let o = slots.seen k s w t key p in
           let l = limitIn k s rate in
           let g = all-false ownSet (omega arith) f in
           let i = idle-is s t (heldIn w key) slot o l count mode comparator in
           let none : not still && lacksAt w (placeOf w slot) slot ≡ false =
-          ap (λ (z : Bool). not still && z) (lacks-is (windowIn s) t (heldIn w key) slot o w) ∙ g .1 .1 .0 in
+          ap (λ (z : Bool). not still && z) (lacks-is (windowTicks s) t true (heldIn w key) slot o w) ∙ g .1 .1 .0 in
           let a = set-applies k s w t key p still l count comparator mode (sym i) (ltb-false mostTotal count (g .1 .0)) none in
           record {
             passed = p;
@@ -356,13 +369,13 @@ unfolding Provider.decided
 both-step kind.Absolute s w t other stale = go (eqb (Provider.refusalOfBoth s w other t) 0) refl
   where
     go : (z : Bool) → eqb (Provider.refusalOfBoth s w other t) 0 ≡ z →
-        Step kind.Absolute s w t (cleanupBoth other stale) (cond z (Uses.cleaned w t stale) w)
+        Step kind.Absolute s w t (cleanupBoth other stale) (cond z (Uses.cleaned w t (ticksIn s) stale) w)
     go true e = cleaned stale refl (both-passed s w other t (eqb-true _ 0 e) .0) refl
     go false e = refused refl
 both-step kind.Suppressed s w t other stale = go (eqb (Provider.refusalOfBoth s other w t) 0) refl
   where
     go : (z : Bool) → eqb (Provider.refusalOfBoth s other w t) 0 ≡ z →
-        Step kind.Suppressed s w t (cleanupBoth other stale) (cond z (Uses.cleaned w t stale) w)
+        Step kind.Suppressed s w t (cleanupBoth other stale) (cond z (Uses.cleaned w t (ticksIn s) stale) w)
     go true e = cleaned stale refl (both-passed s other w t (eqb-true _ 0 e) .1) refl
     go false e = refused refl
 

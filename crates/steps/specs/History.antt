@@ -5,7 +5,7 @@ use mathlib.Core.Bool.{true, cond}
 use mathlib.Core.List.{List, [], _∷_}
 use Prim.Native.Nat.{ℕ, _<_}
 use native.Mathlib.Omega.{arith}
-use Rattle.settings.specs.Settings.{windowIn, bucketIn}
+use Rattle.settings.specs.Clock.{windowTicks, joinTicks}
 use Rattle.settings.specs.declared.Settings.{Settings}
 use Rattle.rules.specs.Buckets.{live}
 use Rattle.ring.specs.declared.Bucket.{Bucket}
@@ -59,16 +59,16 @@ module _ (kind : RoomKind) (s : Settings) (P : List ℕ → Type 0)
 
 pub record Closed (s : Settings) (I : List Bucket → Type 0) : Type 0 where
   pub none : I []
-  pub live : (t : ℕ) (xs : List Bucket) → I xs → I (live (windowIn s) t xs)
-  pub acts : (t : ℕ) (then : Then) (xs : List Bucket) → I xs → I (actedView (bucketIn s) t then xs)
+  pub live : (t : ℕ) (xs : List Bucket) → I xs → I (live (windowTicks s) t xs)
+  pub acts : (t : ℕ) (then : Then) (xs : List Bucket) → I xs → I (actedView (joinTicks s) t then xs)
 
 module _ (s : Settings) (I : List Bucket → Type 0) (c : Closed s I) where
-  starts-closed : (t : ℕ) (xs zs : List Bucket) → Starts (windowIn s) t xs zs → I xs → I zs
+  starts-closed : (t : ℕ) (xs zs : List Bucket) → Starts (windowTicks s) t xs zs → I xs → I zs
   starts-closed t xs zs (all e) p = subst I (sym e) p
   starts-closed t xs zs (lives e) p = subst I (sym e) (c .live t xs p)
   starts-closed t xs zs (none e) p = subst I (sym e) (c .none)
 
-  pub becomes-closed : (t : ℕ) (xs ys : List Bucket) → Becomes (windowIn s) (bucketIn s) t xs ys → I xs → I ys
+  pub becomes-closed : (t : ℕ) (xs ys : List Bucket) → Becomes (windowTicks s) (joinTicks s) t xs ys → I xs → I ys
   becomes-closed t xs ys h p = subst I (sym (h .acts)) (c .acts t (h .then) (h .from) (starts-closed t xs (h .from) (h .starts) p))
 
   abbrev pub Everywhere : List ℕ → Type 0

@@ -10,7 +10,7 @@ use native.Mathlib.Decide.{ℕ-discrete}
 use native.Mathlib.Omega.{arith}
 use lib.Dec.{ltb}
 use borrow.Author.Tests.{lt-ltb, le-ltb, ltb-true}
-use Rattle.settings.specs.Settings.{windowIn, bucketIn}
+use Rattle.settings.specs.Clock.{ticksIn, windowTicks, joinTicks}
 use Rattle.settings.specs.declared.Settings.{Settings}
 use Rattle.ring.specs.declared.Bucket.{Bucket}
 use Rattle.ring.specs.Ring.{buckets}
@@ -46,13 +46,13 @@ untouched-entry u n = still (λ z. n (u .used ∙ z)) (u .key)
 
 module _ (kind : RoomKind) (s : Settings) (w : List ℕ) (t : ℕ) (key : List ℕ) (at : ℕ) where
   abbrev after : Change → List ℕ
-  after change = applied w at key (bucketIn s) t change
+  after change = applied w at key (joinTicks s) t change
 
   here-entry : (change : Change) → Does kind s w t key at change → at < slotsOf w → useOf (after change) at ≢ 0 → Entry w (after change) at
   here-entry Keep d h n = untouched-entry (keep-untouched kind s w t key at (d .applies) at h) n
-  here-entry Free d h n = absurd (n (free-changed w at key (bucketIn s) t (d .applies .room) (d .applies .inside) .used))
-  here-entry (Update e) d h n = still (d .moves .owns .used) (update-changed w at key (bucketIn s) t e (d .applies) .key)
-  here-entry (Take e) d h n = enters (subst (λ (k : Key). Lacks w at k) (sym (take-changed w at key (bucketIn s) t e (d .applies) .key)) (d .moves .lacks))
+  here-entry Free d h n = absurd (n (free-changed w at key (joinTicks s) t (d .applies .room) (d .applies .inside) .used))
+  here-entry (Update e) d h n = still (d .moves .owns .used) (update-changed w at key (joinTicks s) t e (d .applies) .key)
+  here-entry (Take e) d h n = enters (subst (λ (k : Key). Lacks w at k) (sym (take-changed w at key (joinTicks s) t e (d .applies) .key)) (d .moves .lacks))
 
   change-entry : (change : Change) → Does kind s w t key at change → (i : ℕ) → i < slotsOf w → useOf (after change) i ≢ 0 → Entry w (after change) i
   change-entry change d i h n = go (ℕ-discrete i at)
@@ -64,7 +64,7 @@ module _ (kind : RoomKind) (s : Settings) (w : List ℕ) (t : ℕ) (key : List �
   -- another key's slot stands
   pub change-same : (change : Change) → Does kind s w t key at change → Distinct w → (k : Key) → k ≢ keyOf key → Same k w (after change) t
   change-same change d q k n =
-      placed-same w at key (bucketIn s) t q change (d .applies) (moves-placed (slotIn s w t key) w (keyOf key) at change (d .moves)) k n
+      placed-same w at key (joinTicks s) t q change (d .applies) (moves-placed (slotIn s w t key) w (keyOf key) at change (d .moves)) k n
 
 module _ (kind : RoomKind) (s : Settings) (w : List ℕ) (t : ℕ) (op : Op kind) (v : List ℕ) where
   pub step-entry : Step kind s w t op v → (i : ℕ) → i < slotsOf w → useOf v i ≢ 0 → Entry w v i
@@ -72,7 +72,7 @@ module _ (kind : RoomKind) (s : Settings) (w : List ℕ) (t : ℕ) (op : Op kind
   step-entry (changed key who at change d e) i h n =
       subst (λ (y : List ℕ). Entry w y i) (sym e) (change-entry kind s w t key at change d i h (subst (λ (y : List ℕ). useOf y i ≢ 0) e n))
   step-entry (cleaned stale z p e) i h n =
-      let c = clean-run w t stale (p .room) in
+      let c = clean-run w t (ticksIn s) stale (p .room) in
       still (was-used c i h (subst (λ (y : List ℕ). useOf y i ≢ 0) e n)) (ap (λ (y : List ℕ). keyAt y i) e ∙ c .keys i)
   step-entry (cleared z r l e) i h n = absurd (n (ap (λ (y : List ℕ). useOf y i) e ∙ clear-read-run w r t .free i h))
 
@@ -88,32 +88,33 @@ series-none : (w : List ℕ) (k : Key) → slotsOf w ≤ find w k → seriesOf w
 series-none w k h = ap (λ (z : Bool). cond z (seriesAt w (find w k)) []) (le-ltb (find w k) (slotsOf w) h)
 
 pub step-key : (kind : RoomKind) (s : Settings) (w : List ℕ) (t : ℕ) (op : Op kind) (v : List ℕ) → Sane kind s w → Step kind s w t op v → (k : Key) →
-    Becomes (windowIn s) (bucketIn s) t (seriesOf w k) (seriesOf v k)
+    Becomes (windowTicks s) (joinTicks s) t (seriesOf w k) (seriesOf v k)
 step-key kind s w t op v o m k = go (ltb (find v k) (slotsOf v)) refl
   where
-    found : (h : find v k < slotsOf v) → Entry w v (find v k) → Becomes (windowIn s) (bucketIn s) t (seriesOf w k) (seriesAt v (find v k))
+    found : (h : find v k < slotsOf v) → Entry w v (find v k) → Becomes (windowTicks s) (joinTicks s) t (seriesOf w k) (seriesAt v (find v k))
     found h (still u e) =
         let l : find v k < slotsOf w = omega (arith, h, step-leaves kind s w t op v (o .sound .room) m .slots) in
         let q : find w k ≡ find v k = find-where w k (find v k) (o .distinct) l u (sym e ∙ find-key v k h) in
-        subst (λ (xs : List Bucket). Becomes (windowIn s) (bucketIn s) t xs (seriesAt v (find v k))) (sym (series-here w k (find v k) l q))
+        subst (λ (xs : List Bucket). Becomes (windowTicks s) (joinTicks s) t xs (seriesAt v (find v k))) (sym (series-here w k (find v k) l q))
         (step-becomes kind s w t op v m (find v k) l)
     found h (enters c) =
         let l : find v k < slotsOf w = omega (arith, h, step-leaves kind s w t op v (o .sound .room) m .slots) in
         let a : seriesAt w (find v k) ≡ [] = ap (λ (u : ℕ). cond (hasSeries u) (buckets (ringOf w) (bodyOf w (find v k))) []) (c .free) in
         let b : seriesOf w k ≡ [] = series-none w k (subst (λ (j : Key). slotsOf w ≤ find w j) (find-key v k h) (c .none)) in
-        subst (λ (xs : List Bucket). Becomes (windowIn s) (bucketIn s) t xs (seriesAt v (find v k))) (a ∙ sym b) (step-becomes kind s w t op v m (find v k) l)
+        subst (λ (xs : List Bucket). Becomes (windowTicks s) (joinTicks s) t xs (seriesAt v (find v k))) (a ∙ sym b)
+        (step-becomes kind s w t op v m (find v k) l)
 
-    go : (z : Bool) → ltb (find v k) (slotsOf v) ≡ z → Becomes (windowIn s) (bucketIn s) t (seriesOf w k) (cond z (seriesAt v (find v k)) [])
+    go : (z : Bool) → ltb (find v k) (slotsOf v) ≡ z → Becomes (windowTicks s) (joinTicks s) t (seriesOf w k) (cond z (seriesAt v (find v k)) [])
     go true e =
         let h : find v k < slotsOf v = ltb-true _ _ e in
         found h (step-entry kind s w t op v m (find v k) (omega (arith, h, step-leaves kind s w t op v (o .sound .room) m .slots)) (find-use v k h))
-    go false e = goes (windowIn s) (bucketIn s) t _ _ refl
+    go false e = goes (windowTicks s) (joinTicks s) t _ _ refl
 
 -- ---- a call of another key leaves a key's buckets: this is where the step's key counts
 
 module _ (kind : RoomKind) (s : Settings) (w : List ℕ) (t : ℕ) (key : List ℕ) (at : ℕ) (k : Key) (n : keyOf key ≢ k) where
   abbrev left : Change → List ℕ
-  left change = applied w at key (bucketIn s) t change
+  left change = applied w at key (joinTicks s) t change
 
   -- a slot with the named key is not k's
   away : keyAt w at ≡ keyOf key → find w k < slotsOf w → find w k ≢ at
@@ -126,14 +127,14 @@ module _ (kind : RoomKind) (s : Settings) (w : List ℕ) (t : ℕ) (key : List �
   stands (Take e) d h = others kind s w t key at (Take e) d (find w k) h (λ q. find-use w k h (ap (useOf w) q ∙ d .moves .lacks .free))
 
   finds : (change : Change) → Does kind s w t key at change → find (left change) k ≡ find w k
-  finds Keep d = ap (λ (v : List ℕ). find v k) (keep-words w at key (bucketIn s) t) ∙ find-still (read-run w 0 t (d .applies) (d .applies .one)) refl refl k
+  finds Keep d = ap (λ (v : List ℕ). find v k) (keep-words w at key (joinTicks s) t) ∙ find-still (read-run w 0 t (d .applies) (d .applies .one)) refl refl k
   finds Free d =
       let e = d .moves .key in
-      find-beside (free-changed w at key (bucketIn s) t (d .applies .room) (d .applies .inside)) k (λ q. n (sym e ∙ q)) (λ u q. n (sym e ∙ q))
+      find-beside (free-changed w at key (joinTicks s) t (d .applies .room) (d .applies .inside)) k (λ q. n (sym e ∙ q)) (λ u q. n (sym e ∙ q))
   finds (Update c) d =
       let e = d .moves .owns .key in
-      find-beside (update-changed w at key (bucketIn s) t c (d .applies)) k (λ q. n (sym e ∙ q)) (λ u q. n (sym e ∙ q))
-  finds (Take c) d = find-beside (take-changed w at key (bucketIn s) t c (d .applies)) k n (λ u q. u (d .moves .lacks .free))
+      find-beside (update-changed w at key (joinTicks s) t c (d .applies)) k (λ q. n (sym e ∙ q)) (λ u q. n (sym e ∙ q))
+  finds (Take c) d = find-beside (take-changed w at key (joinTicks s) t c (d .applies)) k n (λ u q. u (d .moves .lacks .free))
 
   pub change-other : (change : Change) → Does kind s w t key at change → seriesOf (left change) k ≡ seriesOf w k
   change-other change d =

@@ -9,7 +9,7 @@ use Prim.Native.Nat.{ℕ, _≤_, _<_}
 use native.Mathlib.Decide.{ℕ-discrete}
 use native.Mathlib.Omega.{arith}
 use lib.ListN.{drop}
-use Rattle.settings.specs.Settings.{windowIn, bucketIn}
+use Rattle.settings.specs.Clock.{ticksIn, windowTicks, joinTicks}
 use Rattle.answers.specs.declared.HistoryPreservation.{HistoryPreservation}
 use Rattle.settings.specs.declared.Settings.{Settings}
 use Rattle.rules.specs.Buckets.{live, gone, joined, replaced, preserved}
@@ -127,13 +127,13 @@ module _ (kind : RoomKind) (s : Settings) (w : List ℕ) (t : ℕ) (key : List �
   x = slotIn s w t key
 
   abbrev W : ℕ
-  W = windowIn s
+  W = windowTicks s
 
   abbrev b : ℕ
-  b = bucketIn s
+  b = joinTicks s
 
   abbrev after : Change → List ℕ
-  after change = applied w at key (bucketIn s) t change
+  after change = applied w at key (joinTicks s) t change
 
   -- only the reading
   pub keep-untouched : Room w → (i : ℕ) → i < slotsOf w → Untouched w (after Keep) i
@@ -261,10 +261,10 @@ module _ (kind : RoomKind) (s : Settings) (w : List ℕ) (t : ℕ) (op : Op kind
         slots = a .slots;
         ring = a .ring;
         later = omega (arith, a .last, d .passed .later);
-        distinct = λ q. placed-distinct w at key (bucketIn s) t q change (d .applies) (moves-placed (slotIn s w t key) w (keyOf key) at change (d .moves));
+        distinct = λ q. placed-distinct w at key (joinTicks s) t q change (d .applies) (moves-placed (slotIn s w t key) w (keyOf key) at change (d .moves));
       })
   step-leaves o (cleaned stale z p e) =
-      let c = clean-run w t stale (p .room) in
+      let c = clean-run w t (ticksIn s) stale (p .room) in
       subst (λ (y : List ℕ). Leaves w y) (sym e)
       (record { room = c .room; slots = c .slots; ring = c .ring; later = omega (arith, c .last, p .later); distinct = clean-distinct c })
   step-leaves o (cleared z r l e) =
@@ -272,20 +272,20 @@ module _ (kind : RoomKind) (s : Settings) (w : List ℕ) (t : ℕ) (op : Op kind
       subst (λ (y : List ℕ). Leaves w y) (sym e)
       (record { room = c .room; slots = c .slots; ring = c .ring; later = omega (arith, c .last); distinct = λ d. cleared-distinct w _ t c })
 
-  pub step-becomes : Step kind s w t op v → (i : ℕ) → i < slotsOf w → Becomes (windowIn s) (bucketIn s) t (seriesAt w i) (seriesAt v i)
-  step-becomes (refused e) i h = stays (windowIn s) (bucketIn s) t _ _ (ap (λ (y : List ℕ). seriesAt y i) e)
+  pub step-becomes : Step kind s w t op v → (i : ℕ) → i < slotsOf w → Becomes (windowTicks s) (joinTicks s) t (seriesAt w i) (seriesAt v i)
+  step-becomes (refused e) i h = stays (windowTicks s) (joinTicks s) t _ _ (ap (λ (y : List ℕ). seriesAt y i) e)
   step-becomes (changed key who at change d e) i h =
-      subst (λ (y : List ℕ). Becomes (windowIn s) (bucketIn s) t (seriesAt w i) (seriesAt y i)) (sym e) (change-becomes kind s w t key at change d i h)
+      subst (λ (y : List ℕ). Becomes (windowTicks s) (joinTicks s) t (seriesAt w i) (seriesAt y i)) (sym e) (change-becomes kind s w t key at change d i h)
   step-becomes (cleaned stale z p e) i h =
-      let y = Uses.cleaned w t stale in
-      let c = clean-run w t stale (p .room) in
-      let stood = seriesStays (buckets (ringOf w) (bodyOf w i)) t stale in
+      let y = Uses.cleaned w t (ticksIn s) stale in
+      let c = clean-run w t (ticksIn s) stale (p .room) in
+      let stood = seriesStays (buckets (ringOf w) (bodyOf w i)) t (ticksIn s) stale in
       let q : seriesAt y i ≡ cond (hasSeries (useOf w i) && stood) (buckets (ringOf y) (bodyOf y i)) [] =
       ap (λ (z : Bool). cond z (buckets (ringOf y) (bodyOf y i)) []) (series-kept c i h) in
-      subst (λ (ys : List Bucket). Becomes (windowIn s) (bucketIn s) t (seriesAt w i) ys) (sym (ap (λ (y : List ℕ). seriesAt y i) e ∙ q))
-      (clean-goes (windowIn s) (bucketIn s) t (hasSeries (useOf w i)) stood _ _ (ap₂ buckets (c .ring) (c .bodies i)))
+      subst (λ (ys : List Bucket). Becomes (windowTicks s) (joinTicks s) t (seriesAt w i) ys) (sym (ap (λ (y : List ℕ). seriesAt y i) e ∙ q))
+      (clean-goes (windowTicks s) (joinTicks s) t (hasSeries (useOf w i)) stood _ _ (ap₂ buckets (c .ring) (c .bodies i)))
   step-becomes (cleared z r l e) i h =
       let y = withReading (clearedWords w) t in
       let c = clear-read-run w r t in
-      goes (windowIn s) (bucketIn s) t _ _
+      goes (windowTicks s) (joinTicks s) t _ _
       (ap (λ (y : List ℕ). seriesAt y i) e ∙ ap (λ (u : ℕ). cond (hasSeries u) (buckets (ringOf y) (bodyOf y i)) []) (c .free i h))

@@ -8,7 +8,8 @@ use Prim.Native.Nat.{ℕ}
 use lib.Dec.{leb}
 use Rattle.suppression.specs.Factor.{factorWordOk}
 use Rattle.common.specs.Limits.{limitOk}
-use Rattle.settings.specs.Settings.{windowIn, bucketIn, factorIn}
+use Rattle.settings.specs.Settings.{windowIn, factorIn}
+use Rattle.settings.specs.Clock.{joinTicks}
 use Rattle.settings.specs.declared.Settings.{Settings}
 use Rattle.keys.specs.declared.Key.{Key}
 use Rattle.keys.specs.Keys.{keyOf, keyFits}
@@ -87,6 +88,6 @@ moves-placed x w k at (Take e) m = m .lacks
 -- a call that passed refusals 1 to 7, and its change
 pub record Does (kind : RoomKind) (s : Settings) (w : List ℕ) (t : ℕ) (key : List ℕ) (at : ℕ) (change : Change) : Type 0 where
   pub passed : Passed kind s w t key
-  pub applies : Applies w at (bucketIn s) t change
+  pub applies : Applies w at (joinTicks s) t change
   pub moves : Moves (slotIn s w t key) w (keyOf key) at change
   pub stores : Stores kind s t change

@@ -1,7 +1,7 @@
 -- Each call with a key changes a room where it should, and starts from the buckets that it should (`Moves`). x is the key's slot.
 -- Assumes nothing.
 use mathlib.Core.Path.{_≡_, refl, sym, ap, ap₂, subst, _∙_}
-use mathlib.Core.Bool.{Bool, true, false, _&&_, _||_, cond, true≢false}
+use mathlib.Core.Bool.{Bool, true, false, _||_, cond, true≢false}
 use mathlib.Core.List.{List}
 use Prim.Native.Nat.{ℕ, _≤_, _<_}
 use native.Mathlib.Decide.{decLt}
@@ -9,8 +9,7 @@ use native.Mathlib.Omega.{arith}
 use lib.Dec.{eqb}
 use lib.ListN.{length}
 use borrow.Author.Tests.{le-ltb, eqb-true}
-use Rattle.base.specs.Decides.{and-true}
-use Rattle.settings.specs.Settings.{bucketIn}
+use Rattle.settings.specs.Clock.{lookTicks, joinTicks}
 use Rattle.common.specs.declared.comparator.RateLimitComparator.{RateLimitComparator}
 use Rattle.answers.specs.declared.HistoryUpdateMode.{HistoryUpdateMode}
 use Rattle.answers.specs.declared.HistoryUpdateMode.the-variants as mode
@@ -27,8 +26,9 @@ use Rattle.change.specs.Words.{Applies}
 use Rattle.rules.specs.declared.RoomKind.{RoomKind}
 use Rattle.rules.specs.declared.RoomKind.the-variants as kind
 use Rattle.opened.specs.declared.Slot.{Slot}
-use Rattle.judge.specs.Judge.{Passed, slotIn}
-use Rattle.opened.specs.Slot.{hasSlot}
+use Rattle.judge.specs.Judge.{Passed, slotIn, lookedIn}
+use Rattle.opened.specs.Look.{by-look, look-at, look-series, look-cached}
+use Rattle.opened.specs.Slot.{hasSlot, allStay, firstLook}
 use Rattle.opened.specs.Right.{addressed-at}
 use Rattle.opened.specs.Sound.{hasSeries, rightUse, addressed}
 use Rattle.plan.specs.Known.{Found, found, series-is, cached-is, use-right}
@@ -53,10 +53,10 @@ setTo x limit count m none known lone =
     cond none Free
     (cond known (Update (reset x limit count m)) (cond lone (Update (begins limit count (x .factor) (x .«factor_time»))) (Take (begins limit count 0 0))))
 
--- an absolute increment: of a known series, which is allowed
-abbrev pub incTo : Slot → ℕ → ℕ → Bool → Bool → Bool → Change
-incTo x limit c out known allowed =
-    absolute.pickChange known (absolute.pickChange allowed (Update (absolute.leaving out x (then.Increment c 0))) (Update (evicting x then.Nothing)))
+-- an absolute increment: of a known series, which is allowed; y is the slot as its first look leaves it
+abbrev pub incTo : Slot → Slot → ℕ → ℕ → Bool → Bool → Bool → Change
+incTo x y limit c out known allowed =
+    absolute.pickChange known (absolute.pickChange allowed (Update (absolute.leaving out x (then.Increment c 0))) (Update (evicting y then.Nothing)))
     (Take (opening limit (then.Increment c 0) 0 0 1))
 
 -- where neither is there
@@ -107,6 +107,15 @@ reset-from x limit count (mode.Preserve p) e = evicts e refl refl
 leaving-from : (x : Slot) (out : Bool) (c : ℕ) → x .series ≡ true → From x (absolute.leaving out x (then.Increment c 0))
 leaving-from x true c e = evicts e refl refl
 leaving-from x false c e = keeps e refl refl tt
+
+-- what a first look leaves starts from all of the slot's buckets, or from those that are not expired
+all-from : (x : Slot) (e : Edit) → Plain (e .then) → From (allStay x) e → From x e
+all-from x e plain (opens z n) = opens z n
+all-from x e plain (keeps h z g n) = keeps h z g n
+all-from x e plain (evicts h z g) = keeps h z g plain
+
+look-from : (look t : ℕ) (x : Slot) (e : Edit) → Plain (e .then) → From (firstLook look t x) e → From x e
+look-from look t x e plain = by-look look t x (λ (y : Slot). From y e → From x e) (λ f. f) (all-from x e plain)
 
 or-false : (a b : Bool) → a || b ≡ false → a ≡ false
 or-false true b e = e
@@ -202,13 +211,13 @@ module _ (k : RoomKind) (s : Settings) (w : List ℕ) (t : ℕ) (key : List ℕ)
 
   pub set-moves : Bytes key → (still : Bool) (limit count : ℕ) (comparator : RateLimitComparator) (mode : HistoryUpdateMode) →
       still ≡ idleAt x limit comparator count mode →
-      Applies w (placeOf w x) (bucketIn s) t (setting x still limit count mode) → Moves x w (keyOf key) (placeOf w x) (setting x still limit count mode)
+      Applies w (placeOf w x) (joinTicks s) t (setting x still limit count mode) → Moves x w (keyOf key) (placeOf w x) (setting x still limit count mode)
   unfolding setting stored placeOf
   set-moves by true limit count comparator mode i a = tt
   set-moves by false limit count comparator mode i a = go (eqb count 0) refl (x .series) refl (x .cached) refl a
     where
       go : (z : Bool) → eqb count 0 ≡ z → (r : Bool) → x .series ≡ r → (c : Bool) → x .cached ≡ c →
-          Applies w place (bucketIn s) t (setTo x limit count mode z r c) →
+          Applies w place (joinTicks s) t (setTo x limit count mode z r c) →
           Moves x w (keyOf key) place (setTo x limit count mode z r c)
       go true z r e c f o = let h = known-has x (busy-known x limit count comparator mode z i) in subst (λ (i : ℕ). Owns w i (keyOf key)) (here h) (owns h)
       go false z true e c f o = updates (known-has x e) _ (reset-from x limit count mode e)
@@ -242,20 +251,34 @@ module _ (s : Settings) (w : List ℕ) (t : ℕ) (key : List ℕ) (p : Passed ki
   unfolding absolute.getChange
   get-moves = picked (slot .series) (λ e. e)
 
-  pub ask-moves : (again : Bool) → Moves slot w (keyOf key) (slot .at) (absolute.askChange again slot)
-  ask-moves true = get-moves
+  -- as a first look leaves it
+  abbrev looked : Slot
+  looked = lookedIn s w t key
+
+  look-evicts : slot .series ≡ true → From slot (evicting looked then.Nothing)
+  look-evicts e = look-from (lookTicks s) t slot (evicting looked then.Nothing) tt (evicts (look-series (lookTicks s) t slot ∙ e) refl refl)
+
+  pub ask-moves : (again : Bool) → Moves slot w (keyOf key) (slot .at) (absolute.askChange again looked)
+  unfolding absolute.getChange
+  ask-moves true = go (looked .series) refl
+    where
+      go : (z : Bool) → looked .series ≡ z → Moves slot w (keyOf key) (slot .at) (absolute.pickChange z (Update (evicting looked then.Nothing)) Keep)
+      go true e =
+          let h = sym (look-series (lookTicks s) t slot) ∙ e in
+          updates-at kind.Absolute s w t key p (known-has slot h) _ (look-evicts h)
+      go false e = tt
   ask-moves false = tt
 
-  pub inc-moves : Bytes key → (limit c : ℕ) (may out : Bool) → Applies w (placeOf w slot) (bucketIn s) t (absolute.incChange limit c may out slot) →
-      Moves slot w (keyOf key) (placeOf w slot) (absolute.incChange limit c may out slot)
+  pub inc-moves : Bytes key → (limit c : ℕ) (may out : Bool) → Applies w (placeOf w slot) (joinTicks s) t (absolute.incChange limit c may out slot looked) →
+      Moves slot w (keyOf key) (placeOf w slot) (absolute.incChange limit c may out slot looked)
   unfolding absolute.incChange placeOf
   inc-moves by limit c may out a = go (slot .series) refl may a
     where
       go : (z : Bool) → slot .series ≡ z → (y : Bool) →
-          Applies w (place kind.Absolute s w t key p) (bucketIn s) t (incTo slot limit c out z y) →
-          Moves slot w (keyOf key) (place kind.Absolute s w t key p) (incTo slot limit c out z y)
+          Applies w (place kind.Absolute s w t key p) (joinTicks s) t (incTo slot looked limit c out z y) →
+          Moves slot w (keyOf key) (place kind.Absolute s w t key p) (incTo slot looked limit c out z y)
       go true e true o = updates kind.Absolute s w t key p (known-has slot e) _ (leaving-from slot out c e)
-      go true e false o = updates kind.Absolute s w t key p (known-has slot e) _ (evicts e refl refl)
+      go true e false o = updates kind.Absolute s w t key p (known-has slot e) _ (look-evicts e)
       go false e y o = takes kind.Absolute s w t key p by (none e) (o .inside) _ refl tt
 
 -- ---- suppressed
@@ -275,28 +298,52 @@ module _ (s : Settings) (w : List ℕ) (t : ℕ) (key : List ℕ) (p : Passed ki
       go true e = updates-at kind.Suppressed s w t key p (known-has y e) _ (recached-from y k e)
       go false e = tt
 
-  lone-by : Bytes key → (z : Bool) → y .series ≡ false → y .cached ≡ z → site < slotsOf w → Moves y w (keyOf key) site (loneBy z t)
+  -- as a first look leaves it: in the same place
+  abbrev z : Slot
+  z = lookedIn s w t key
+
+  place-same : placeOf w z ≡ site
+  unfolding placeOf
+  place-same =
+      ap₂ (λ (a b : Bool). cond (a || b) (z .at) (vacant w)) (look-series (lookTicks s) t y) (look-cached (lookTicks s) t y) ∙
+      ap (λ (i : ℕ). cond (hasSlot y) i (vacant w)) (look-at (lookTicks s) t y)
+
+  lone-by : Bytes key → (b : Bool) → y .series ≡ false → y .cached ≡ b → site < slotsOf w → Moves y w (keyOf key) site (loneBy b t)
   lone-by by true e f l = updates kind.Suppressed s w t key p (cached-has y e f) _ (opens refl tt)
   lone-by by false e f l = takes kind.Suppressed s w t key p by (neither y e f) l _ refl tt
 
-  lone-moves : Bytes key → (k : Caching) → y .series ≡ false → site < slotsOf w → Moves y w (keyOf key) site (loneChange (y .cached) k t)
+  lone-moves : Bytes key → (k : Caching) → y .series ≡ false → site < slotsOf w → Moves y w (keyOf key) site (loneChange (z .cached) k t)
   lone-moves by Left e l = tt
-  lone-moves by (Cached k) e l = lone-by by (y .cached) e refl l
+  lone-moves by (Cached k) e l = lone-by by (z .cached) e (sym (look-cached (lookTicks s) t y)) l
 
-  pub factor-moves : Bytes key → (k : Caching) → placeOf w y < slotsOf w → Moves y w (keyOf key) (placeOf w y) (factorChange y k t)
-  unfolding factorChange getChange placeOf
-  factor-moves by k l = go (y .series) refl
-    where
-      go : (z : Bool) → y .series ≡ z →
-          Moves y w (keyOf key) site (cond z (cond z (Update (recached y k (evicting y then.Nothing))) Keep) (loneChange (y .cached) k t))
-      go true e = updates kind.Suppressed s w t key p (known-has y e) _ (recached-from y k e)
-      go false e = lone-moves by k e l
+  recached-plain : (k : Caching) → Plain (recached z k (evicting z then.Nothing) .then)
+  unfolding recached
+  recached-plain k = tt
 
-  pub draws-moves : Bytes key → (limit c d : ℕ) (k : Caching) → placeOf w y < slotsOf w → Moves y w (keyOf key) (placeOf w y) (incChange y limit c d k)
-  unfolding incChange placeOf
-  draws-moves by limit c d k l = go (hasSlot y) refl
+  pub factor-moves : Bytes key → (k : Caching) → placeOf w z < slotsOf w → Moves y w (keyOf key) (placeOf w z) (factorChange z k t)
+  unfolding factorChange getChange
+  factor-moves by k l =
+      subst (λ (i : ℕ). Moves y w (keyOf key) i (factorChange z k t)) (sym place-same) (go (z .series) refl (subst (λ (i : ℕ). i < slotsOf w) place-same l))
     where
-      go : (z : Bool) → hasSlot y ≡ z →
-          Moves y w (keyOf key) site (cond z (Update (recached y k (incEdit y limit c d))) (Take (recached y k (incEdit y limit c d))))
-      go true e = updates kind.Suppressed s w t key p e _ (inc-from y k limit c d)
-      go false e = takes kind.Suppressed s w t key p by e l _ (inc-begins y k limit c d (or-false (y .series) (y .cached) e)) (inc-plain y k limit c d)
+      go : (b : Bool) → z .series ≡ b → site < slotsOf w →
+          Moves y w (keyOf key) site (cond b (cond b (Update (recached z k (evicting z then.Nothing))) Keep) (loneChange (z .cached) k t))
+      go true e i =
+          updates kind.Suppressed s w t key p (known-has y (sym (look-series (lookTicks s) t y) ∙ e)) _
+          (look-from (lookTicks s) t y _ (recached-plain k) (recached-from z k e))
+      go false e i = lone-moves by k (sym (look-series (lookTicks s) t y) ∙ e) i
+
+  has-same : hasSlot z ≡ hasSlot y
+  has-same = ap₂ (λ (a b : Bool). a || b) (look-series (lookTicks s) t y) (look-cached (lookTicks s) t y)
+
+  pub draws-moves : Bytes key → (limit c d : ℕ) (k : Caching) → placeOf w z < slotsOf w → Moves y w (keyOf key) (placeOf w z) (incChange z limit c d k)
+  unfolding incChange
+  draws-moves by limit c d k l =
+      subst (λ (i : ℕ). Moves y w (keyOf key) i (incChange z limit c d k)) (sym place-same)
+      (go (hasSlot z) refl (subst (λ (i : ℕ). i < slotsOf w) place-same l))
+    where
+      go : (b : Bool) → hasSlot z ≡ b → site < slotsOf w →
+          Moves y w (keyOf key) site (cond b (Update (recached z k (incEdit z limit c d))) (Take (recached z k (incEdit z limit c d))))
+      go true e i =
+          updates kind.Suppressed s w t key p (sym has-same ∙ e) _ (look-from (lookTicks s) t y _ (inc-plain z k limit c d) (inc-from z k limit c d))
+      go false e i =
+          takes kind.Suppressed s w t key p by (sym has-same ∙ e) i _ (inc-begins z k limit c d (or-false (z .series) (z .cached) e)) (inc-plain z k limit c d)

@@ -7,12 +7,13 @@ use Prim.Native.Nat.{ℕ}
 use native.Mathlib.Omega.{arith}
 use lib.Dec.{leb, eqb}
 use borrow.Author.Tests.{le-leb}
-use Rattle.base.specs.Decides.{and-true, true-and}
+use Rattle.base.specs.Decides.{true-and}
 use Rattle.suppression.specs.Factor.{factorWordOk}
 use Rattle.common.specs.Limits.{limitOk, absoluteWord}
 use Rattle.common_laws.specs.LimitLaws.{absolute-ok}
 use Rattle.common.specs.Ranges.{rateOk}
 use Rattle.settings.specs.Settings.{windowIn, factorIn}
+use Rattle.settings.specs.Clock.{lookTicks}
 use Rattle.answers.specs.declared.HistoryUpdateMode.{HistoryUpdateMode}
 use Rattle.answers.specs.declared.HistoryUpdateMode.the-variants as mode
 use Rattle.settings.specs.declared.Settings.{Settings}
@@ -24,10 +25,12 @@ use Rattle.edit.specs.declared.Then.the-variants as then
 use Rattle.rules.specs.declared.RoomKind.{RoomKind}
 use Rattle.rules.specs.declared.RoomKind.the-variants as kind
 use Rattle.opened.specs.declared.Slot.{Slot}
-use Rattle.judge.specs.Judge.{Passed, slotIn}
+use Rattle.judge.specs.Held.{heldIn}
+use Rattle.judge.specs.Judge.{Passed, slotIn, lookedIn}
+use Rattle.opened.specs.Look.{by-look, look-series}
 use Rattle.opened.specs.Slot.{hasSlot}
 use Rattle.opened.specs.Sound.{hasCached, rightUse}
-use Rattle.rules.specs.Both.{divisor, limitIn}
+use Rattle.rules.specs.Both.{divisor, limitIn, overdueIn}
 use Rattle.plan.specs.Known.{use-right, used-as, cached-is, cached-known}
 use Rattle.plan.specs.Plan.{keeping, evicting, relimited}
 use Rattle.calls.specs.Calls.{found-at, known-at}
@@ -110,6 +113,13 @@ module _ (k : RoomKind) (s : Settings) (w : List ℕ) (t : ℕ) (key : List ℕ)
   evicted-right e then q =
       record { uses = used-right (known-has x e); limit = λ h. known-at k s w t key p e .limit-ok; factor = cached-right (known-has x e); quiet = q }
 
+  -- and as a first look leaves it
+  looked-right : x .series ≡ true → (then : Then) → Quiet k then → Right k s t (evicting (lookedIn s w t key) then)
+  looked-right e then q =
+      let r = evicted-right e then q in
+      by-look (lookTicks s) t x (λ (y : Slot). Right k s t (evicting y then)) r
+      (record { uses = r .uses; limit = r .limit; factor = r .factor; quiet = r .quiet })
+
   -- ---- the calls of both kinds
 
   pub delete-stores : Stores k s t (deleting x)
@@ -170,8 +180,16 @@ module _ (s : Settings) (w : List ℕ) (t : ℕ) (key : List ℕ) (p : Passed ki
   unfolding absolute.getChange
   get-stores = picked (slot .series) (λ e. e)
 
-  pub ask-stores : (again : Bool) → Stores kind.Absolute s t (absolute.askChange again slot)
-  ask-stores true = get-stores
+  abbrev looked : Slot
+  looked = lookedIn s w t key
+
+  pub ask-stores : (again : Bool) → Stores kind.Absolute s t (absolute.askChange again looked)
+  unfolding absolute.getChange
+  ask-stores true = go (looked .series) refl
+    where
+      go : (z : Bool) → looked .series ≡ z → Stores kind.Absolute s t (absolute.pickChange z (Update (evicting looked then.Nothing)) Keep)
+      go true e = looked-right kind.Absolute s w t key p (sym (look-series (lookTicks s) t slot) ∙ e) then.Nothing tt
+      go false e = tt
   ask-stores false = tt
 
   leaving-right : (out : Bool) (c : ℕ) → slot .series ≡ true → Right kind.Absolute s t (absolute.leaving out slot (then.Increment c 0))
@@ -179,14 +197,14 @@ module _ (s : Settings) (w : List ℕ) (t : ℕ) (key : List ℕ) (p : Passed ki
   leaving-right false c e = kept-right kind.Absolute s w t key p e (then.Increment c 0) refl
 
   pub inc-stores : (rate : RateLimit) (c : ℕ) (may out : Bool) → rateOk (rate .0) ≡ true →
-      Stores kind.Absolute s t (absolute.incChange (absoluteWord (rate .0) (windowIn s)) c may out slot)
+      Stores kind.Absolute s t (absolute.incChange (absoluteWord (rate .0) (windowIn s)) c may out slot looked)
   unfolding absolute.incChange
   inc-stores rate c may out r = go (slot .series) refl may
     where
       go : (z : Bool) → slot .series ≡ z → (y : Bool) →
-          Stores kind.Absolute s t (incTo slot (absoluteWord (rate .0) (windowIn s)) c out z y)
+          Stores kind.Absolute s t (incTo slot looked (absoluteWord (rate .0) (windowIn s)) c out z y)
       go true e true = leaving-right out c e
-      go true e false = evicted-right kind.Absolute s w t key p e then.Nothing tt
+      go true e false = looked-right kind.Absolute s w t key p e then.Nothing tt
       go false e y = anew kind.Absolute s t _ refl (absolute-ok (rate .0) (windowIn s) r (p .settings .window-low) (p .settings .window-high)) refl
 
 -- ---- suppressed
@@ -212,23 +230,33 @@ module _ (s : Settings) (w : List ℕ) (t : ℕ) (key : List ℕ) (p : Passed ki
   snapshot-stores k o = go (y .series) refl
     where
       go : (z : Bool) → y .series ≡ z → Stores kind.Suppressed s t (cond z (Update (recached y k (evicting y then.Nothing))) Keep)
-      go true e = right-by s t _ (suppressed.evicted-right s w t key p y refl k o e)
+      go true e = right-by s t _ (suppressed.evicted-right s w t key p true y (suppressed.opens-slot s w t key p) k o e)
       go false e = tt
 
-  lone-stores : (k : Caching) → Stores kind.Suppressed s t (loneChange (y .cached) k t)
-  lone-stores Left = tt
-  lone-stores (Cached k) = either-stores s t (y .cached) (loneEdit t) (right-by s t _ (suppressed.lone-right s w t key p y refl))
+  -- by a first look
+  abbrev z : Slot
+  z = lookedIn s w t key
 
-  pub factor-stores : (k : Caching) → CachingOk t k → Stores kind.Suppressed s t (factorChange y k t)
+  abbrev out : Bool
+  out = overdueIn s t (heldIn w key)
+
+  opens : suppressed.Opens s w t key out z
+  opens = suppressed.opens-looked s w t key p
+
+  lone-stores : (k : Caching) → Stores kind.Suppressed s t (loneChange (z .cached) k t)
+  lone-stores Left = tt
+  lone-stores (Cached k) = either-stores s t (z .cached) (loneEdit t) (right-by s t _ (suppressed.lone-right s w t key p out z opens))
+
+  pub factor-stores : (k : Caching) → CachingOk t k → Stores kind.Suppressed s t (factorChange z k t)
   unfolding factorChange getChange
-  factor-stores k o = go (y .series) refl
+  factor-stores k o = go (z .series) refl
     where
-      go : (z : Bool) → y .series ≡ z →
-          Stores kind.Suppressed s t (cond z (cond z (Update (recached y k (evicting y then.Nothing))) Keep) (loneChange (y .cached) k t))
-      go true e = right-by s t _ (suppressed.evicted-right s w t key p y refl k o e)
+      go : (b : Bool) → z .series ≡ b →
+          Stores kind.Suppressed s t (cond b (cond b (Update (recached z k (evicting z then.Nothing))) Keep) (loneChange (z .cached) k t))
+      go true e = right-by s t _ (suppressed.evicted-right s w t key p out z opens k o e)
       go false e = lone-stores k
 
   pub draws-stores : (rate : RateLimit) (c d : ℕ) (k : Caching) → CachingOk t k → rateOk (rate .0) ≡ true →
-      Stores kind.Suppressed s t (incChange y (limitAt s y rate) c d k)
+      Stores kind.Suppressed s t (incChange z (limitAt s z rate) c d k)
   unfolding incChange incEdit
-  draws-stores rate c d k o r = either-stores s t (hasSlot y) _ (right-by s t _ (suppressed.inc-right s w t key p y refl rate c d k o r (y .series) refl))
+  draws-stores rate c d k o r = either-stores s t (hasSlot z) _ (right-by s t _ (suppressed.inc-right s w t key p out z opens rate c d k o r (z .series) refl))

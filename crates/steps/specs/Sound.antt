@@ -9,7 +9,7 @@ use native.Mathlib.Decide.{ℕ-discrete}
 use native.Mathlib.Omega.{arith}
 use lib.ListN.{drop}
 use borrow.Author.Tests.{eq-eqb, eqb-true}
-use Rattle.settings.specs.Settings.{bucketIn}
+use Rattle.settings.specs.Clock.{ticksIn, joinTicks}
 use Rattle.settings.specs.declared.Settings.{Settings}
 use Rattle.history.specs.Changes.{joined-declineds}
 use Rattle.preserve.specs.Preserves.{preserved-comes}
@@ -65,13 +65,13 @@ module _ (kind : RoomKind) (s : Settings) (w : List ℕ) (t : ℕ) (key : List �
   x = slotIn s w t key
 
   abbrev b : ℕ
-  b = bucketIn s
+  b = joinTicks s
 
   abbrev view : List Bucket
   view = buckets (ringOf w) (bodyOf w at)
 
   abbrev after : Change → List ℕ
-  after change = applied w at key (bucketIn s) t change
+  after change = applied w at key (joinTicks s) t change
 
   none-declined : (e : Edit) → e .begins ≡ true → declinedRight kind (declineds (startedView e view)) ≡ true
   unfolding startedView
@@ -133,8 +133,12 @@ pub step-sound : (kind : RoomKind) (s : Settings) (w : List ℕ) (t : ℕ) (op :
 step-sound kind s w t op v o (refused e) = subst (SoundRoom kind s) (sym e) o
 step-sound kind s w t op v o (changed key who at change d e) = subst (SoundRoom kind s) (sym e) (change-sound kind s w t key at o change d)
 step-sound kind s w t op v o (cleaned stale z p e) =
-    let c = clean-run w t stale (p .room) in
-    subst (SoundRoom kind s) (sym e) (record { room = c .room; slots = λ i h n. clean-sound kind s w _ t stale c p i (omega (arith, h, c .slots)) n })
+    let c = clean-run w t (ticksIn s) stale (p .room) in
+    subst (SoundRoom kind s) (sym e) (record {
+      room = c .room;
+      slots = λ i h n. clean-sound kind s w _ t (ticksIn s) stale c p i
+          (omega (arith, h, c .slots)) n;
+    })
 step-sound kind s w t op v o (cleared z r l e) =
     let c = clear-read-run w r t in
     subst (SoundRoom kind s) (sym e) (record { room = c .room; slots = λ i h n. absurd (n (c .free i (omega (arith, h, c .slots)))) })

@@ -3,7 +3,7 @@
 use mathlib.Core.Path.{_≡_}
 use mathlib.Core.List.{List}
 use Prim.Native.Nat.{ℕ, _≤_}
-use Rattle.settings.specs.Settings.{bucketIn}
+use Rattle.settings.specs.Clock.{ticksIn, joinTicks}
 use Rattle.settings.specs.declared.Settings.{Settings}
 use Rattle.room.specs.Room as Room
 use Rattle.change.specs.declared.Change.{Change}
@@ -18,6 +18,6 @@ use Rattle.steps.specs.Ops.{Op, slotOf, staleBy, whole, touches}
 pub data Step (kind : RoomKind) (s : Settings) (w : List ℕ) (t : ℕ) (op : Op kind) (v : List ℕ) : Type 0 where
   refused : v ≡ w → Step kind s w t op v
   changed : (key : List ℕ) → touches op ≡ slotOf key → (at : ℕ) (change : Change) → Does kind s w t key at change →
-      v ≡ applied w at key (bucketIn s) t change → Step kind s w t op v
-  cleaned : (stale : ℕ) → touches op ≡ staleBy stale → Passed kind s w t → v ≡ Uses.cleaned w t stale → Step kind s w t op v
+      v ≡ applied w at key (joinTicks s) t change → Step kind s w t op v
+  cleaned : (stale : ℕ) → touches op ≡ staleBy stale → Passed kind s w t → v ≡ Uses.cleaned w t (ticksIn s) stale → Step kind s w t op v
   cleared : touches op ≡ whole → Room.Room w → Room.lastOf w ≤ t → v ≡ Room.withReading (Room.cleared w) t → Step kind s w t op v

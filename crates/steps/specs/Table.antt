@@ -12,6 +12,7 @@ use Rattle.answers.specs.Rows.{decisionRow, totalRow, snapshotRow, factorRow, o
 use Rattle.common.specs.Refusals.{first}
 use Rattle.common.specs.Limits.{cutWord, softWord}
 use Rattle.settings.specs.Settings.{factorIn, faults}
+use Rattle.settings.specs.Clock.{ticksIn}
 use Rattle.answers.specs.declared.DoneAnswer.the-variants as done
 use Rattle.answers.specs.declared.DeleteAnswer.the-variants as delete
 use Rattle.answers.specs.declared.FactorAnswer.the-variants as factor
@@ -36,7 +37,7 @@ use Rattle.cleanup.specs.Cleanup as Cleanup
 use Rattle.absolute_verdicts.specs.Calls as Absolute
 use Rattle.ring.specs.declared.Bucket.{Bucket}
 use Rattle.rules.specs.Held.{Held}
-use Rattle.rules.specs.Both.{liveOf}
+use Rattle.rules.specs.Both.{overdueIn, lookedOf}
 use Rattle.rules.specs.Absolute as absolute
 use Rattle.rules.specs.Absolute.{pickDecision}
 use Rattle.rules.specs.Suppressed as suppressed
@@ -102,14 +103,14 @@ picked-0 : (b : Bool) (x y : RateLimitDecision) → numberOf (decisionRow x) ≡
 picked-0 true x y p q = p
 picked-0 false x y p q = q
 
-rejection-0 : (window : WindowSize) (t : ℕ) (xs : List Bucket) → numberOf (decisionRow (absolute.rejection window t xs)) ≡ 0
+rejection-0 : (k : ℕ) (window : WindowSize) (t : ℕ) (xs : List Bucket) → numberOf (decisionRow (absolute.rejection k window t xs)) ≡ 0
 unfolding decisionRow
-rejection-0 window t [] = refl
-rejection-0 window t (x ∷ xs) = refl
+rejection-0 k window t [] = refl
+rejection-0 k window t (x ∷ xs) = refl
 
 decided-0 : (s : Settings) (t : ℕ) (h : Held) → numberOf (decisionRow (absolute.decided s t h)) ≡ 0
 unfolding absolute.decided decisionRow
-decided-0 s t h = picked-0 (absolute.allowed s t h) _ _ refl (rejection-0 (s .«window_size») t (liveOf s t h))
+decided-0 s t h = picked-0 (absolute.allowed s t h) _ _ refl (rejection-0 (ticksIn s) (s .«window_size») t (lookedOf s t h))
 
 reached-0 : (r : Reach) (a : Asked) (t count draw : ℕ) → numberOf (decisionRow (suppressed.outcomeOf r a t count draw .decision)) ≡ 0
 unfolding decisionRow suppressed.drawn
@@ -121,8 +122,8 @@ reached-0 Between a t count draw = refl
 outcome-0 : (s : Settings) (t limit count draw : ℕ) (h : Held) → numberOf (decisionRow (suppressed.outcome s t limit count draw h .decision)) ≡ 0
 unfolding suppressed.outcome
 outcome-0 s t limit count draw h =
-    reached-0 (suppressed.reachOf (suppressed.forecast (liveOf s t h) count) (softWord (factorIn s) limit) (cutWord limit))
-    (suppressed.asked s t limit h) t count draw
+    reached-0 (suppressed.reachOf (suppressed.forecast (lookedOf s t h) count) (softWord (factorIn s) limit) (cutWord limit))
+    (suppressed.asked s t (overdueIn s t h) limit h) t count draw
 
 old-0 : (k : RoomKind) (s : Settings) (h : Held) → numberOf (oldRateRow (shared.oldRate k s h)) ≡ 0
 unfolding shared.oldRate oldRateRow

@@ -1,12 +1,15 @@
 // The suppressed limiter's increment. Everything that is refused is settled before the first word is written.
 ghost use mathlib.Core.Path.{_≡_};
+ghost use Prim.Native.Nat.{_≤_};
 ghost use Rattle.common.specs.Refusals.{first};
+ghost use Rattle.settings.specs.Settings.{bucketIn};
 ghost use Rattle.room.specs.Room.{Room, ringOf};
 ghost use Rattle.judge.specs.Verdict.{Told};
 ghost use Rattle.plan.specs.Plan.{lacksAt};
 ghost use Rattle.suppressed_refusals.specs.Refusals.{incLate};
 ghost use Rattle.rules.specs.declared.RoomKind.the-variants.{Suppressed};
 ghost use Rattle.suppressed_verdicts.specs.Calls.{inc};
+ghost use Rattle.suppressed_verdicts.specs.Standing.{Looked};
 ghost use Rattle.suppressed_verdicts.specs.Opened.{limitAt};
 use answers::RateLimitDecision;
 use common::RateLimit;
@@ -36,7 +39,7 @@ fn late(
     count: u64,
     draw: u64,
 ) -> u64
-    requires { ⌜ Room (now w) ⌝ }
+    requires { ⌜ Room (now w) × (bucketIn settings ≤ 4294967296) ⌝ }
     ensures { λ n. ⌜ n ≡ first (incLate settings x (lacksAt (now (w .entry)) at x) (ringOf (now (w .entry))) reading rate count draw) ⌝ }
 {
     let lacks = plan::lacks_slot(w, at, x);
@@ -44,7 +47,35 @@ fn late(
     suppressed_refusals::inc_late(settings, x, lacks, ring, reading, rate, count, draw)
 }
 
-// Counts, and decides by the forecast and the draw.
+// Counts for a key that was judged, by its slot as a first look leaves it.
+fn count_by(
+    settings: Settings,
+    room: &mut [u64],
+    x: Slot,
+    reading: u64,
+    key: &[u8],
+    rate: RateLimit,
+    count: u64,
+    draw: u64,
+) -> RateLimitDecision
+    requires { ⌜ Looked settings (now room) reading (now key) x ⌝ }
+    ensures { λ r. ⌜ Told (inc settings (now (room .entry)) reading (now (key .entry)) rate count draw) r (now (room .exit)) ⌝ }
+{
+    let at = plan::place(room, x);
+    let late = late(settings, room, x, at, reading, rate, count, draw);
+    if late != 0 {
+        return RateLimitDecision::Refused(late);
+    }
+    let limit = limit_for(settings, x, rate);
+    let forecast = forecast_opened::forecast(x, count);
+    let outcome = forecast_opened::decide(settings, room, x, limit, forecast, reading, count, draw);
+    let caching = outcome.caching;
+    let change = suppressed_edits::inc_change(x, limit, count, outcome.declined, caching);
+    change::apply(room, at, key, settings.join_ticks(), reading, change);
+    outcome.decision
+}
+
+// Counts, and decides by the forecast and the draw. Where the first look leaves the slot as it is, which in milliseconds it always does, no slot is copied.
 pub fn inc(
     settings: Settings,
     room: &mut [u64],
@@ -60,23 +91,15 @@ pub fn inc(
     if fault != 0 {
         return RateLimitDecision::Refused(fault);
     }
-    let window = settings.window_size;
-    let x = opened::open_at(room, judge::address(room, key), reading, window.0);
+    let window = settings.window_ticks();
+    let x = opened::open_at(room, judge::address(room, key), reading, window);
     let misfit = judge::misfit(RoomKind::Suppressed, settings, room, reading, key, x);
     if misfit != 0 {
         return RateLimitDecision::Refused(misfit);
     }
-    let at = plan::place(room, x);
-    let late = late(settings, room, x, at, reading, rate, count, draw);
-    if late != 0 {
-        return RateLimitDecision::Refused(late);
+    if opened::leaves_expired(settings.look_ticks(), reading, x) {
+        let x = opened::all_stay(x);
+        return count_by(settings, room, x, reading, key, rate, count, draw);
     }
-    let limit = limit_for(settings, x, rate);
-    let forecast = forecast_opened::forecast(x, count);
-    let outcome = forecast_opened::decide(settings, room, x, limit, forecast, reading, count, draw);
-    let caching = outcome.caching;
-    let size = settings.bucket_size;
-    let change = suppressed_edits::inc_change(x, limit, count, outcome.declined, caching);
-    change::apply(room, at, key, size.0, reading, change);
-    outcome.decision
+    count_by(settings, room, x, reading, key, rate, count, draw)
 }

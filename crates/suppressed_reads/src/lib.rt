@@ -4,6 +4,7 @@ ghost use Rattle.judge.specs.Verdict.{Told};
 ghost use Rattle.rules.specs.declared.RoomKind.the-variants.{Suppressed};
 ghost use Rattle.suppressed_verdicts.specs.Calls.{get, getFactor};
 ghost use Rattle.suppressed_verdicts.specs.Opened.{snapshotAt};
+ghost use Rattle.suppressed_verdicts.specs.Standing.{Looked};
 use answers::FactorAnswer;
 use answers::SnapshotAnswer;
 use answers::SuppressedRateLimitSnapshot;
@@ -39,20 +40,47 @@ pub fn get(settings: Settings, room: &mut [u64], reading: u64, key: &[u8]) -> Sn
     }
     let asked = factor_opened::ask(settings, room, x, x.limit, reading);
     let caching = asked.caching;
-    let size = settings.bucket_size;
     let snapshot = snapshot_of(x, asked.factor);
     change::apply(
         room,
         x.at,
         key,
-        size.0,
+        settings.join_ticks(),
         reading,
         suppressed_edits::get_change(x, caching),
     );
     SnapshotAnswer::Snapshot(snapshot)
 }
 
-// A key's factor, which is cached.
+// The factor of a key that was judged, by its slot as a first look leaves it.
+fn factor_by(
+    settings: Settings,
+    room: &mut [u64],
+    x: Slot,
+    reading: u64,
+    key: &[u8],
+) -> FactorAnswer
+    requires { ⌜ Looked settings (now room) reading (now key) x ⌝ }
+    ensures { λ r. ⌜ Told (getFactor settings (now (room .entry)) reading (now (key .entry))) r (now (room .exit)) ⌝ }
+{
+    let at = plan::place(room, x);
+    if plan::lacks_slot(room, at, x) {
+        return FactorAnswer::Refused(11);
+    }
+    let asked = factor_opened::ask(settings, room, x, x.limit, reading);
+    let caching = asked.caching;
+    change::apply(
+        room,
+        at,
+        key,
+        settings.join_ticks(),
+        reading,
+        suppressed_edits::factor_change(x, caching, reading),
+    );
+    FactorAnswer::Factor(asked.factor)
+}
+
+// A key's factor, which is cached. Where the first look leaves the slot as it is, no slot is copied.
 pub fn get_suppression_factor(
     settings: Settings,
     room: &mut [u64],
@@ -67,20 +95,9 @@ pub fn get_suppression_factor(
     if code != 0 {
         return FactorAnswer::Refused(code);
     }
-    let at = plan::place(room, x);
-    if plan::lacks_slot(room, at, x) {
-        return FactorAnswer::Refused(11);
+    if opened::leaves_expired(settings.look_ticks(), reading, x) {
+        let x = opened::all_stay(x);
+        return factor_by(settings, room, x, reading, key);
     }
-    let asked = factor_opened::ask(settings, room, x, x.limit, reading);
-    let caching = asked.caching;
-    let size = settings.bucket_size;
-    change::apply(
-        room,
-        at,
-        key,
-        size.0,
-        reading,
-        suppressed_edits::factor_change(x, caching, reading),
-    );
-    FactorAnswer::Factor(asked.factor)
+    factor_by(settings, room, x, reading, key)
 }

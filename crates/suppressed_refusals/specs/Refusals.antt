@@ -6,7 +6,7 @@ use mathlib.Core.List.{List, [], _∷_}
 use Prim.Native.Nat.{ℕ}
 use lib.Dec.{ltb}
 use Rattle.common.specs.Ranges.{rateOk}
-use Rattle.settings.specs.Settings.{bucketIn}
+use Rattle.settings.specs.Clock.{joinTicks}
 use Rattle.settings.specs.declared.Settings.{Settings}
 use Rattle.common.specs.declared.units.RateLimit.{RateLimit}
 use Rattle.rules.specs.Both.{passes}
@@ -19,4 +19,4 @@ incNumbers rate draw passes lacks crams = (8, rate) ∷ (9, draw) ∷ (10, passe
 
 abbrev pub incLate : Settings → Slot → Bool → ℕ → ℕ → RateLimit → ℕ → ℕ → List (ℕ × Bool)
 incLate s x lacks r t rate c draw =
-    incNumbers (not (rateOk (rate .0))) (ltb mostDraw draw) (passes c (x .pass .«live_total»)) lacks (fullAfter r (bucketIn s) t (x .pass .expired) x)
+    incNumbers (not (rateOk (rate .0))) (ltb mostDraw draw) (passes c (x .pass .«live_total»)) lacks (fullAfter r (joinTicks s) t (x .pass .expired) x)

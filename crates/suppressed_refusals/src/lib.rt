@@ -1,6 +1,8 @@
 // An increment's own refusals 8 to 12.
 ghost use mathlib.Core.Path.{_≡_};
+ghost use Prim.Native.Nat.{_≤_};
 ghost use Rattle.common.specs.Refusals.{first};
+ghost use Rattle.settings.specs.Settings.{bucketIn};
 ghost use Rattle.room.specs.Room.{Room, ringOf};
 ghost use Rattle.suppressed_refusals.specs.Refusals.{incNumbers, incLate};
 use common::RateLimit;
@@ -48,12 +50,12 @@ pub fn inc_late(
     count: u64,
     draw: u64,
 ) -> u64
+    requires { ⌜ bucketIn settings ≤ 4294967296 ⌝ }
     ensures { λ r. ⌜ r ≡ first (incLate settings x lacks ring reading rate count draw) ⌝ }
 {
     let pass = x.pass;
-    let size = settings.bucket_size;
     let expired = pass.expired;
-    let crams = plan::is_ring_full(ring, size.0, reading, expired, x);
+    let crams = plan::is_ring_full(ring, settings.join_ticks(), reading, expired, x);
     inc_number(
         !rate.is_in_range(),
         MOST_DRAW < draw,

@@ -8,7 +8,8 @@ use native.Mathlib.Omega.{arith}
 use lib.ListN.{length, drop}
 use borrow.Author.Tests.{ltb-false, leb-false}
 use Rattle.common.specs.Refusals.{first, Positive, AllFalse, all-false}
-use Rattle.settings.specs.Settings.{bucketIn}
+use Rattle.settings.specs.Settings.{Proper}
+use Rattle.settings.specs.Clock.{joinTicks}
 use Rattle.answers.specs.declared.FactorAnswer.the-variants as factor
 use Rattle.answers.specs.declared.RateLimitDecision.the-variants as decision
 use Rattle.answers.specs.declared.SnapshotAnswer.the-variants as snapshot
@@ -23,7 +24,8 @@ use Rattle.room.specs.Room.{Room, slotsOf, ringOf, bodyOf}
 use Rattle.judge.specs.declared.Judged.{Judged}
 use Rattle.rules.specs.declared.RoomKind.the-variants as kind
 use Rattle.opened.specs.declared.Slot.{Slot}
-use Rattle.judge.specs.Judge.{early, judged, Passed, slotIn}
+use Rattle.judge.specs.Held.{heldIn}
+use Rattle.judge.specs.Judge.{early, judged, Passed, slotIn, lookedIn}
 use Rattle.opened.specs.Slot.{hasSlot}
 use Rattle.judge.specs.Laws.{code-is, slot-is, passed}
 use Rattle.judge.specs.Verdict.{Told, call-early, call-own, call-done}
@@ -36,7 +38,7 @@ use Rattle.edit.specs.Bodies.{Fits}
 use Rattle.plan.specs.Known.{Known, evicting-edits, opening-edits}
 use Rattle.plan.specs.Plan.{placeOf, lacksAt, fullAfter, evicting, opening}
 use Rattle.plan.specs.Seen.{full-after}
-use Rattle.rules.specs.Both.{passes, ringFull}
+use Rattle.rules.specs.Both.{overdueIn, passes, ringFull}
 use Rattle.rules.specs.declared.Asked.{Asked}
 use Rattle.rules.specs.declared.Caching.{Caching}
 use Rattle.rules.specs.declared.Caching.the-variants.{Left, Cached}
@@ -49,26 +51,26 @@ use Rattle.suppressed_verdicts.specs.Calls as Calls
 use Rattle.suppressed_verdicts.specs.Opened.{askingAt, snapshotAt, getDoes, getOn, get, factorOwn, factorDoes, factorOn, getFactor}
 use Rattle.suppressed_verdicts.specs.Opened.{limitAt, incOwn, incDoes, incOn, incOutcome, inc}
 use Rattle.suppressed_verdicts.specs.Seen.{get-opened, factor-opened, inc-opened}
-use Rattle.suppressed_verdicts.specs.Standing.{known, place-inside}
+use Rattle.suppressed_verdicts.specs.Standing.{Stood, stood-slot, stood-looked, place-inside}
 
 -- ---- edits that can be carried out
 
 -- of a series without its expired buckets
-module _ (s : Settings) (w : List ℕ) (t at : ℕ) (x : Slot) (o : Room w) (h : Known kind.Suppressed s w t at x) where
-  pub get-edits : (k : Caching) → EditsAt w at (bucketIn s) t (recached x k (evicting x Nothing))
+module _ (s : Settings) (w : List ℕ) (t at : ℕ) (out : Bool) (x : Slot) (o : Room w) (h : Known kind.Suppressed s w t at out x) where
+  pub get-edits : (k : Caching) → EditsAt w at (joinTicks s) t (recached x k (evicting x Nothing))
   unfolding recached
-  get-edits k = evicting-edits kind.Suppressed s w t at x o h (bucketIn s) (recached x k (evicting x Nothing)) refl refl refl refl tt
+  get-edits k = evicting-edits kind.Suppressed s w t at out x o h (joinTicks s) (recached x k (evicting x Nothing)) refl refl refl refl tt
 
   -- what stays fits: c of count, d of it declined
-  inc-fits : (c d : ℕ) → d ≤ c → passes c (x .pass .«live_total») ≡ false → fullAfter (ringOf w) (bucketIn s) t (x .pass .expired) x ≡ false →
-      Fits (ringOf w) (bucketIn s) t c d (drop (x .pass .expired) (buckets (ringOf w) (bodyOf w at)))
+  inc-fits : (c d : ℕ) → d ≤ c → passes c (x .pass .«live_total») ≡ false → fullAfter (ringOf w) (joinTicks s) t (x .pass .expired) x ≡ false →
+      Fits (ringOf w) (joinTicks s) t c d (drop (x .pass .expired) (buckets (ringOf w) (bodyOf w at)))
   unfolding passes ringFull
   inc-fits c d l n f =
       let xs = buckets (ringOf w) (bodyOf w at) in
       let k = x .pass .expired in
       let m = h .measured in
-      let g : ringFull (ringOf w) (bucketIn s) t (drop k xs) ≡ false =
-      sym (full-after (ringOf w) (bucketIn s) t k x xs (m .buckets-are ∙ sym (view-length (ringOf w) (bodyOf w at))) (m .newest-is)) ∙ f in
+      let g : ringFull (ringOf w) (joinTicks s) t (drop k xs) ≡ false =
+      sym (full-after (ringOf w) (joinTicks s) t k x xs (m .buckets-are ∙ sym (view-length (ringOf w) (bodyOf w at))) (m .newest-is)) ∙ f in
       record {
         least = l;
         total = omega (arith, ltb-false mostTotal (x .pass .«live_total» + c) n, m .total);
@@ -76,10 +78,10 @@ module _ (s : Settings) (w : List ℕ) (t at : ℕ) (x : Slot) (o : Room w) (h :
       }
 
   inc-edits : (k : Caching) (limit c d : ℕ) → d ≤ c → passes c (x .pass .«live_total») ≡ false →
-      fullAfter (ringOf w) (bucketIn s) t (x .pass .expired) x ≡ false →
-      EditsAt w at (bucketIn s) t (recached x k (evicting x (Increment c d)))
+      fullAfter (ringOf w) (joinTicks s) t (x .pass .expired) x ≡ false →
+      EditsAt w at (joinTicks s) t (recached x k (evicting x (Increment c d)))
   unfolding recached
-  inc-edits k limit c d l n f = evicting-edits kind.Suppressed s w t at x o h (bucketIn s) (recached x k (evicting x (Increment c d))) refl refl refl refl
+  inc-edits k limit c d l n f = evicting-edits kind.Suppressed s w t at out x o h (joinTicks s) (recached x k (evicting x (Increment c d))) refl refl refl refl
       (inc-fits c d l n f)
 
 -- of a series that begins
@@ -90,12 +92,9 @@ new-edits w at b t o h x k limit c d f u v l n =
     opening-edits w at o h b t limit (factorAfter k f) (timeAfter k u) (useAfter k x) (Increment c d)
     (record { least = l; total = omega (arith, sum-none countOf); free = λ j. omega (arith, o .some) })
 
--- ---- the calls, of a slot x that the code has found
+-- ---- a slot's place
 
-module _ (s : Settings) (w : List ℕ) (t : ℕ) (key : List ℕ) (e : early kind.Suppressed s w t key ≡ 0) (x : Slot) (p : x ≡ slotIn s w t key) where
-  passing : Passed kind.Suppressed s w t key
-  passing = passed kind.Suppressed s w t key e
-
+module _ (w : List ℕ) (x : Slot) where
   pub place-used : hasSlot x ≡ true → placeOf w x ≡ x .at
   unfolding placeOf
   place-used h = rw h
@@ -103,43 +102,63 @@ module _ (s : Settings) (w : List ℕ) (t : ℕ) (key : List ℕ) (e : early kin
   pub with-series : x .series ≡ true → hasSlot x ≡ true
   with-series h = ap (λ (z : Bool). z || x .cached) h
 
-  known-place : x .series ≡ true → Known kind.Suppressed s w t (placeOf w x) x
-  known-place h = subst (λ (n : ℕ). Known kind.Suppressed s w t n x) (sym (place-used (with-series h))) (known s w t key passing x p h)
+-- ---- get, of a slot x that the code has found
+
+module _ (s : Settings) (w : List ℕ) (t : ℕ) (key : List ℕ) (e : early kind.Suppressed s w t key ≡ 0) (x : Slot) (p : x ≡ slotIn s w t key) where
+  opening-passed : Passed kind.Suppressed s w t key
+  opening-passed = passed kind.Suppressed s w t key e
 
   -- the factor that the code has worked out is the one that is asked for
-  asked-is : (a : Asked) → a ≡ askedAt s w t x (x .limit) → a ≡ askingAt s w t (slotIn s w t key)
-  asked-is a h = h ∙ ap (λ (y : Slot). askingAt s w t y) p
-
-  -- ---- get
   get-is : (a : Asked) → a ≡ askedAt s w t x (x .limit) → get s w t key ≡ getOn s w t key x a
   unfolding get
-  get-is a h = sym (ap₂ (λ (y : Slot) (b : Asked). getOn s w t key y b) p (asked-is a h))
+  get-is a h = sym (ap₂ (λ (y : Slot) (b : Asked). getOn s w t key y b) p (h ∙ ap (λ (y : Slot). askingAt s w t y) p))
 
   -- y are the words after, u the snapshot
   pub get-done : (a : Asked) → a ≡ askedAt s w t x (x .limit) →
       (u : SuppressedRateLimitSnapshot) (ch : Change) (y : List ℕ) → u ≡ snapshotAt x (a .factor) → ch ≡ getChange x (a .caching) →
-      y ≡ applied w (x .at) key (bucketIn s) t ch → Told (Calls.get s w t key) (snapshot.Snapshot u) y
+      y ≡ applied w (x .at) key (joinTicks s) t ch → Told (Calls.get s w t key) (snapshot.Snapshot u) y
   unfolding getOn first
   get-done a h u ch y g k q =
       rw (← get-opened s w t key, get-is a h)
       (call-done snapshot.Refused kind.Suppressed s w t key [] (getDoes s w t key x a) (snapshot.Snapshot u) y e refl
-      (record { answer = ap (λ (z : SuppressedRateLimitSnapshot). snapshot.Snapshot z) g; words = q ∙ ap (applied w (x .at) key (bucketIn s) t) k }))
+      (record { answer = ap (λ (z : SuppressedRateLimitSnapshot). snapshot.Snapshot z) g; words = q ∙ ap (applied w (x .at) key (joinTicks s) t) k }))
 
-  get-by : (k : Caching) (z : Bool) → x .series ≡ z → Applies w (x .at) (bucketIn s) t (cond z (Update (recached x k (evicting x Nothing))) Keep)
-  get-by k true h = get-edits s w t (x .at) x (passing .room) (known s w t key passing x p h) k
-  get-by k false h = passing .room
+  get-by : (k : Caching) (z : Bool) → x .series ≡ z → Applies w (x .at) (joinTicks s) t (cond z (Update (recached x k (evicting x Nothing))) Keep)
+  get-by k true h = get-edits s w t (x .at) true x (opening-passed .room) (stood-slot s w t key opening-passed x p .known h) k
+  get-by k false h = opening-passed .room
 
-  get-carries : (k : Caching) → Applies w (x .at) (bucketIn s) t (getChange x k)
+  get-carries : (k : Caching) → Applies w (x .at) (joinTicks s) t (getChange x k)
   unfolding getChange
   get-carries k = get-by k (x .series) refl
 
-  pub get-applies : (k : Caching) (ch : Change) → ch ≡ getChange x k → Applies w (x .at) (bucketIn s) t ch
-  get-applies k ch h = subst (λ (d : Change). Applies w (x .at) (bucketIn s) t d) (sym h) (get-carries k)
+  pub get-applies : (k : Caching) (ch : Change) → ch ≡ getChange x k → Applies w (x .at) (joinTicks s) t ch
+  get-applies k ch h = subst (λ (d : Change). Applies w (x .at) (joinTicks s) t d) (sym h) (get-carries k)
 
-  -- ---- get_suppression_factor
+-- ---- get_suppression_factor and inc, of a slot x that the code has found and looked at
+
+module _ (s : Settings) (w : List ℕ) (t : ℕ) (key : List ℕ) (e : early kind.Suppressed s w t key ≡ 0) (x : Slot) (p : x ≡ lookedIn s w t key) where
+  passing : Passed kind.Suppressed s w t key
+  passing = passed kind.Suppressed s w t key e
+
+  stood : Stood s w t (overdueIn s t (heldIn w key)) x
+  stood = stood-looked s w t key passing x p
+
+  known-place : x .series ≡ true → Known kind.Suppressed s w t (placeOf w x) (overdueIn s t (heldIn w key)) x
+  known-place h =
+      subst (λ (n : ℕ). Known kind.Suppressed s w t n (overdueIn s t (heldIn w key)) x) (sym (place-used w x (with-series w x h))) (stood .known h)
+
+  -- where the last second is asked for
+  pub in-room : InRoom w x
+  in-room = record {
+    room = passing .room;
+    inside = λ y. stood .known y .inside;
+    sound = λ y. stood .known y .measured .sound;
+    some = λ y. stood .known y .measured .some;
+  }
+
   factor-is : (a : Asked) → a ≡ askedAt s w t x (x .limit) → getFactor s w t key ≡ factorOn s w t key x a
   unfolding getFactor
-  factor-is a h = sym (ap₂ (λ (y : Slot) (b : Asked). factorOn s w t key y b) p (asked-is a h))
+  factor-is a h = sym (ap₂ (λ (y : Slot) (b : Asked). factorOn s w t key y b) p (h ∙ ap (λ (y : Slot). askingAt s w t y) p))
 
   -- at is the place that the code has found, full whether there is none
   module _ (at : ℕ) (m : at ≡ placeOf w x) (full : Bool) (n : full ≡ lacksAt w at x) where
@@ -154,38 +173,38 @@ module _ (s : Settings) (w : List ℕ) (t : ℕ) (key : List ℕ) (e : early kin
         (call-own factor.Refused kind.Suppressed s w t key (factorOwn w x) (factorDoes s w t key x a) 11 e (sym (rw (full-is, f))) (λ z. omega arith))
 
     pub factor-done : full ≡ false → (a : Asked) → a ≡ askedAt s w t x (x .limit) →
-        (ch : Change) (y : List ℕ) → ch ≡ factorChange x (a .caching) t → y ≡ applied w at key (bucketIn s) t ch →
+        (ch : Change) (y : List ℕ) → ch ≡ factorChange x (a .caching) t → y ≡ applied w at key (joinTicks s) t ch →
         Told (Calls.getFactor s w t key) (factor.Factor (a .factor)) y
     unfolding factorOn first
     factor-done f a h ch y k q =
         rw (← factor-opened s w t key, factor-is a h)
         (call-done factor.Refused kind.Suppressed s w t key (factorOwn w x) (factorDoes s w t key x a) (factor.Factor (a .factor)) y e (rw (full-is, f))
-        (record { answer = refl; words = q ∙ ap₂ (λ (i : ℕ) (d : Change). applied w i key (bucketIn s) t d) m k }))
+        (record { answer = refl; words = q ∙ ap₂ (λ (i : ℕ) (d : Change). applied w i key (joinTicks s) t d) m k }))
 
     inside : full ≡ false → placeOf w x < slotsOf w
-    inside f = place-inside s w t key passing x p (full-is ∙ f)
+    inside f = place-inside s w t (overdueIn s t (heldIn w key)) x stood (full-is ∙ f)
 
-    lone-by : full ≡ false → (z : Bool) → Applies w (placeOf w x) (bucketIn s) t (loneBy z t)
-    lone-by f true = opening-edits w (placeOf w x) (passing .room) (inside f) (bucketIn s) t 0 0 t 2 Nothing tt
-    lone-by f false = opening-edits w (placeOf w x) (passing .room) (inside f) (bucketIn s) t 0 0 t 2 Nothing tt
+    lone-by : full ≡ false → (z : Bool) → Applies w (placeOf w x) (joinTicks s) t (loneBy z t)
+    lone-by f true = opening-edits w (placeOf w x) (passing .room) (inside f) (joinTicks s) t 0 0 t 2 Nothing tt
+    lone-by f false = opening-edits w (placeOf w x) (passing .room) (inside f) (joinTicks s) t 0 0 t 2 Nothing tt
 
-    lone-applies : full ≡ false → (z : Bool) (k : Caching) → Applies w (placeOf w x) (bucketIn s) t (loneChange z k t)
+    lone-applies : full ≡ false → (z : Bool) (k : Caching) → Applies w (placeOf w x) (joinTicks s) t (loneChange z k t)
     lone-applies f z Left = passing .room
     lone-applies f z (Cached k) = lone-by f z
 
     factor-by : full ≡ false → (k : Caching) (z : Bool) → x .series ≡ z →
-        Applies w (placeOf w x) (bucketIn s) t (cond z (cond z (Update (recached x k (evicting x Nothing))) Keep) (loneChange (x .cached) k t))
-    factor-by f k true h = get-edits s w t (placeOf w x) x (passing .room) (known-place h) k
+        Applies w (placeOf w x) (joinTicks s) t (cond z (cond z (Update (recached x k (evicting x Nothing))) Keep) (loneChange (x .cached) k t))
+    factor-by f k true h = get-edits s w t (placeOf w x) (overdueIn s t (heldIn w key)) x (passing .room) (known-place h) k
     factor-by f k false h = lone-applies f (x .cached) k
 
-    factor-carries : full ≡ false → (k : Caching) → Applies w (placeOf w x) (bucketIn s) t (factorChange x k t)
+    factor-carries : full ≡ false → (k : Caching) → Applies w (placeOf w x) (joinTicks s) t (factorChange x k t)
     unfolding factorChange getChange
     factor-carries f k = factor-by f k (x .series) refl
 
-    pub factor-applies : full ≡ false → (k : Caching) (ch : Change) → ch ≡ factorChange x k t → Applies w at (bucketIn s) t ch
+    pub factor-applies : full ≡ false → (k : Caching) (ch : Change) → ch ≡ factorChange x k t → Applies w at (joinTicks s) t ch
     factor-applies f k ch h =
-        subst (λ (i : ℕ). Applies w i (bucketIn s) t ch) (sym m)
-        (subst (λ (d : Change). Applies w (placeOf w x) (bucketIn s) t d) (sym h) (factor-carries f k))
+        subst (λ (i : ℕ). Applies w i (joinTicks s) t ch) (sym m)
+        (subst (λ (d : Change). Applies w (placeOf w x) (joinTicks s) t d) (sym h) (factor-carries f k))
 
     -- ---- inc
     module _ (rate : RateLimit) (c draw r late : ℕ) (i : r ≡ ringOf w) (l : late ≡ first (incLate s x full r t rate c draw)) where
@@ -216,19 +235,21 @@ module _ (s : Settings) (w : List ℕ) (t : ℕ) (key : List ℕ) (e : early kin
         inc-total = ltb-false mostTotal (x .pass .«live_total» + c) (none-late .1 .1 .0)
 
         edit-by : (k : Caching) (limit d : ℕ) → d ≤ c → (z : Bool) → x .series ≡ z →
-            EditsAt w (placeOf w x) (bucketIn s) t
+            EditsAt w (placeOf w x) (joinTicks s) t
             (recached x k (cond z (evicting x (Increment c d)) (opening limit (Increment c d) (x .factor) (x .«factor_time») (x .used))))
         edit-by k limit d b true h =
-            inc-edits s w t (placeOf w x) x (passing .room) (known-place h) k limit c d b (none-late .1 .1 .0) (none-late .1 .1 .1 .1 .0)
+            inc-edits s w t (placeOf w x) (overdueIn s t (heldIn w key)) x (passing .room) (known-place h) k limit c d b (none-late .1 .1 .0)
+            (none-late .1 .1 .1 .1 .0)
         edit-by k limit d b false h =
-            new-edits w (placeOf w x) (bucketIn s) t (passing .room) (place-inside s w t key passing x p (none-late .1 .1 .1 .0)) x k limit c d (x .factor)
+            new-edits w (placeOf w x) (joinTicks s) t (passing .room)
+            (place-inside s w t (overdueIn s t (heldIn w key)) x stood (none-late .1 .1 .1 .0)) x k limit c d (x .factor)
             (x .«factor_time») (x .used) b (omega (arith, inc-total))
 
-        either : (y : Edit) (z : Bool) → EditsAt w (placeOf w x) (bucketIn s) t y → Applies w (placeOf w x) (bucketIn s) t (cond z (Update y) (Take y))
+        either : (y : Edit) (z : Bool) → EditsAt w (placeOf w x) (joinTicks s) t y → Applies w (placeOf w x) (joinTicks s) t (cond z (Update y) (Take y))
         either y true g = g
         either y false g = g
 
-        inc-carries : (k : Caching) (limit d : ℕ) → d ≤ c → Applies w (placeOf w x) (bucketIn s) t (incChange x limit c d k)
+        inc-carries : (k : Caching) (limit d : ℕ) → d ≤ c → Applies w (placeOf w x) (joinTicks s) t (incChange x limit c d k)
         unfolding incChange incEdit
         inc-carries k limit d b = either (recached x k (incEdit x limit c d)) (hasSlot x) (edit-by k limit d b (x .series) refl)
 
@@ -242,7 +263,7 @@ module _ (s : Settings) (w : List ℕ) (t : ℕ) (key : List ℕ) (e : early kin
           declined-le = subst (λ (y : Outcome). y .declined ≤ c) (sym h) (outcome-declined s w t x limit ahead c draw)
 
           pub inc-done : (ch : Change) (y : List ℕ) → ch ≡ incChange x limit c (o .declined) (o .caching) →
-              y ≡ applied w at key (bucketIn s) t ch → Told (Calls.inc s w t key rate c draw) (o .decision) y
+              y ≡ applied w at key (joinTicks s) t ch → Told (Calls.inc s w t key rate c draw) (o .decision) y
           unfolding incOn
           inc-done ch y k q =
               rw (← inc-opened s w t key rate c draw, inc-is o outcome-is)
@@ -250,18 +271,19 @@ module _ (s : Settings) (w : List ℕ) (t : ℕ) (key : List ℕ) (e : early kin
               (sym late-is ∙ f)
               (record {
                 answer = refl;
-                words = q ∙ ap₂ (λ (j : ℕ) (d : Change). applied w j key (bucketIn s) t d) m
+                words = q ∙ ap₂ (λ (j : ℕ) (d : Change). applied w j key (joinTicks s) t d) m
                     (k ∙ ap (λ (j : ℕ). incChange x j c (o .declined) (o .caching)) a);
               }))
 
-          pub inc-applies : (ch : Change) → ch ≡ incChange x limit c (o .declined) (o .caching) → Applies w at (bucketIn s) t ch
+          pub inc-applies : (ch : Change) → ch ≡ incChange x limit c (o .declined) (o .caching) → Applies w at (joinTicks s) t ch
           inc-applies ch k =
-              subst (λ (j : ℕ). Applies w j (bucketIn s) t ch) (sym m)
-              (subst (λ (d : Change). Applies w (placeOf w x) (bucketIn s) t d) (sym k) (inc-carries (o .caching) limit (o .declined) declined-le))
+              subst (λ (j : ℕ). Applies w j (joinTicks s) t ch) (sym m)
+              (subst (λ (d : Change). Applies w (placeOf w x) (joinTicks s) t d) (sym k) (inc-carries (o .caching) limit (o .declined) declined-le))
 
-          pub inc-edit : x .series ≡ true → EditsAt w (x .at) (bucketIn s) t (recached x (o .caching) (evicting x (Increment c (o .declined))))
+          pub inc-edit : x .series ≡ true → EditsAt w (x .at) (joinTicks s) t (recached x (o .caching) (evicting x (Increment c (o .declined))))
           inc-edit z =
-              inc-edits s w t (x .at) x (passing .room) (known s w t key passing x p z) (o .caching) limit c (o .declined) declined-le (none-late .1 .1 .0)
+              inc-edits s w t (x .at) (overdueIn s t (heldIn w key)) x (passing .room) (stood .known z) (o .caching) limit c (o .declined) declined-le
+              (none-late .1 .1 .0)
               (none-late .1 .1 .1 .1 .0)
 
 -- ---- the calls, from what the judging function has found
@@ -279,11 +301,19 @@ module _ (s : Settings) (w : List ℕ) (t : ℕ) (key : List ℕ) (j : Judged) (
   pub room-found : j .code ≡ 0 → Room w
   room-found z = passed kind.Suppressed s w t key (not-early z) .room
 
+  pub proper-found : j .code ≡ 0 → Proper s
+  proper-found z = passed kind.Suppressed s w t key (not-early z) .settings
+
   -- where the last second is asked for
-  pub in-room : j .code ≡ 0 → InRoom w (j .slot)
-  in-room z =
-      let there = known s w t key (passed kind.Suppressed s w t key (not-early z)) (j .slot) (slot-found z) in
-      record { room = room-found z; inside = λ y. there y .inside; sound = λ y. there y .measured .sound }
+  pub slot-in-room : j .code ≡ 0 → InRoom w (j .slot)
+  slot-in-room z =
+      let there = stood-slot s w t key (passed kind.Suppressed s w t key (not-early z)) (j .slot) (slot-found z) in
+      record {
+        room = room-found z;
+        inside = λ y. there .known y .inside;
+        sound = λ y. there .known y .measured .sound;
+        some = λ y. there .known y .measured .some;
+      }
 
   pub get-early : (j .code ≡ 0 → ⊥) → Told (Calls.get s w t key) (snapshot.Refused (j .code)) w
   unfolding Calls.get

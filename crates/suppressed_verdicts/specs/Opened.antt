@@ -7,7 +7,8 @@ use Prim.Native.Nat.{ℕ}
 use lib.Ieee.{Float}
 use Rattle.answers.specs.HistoryMode.{noSnapshot}
 use Rattle.common.specs.Limits.{hardWord}
-use Rattle.settings.specs.Settings.{windowIn, bucketIn, factorIn}
+use Rattle.settings.specs.Settings.{windowIn, factorIn}
+use Rattle.settings.specs.Clock.{joinTicks}
 use Rattle.answers.specs.declared.FactorAnswer.{FactorAnswer}
 use Rattle.answers.specs.declared.FactorAnswer.the-variants as factor
 use Rattle.answers.specs.declared.RateLimitDecision.{RateLimitDecision}
@@ -21,7 +22,7 @@ use Rattle.room.specs.Room.{ringOf}
 use Rattle.rules.specs.declared.RoomKind.the-variants as kind
 use Rattle.opened.specs.declared.Slot.{Slot}
 use Rattle.judge.specs.Verdict.{Verdict, verdict, call}
-use Rattle.judge.specs.Judge.{slotIn}
+use Rattle.judge.specs.Judge.{slotIn, lookedIn}
 use Rattle.change.specs.Words.{applied}
 use Rattle.rules.specs.declared.Asked.{Asked}
 use Rattle.rules.specs.declared.Outcome.{Outcome}
@@ -43,7 +44,7 @@ snapshotAt x f =
     cond (x .series) (record { total = x .pass .«live_total»; «total_declined» = x .pass .«live_declined»; «suppression_factor» = f }) noSnapshot
 
 abbrev pub getDoes : Settings → List ℕ → ℕ → List ℕ → Slot → Asked → Verdict SnapshotAnswer
-getDoes s w t key x a = verdict (snapshot.Snapshot (snapshotAt x (a .factor))) (applied w (x .at) key (bucketIn s) t (getChange x (a .caching)))
+getDoes s w t key x a = verdict (snapshot.Snapshot (snapshotAt x (a .factor))) (applied w (x .at) key (joinTicks s) t (getChange x (a .caching)))
 
 unfoldable pub getOn : Settings → List ℕ → ℕ → List ℕ → Slot → Asked → Verdict SnapshotAnswer
 getOn s w t key x a = call snapshot.Refused kind.Suppressed s w t key [] (getDoes s w t key x a)
@@ -58,13 +59,13 @@ abbrev pub factorOwn : List ℕ → Slot → List (ℕ × Bool)
 factorOwn w x = (11, lacksAt w (placeOf w x) x) ∷ []
 
 abbrev pub factorDoes : Settings → List ℕ → ℕ → List ℕ → Slot → Asked → Verdict FactorAnswer
-factorDoes s w t key x a = verdict (factor.Factor (a .factor)) (applied w (placeOf w x) key (bucketIn s) t (factorChange x (a .caching) t))
+factorDoes s w t key x a = verdict (factor.Factor (a .factor)) (applied w (placeOf w x) key (joinTicks s) t (factorChange x (a .caching) t))
 
 unfoldable pub factorOn : Settings → List ℕ → ℕ → List ℕ → Slot → Asked → Verdict FactorAnswer
 factorOn s w t key x a = call factor.Refused kind.Suppressed s w t key (factorOwn w x) (factorDoes s w t key x a)
 
 unfoldable pub getFactor : Settings → List ℕ → ℕ → List ℕ → Verdict FactorAnswer
-getFactor s w t key = factorOn s w t key (slotIn s w t key) (askingAt s w t (slotIn s w t key))
+getFactor s w t key = factorOn s w t key (lookedIn s w t key) (askingAt s w t (lookedIn s w t key))
 
 -- ---- inc
 
@@ -82,10 +83,10 @@ incOwn s w t rate c draw x = incLate s x (lacksAt w (placeOf w x) x) (ringOf w) 
 
 abbrev pub incDoes : Settings → List ℕ → ℕ → List ℕ → RateLimit → ℕ → Slot → Outcome → Verdict RateLimitDecision
 incDoes s w t key rate c x o =
-    verdict (o .decision) (applied w (placeOf w x) key (bucketIn s) t (incChange x (limitAt s x rate) c (o .declined) (o .caching)))
+    verdict (o .decision) (applied w (placeOf w x) key (joinTicks s) t (incChange x (limitAt s x rate) c (o .declined) (o .caching)))
 
 unfoldable pub incOn : Settings → List ℕ → ℕ → List ℕ → RateLimit → ℕ → ℕ → Slot → Outcome → Verdict RateLimitDecision
 incOn s w t key rate c draw x o = call decision.Refused kind.Suppressed s w t key (incOwn s w t rate c draw x) (incDoes s w t key rate c x o)
 
 unfoldable pub inc : Settings → List ℕ → ℕ → List ℕ → RateLimit → ℕ → ℕ → Verdict RateLimitDecision
-inc s w t key rate c draw = incOn s w t key rate c draw (slotIn s w t key) (incOutcome s w t rate c draw (slotIn s w t key))
+inc s w t key rate c draw = incOn s w t key rate c draw (lookedIn s w t key) (incOutcome s w t rate c draw (lookedIn s w t key))

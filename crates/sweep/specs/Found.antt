@@ -174,8 +174,8 @@ module _ (r : ℕ) (b : List ℕ) (last t w : ℕ) where
   sound-is e = sym (ap (λ (f : Bool). pick f (found (lenOf b) (buckets r b) t w) unsound) e)
 
   -- what is sound finds what the rules say; the fields as the code has them
-  pub pass-is : soundBuckets r b last ≡ true → (g : Gone) → g ≡ goneOf r b t w → (n d : ℕ) (o m : Bucket) →
-      n ≡ lenOf b → d ≡ n - 1 → o ≡ getD (buckets r b) (g .buckets) noBucket → m ≡ getD (buckets r b) d noBucket →
+  pub pass-is : soundBuckets r b last ≡ true → (g : Gone) → g ≡ goneOf r b t w → (n d : ℕ) (o m f : Bucket) →
+      n ≡ lenOf b → d ≡ n - 1 → o ≡ getD (buckets r b) (g .buckets) noBucket → m ≡ getD (buckets r b) d noBucket → f ≡ getD (buckets r b) 0 noBucket →
       _≡_ {A = Pass} (record {
         sound = true;
         buckets = n;
@@ -184,8 +184,9 @@ module _ (r : ℕ) (b : List ℕ) (last t w : ℕ) where
         «live_declined» = g .declined;
         oldest = o;
         newest = m;
+        eldest = f;
       }) (passOf r b last t w)
-  pass-is e g q n d o m a z u v =
+  pass-is e g q n d o m f a z u v first =
       let k = sound-true r b last e in
       let xs = buckets r b in
       let y = goneNone (totalOf b) (declinedOf b) in
@@ -202,6 +203,7 @@ module _ (r : ℕ) (b : List ℕ) (last t w : ℕ) where
         «live_declined» = de i;
         oldest = old i;
         newest = new i;
+        eldest = first i;
       }) ∙ sound-is e
 
 -- words that do not fit

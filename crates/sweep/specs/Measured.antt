@@ -3,30 +3,30 @@
 use mathlib.Core.Path.{_≡_, refl, sym, ap, _∙_}
 use mathlib.Core.Bool.{Bool, true, false, cond}
 use mathlib.Core.List.{List, [], _∷_}
-use Prim.Native.Nat.{ℕ, suc, _+_, _-_, _≤_, _<_}
+use Prim.Native.Nat.{ℕ, suc, _-_, _≤_}
 use native.Mathlib.Omega.{arith}
-use lib.ListN.{length, getD, drop, length-drop}
-use lib.Seq.{getD-drop}
+use lib.ListN.{getD, drop}
 use Rattle.ring.specs.declared.Bucket.{Bucket}
 use Rattle.ring.specs.Ring.{noBucket, counts, declineds, lenOf, buckets}
 use Rattle.ring.specs.Order.{Fine}
 use Rattle.ring.specs.View.{view-length}
 use Rattle.ring.specs.Sound.{soundBuckets, Sound, sound-true}
 use Rattle.sweep.specs.declared.tally.Pass.{Pass}
-use Rattle.rules.specs.Buckets.{windowTicks, older, ahead, evicted, live, newest}
+use Rattle.rules.specs.Buckets.{older, ahead, evicted, live, newest}
 use Rattle.sweep.specs.Sweep.{found, unsound, pick, passOf}
 use Rattle.sweep.specs.Found.{ahead-le, recent-drop}
 
--- w is the window in ticks: at `windowTicks W` these are `gone W t`, `live W t` and the rest
-pub record Measured (r : ℕ) (b : List ℕ) (last t w : ℕ) (x : Pass) : Type 0 where
+-- k of the oldest go: of a pass those that are over the window, of a first look the same ones or none
+pub record Measured (r : ℕ) (b : List ℕ) (last k : ℕ) (x : Pass) : Type 0 where
   pub sound : Sound r b last
   pub buckets-are : x .buckets ≡ lenOf b
-  pub expired-are : x .expired ≡ ahead w t (buckets r b)
+  pub expired-are : x .expired ≡ k
   pub some : x .expired ≤ lenOf b
   pub total : x .«live_total» ≡ counts (drop (x .expired) (buckets r b))
   pub declined : x .«live_declined» ≡ declineds (drop (x .expired) (buckets r b))
   pub oldest-is : x .oldest ≡ getD (buckets r b) (x .expired) noBucket
   pub newest-is : x .newest ≡ newest (buckets r b)
+  pub eldest-is : x .eldest ≡ getD (buckets r b) 0 noBucket
 
 -- the pass says whether the buckets are sound
 pub pass-judges : (r : ℕ) (b : List ℕ) (last t w : ℕ) (x : Pass) → x ≡ passOf r b last t w → x .sound ≡ soundBuckets r b last
@@ -38,7 +38,7 @@ pass-judges r b last t w x e = ap (λ (y : Pass). y .sound) e ∙ go (soundBucke
     go false = refl
 
 -- and where they are, what the rules say of them
-pub pass-measures : (r : ℕ) (b : List ℕ) (last t w : ℕ) (x : Pass) → x ≡ passOf r b last t w → x .sound ≡ true → Measured r b last t w x
+pub pass-measures : (r : ℕ) (b : List ℕ) (last t w : ℕ) (x : Pass) → x ≡ passOf r b last t w → x .sound ≡ true → Measured r b last (ahead w t (buckets r b)) x
 unfolding passOf
 pass-measures r b last t w x e s =
     let q : soundBuckets r b last ≡ true = sym (pass-judges r b last t w x e) ∙ s in
@@ -54,13 +54,14 @@ pass-measures r b last t w x e s =
       declined = ap (λ (y : Pass). y .«live_declined») f ∙ ap (λ (i : ℕ). declineds (drop i xs)) (sym k);
       oldest-is = ap (λ (y : Pass). y .oldest) f ∙ ap (λ (i : ℕ). getD xs i noBucket) (sym k);
       newest-is = ap (λ (y : Pass). y .newest) f ∙ ap (λ (n : ℕ). getD xs (n - 1) noBucket) (sym (view-length r b));
+      eldest-is = ap (λ (y : Pass). y .eldest) f;
     }
 
 -- ---- what a caller asks and gets when it evicts what the pass found expired
 
 -- taking the expired out wherever they stand is taking the oldest ones out
-pub evicted-live : (W t lo hi : ℕ) (xs : List Bucket) → Fine lo xs hi → evicted W t xs ≡ live W t xs
-evicted-live W t lo hi xs f = recent-drop (windowTicks W) t lo hi xs f
+pub evicted-live : (w t lo hi : ℕ) (xs : List Bucket) → Fine lo xs hi → evicted w t xs ≡ live w t xs
+evicted-live w t lo hi xs f = recent-drop w t lo hi xs f
 
 -- and none that is left at the front is expired
 pub ahead-after : (w t : ℕ) (xs : List Bucket) → ahead w t (drop (ahead w t xs) xs) ≡ 0

@@ -5,7 +5,7 @@ use mathlib.Core.Bool.{Bool, true, false, _&&_, cond}
 use mathlib.Core.List.{List, [], _∷_}
 use Prim.Native.Nat.{ℕ, _+_, _-_}
 use lib.ListN.{getD, drop}
-use lib.Dec.{leb, ltb, eqb}
+use lib.Dec.{leb, eqb}
 use Rattle.ring.specs.declared.Bucket.{Bucket}
 use Rattle.ring.specs.Ring.{noBucket, counts, declineds, totalOf, declinedOf, lenOf, buckets}
 use Rattle.ring.specs.Sound.{soundBuckets}
@@ -60,10 +60,20 @@ found n xs t w = record {
   «live_declined» = declineds (drop (ahead w t xs) xs);
   oldest = getD xs (ahead w t xs) noBucket;
   newest = getD xs (n - 1) noBucket;
+  eldest = getD xs 0 noBucket;
 }
 
 abbrev pub unsound : Pass
-unsound = record { sound = false; buckets = 0; expired = 0; «live_total» = 0; «live_declined» = 0; oldest = noBucket; newest = noBucket }
+unsound = record {
+  sound = false;
+  buckets = 0;
+  expired = 0;
+  «live_total» = 0;
+  «live_declined» = 0;
+  oldest = noBucket;
+  newest = noBucket;
+  eldest = noBucket;
+}
 
 abbrev pub pick : Bool → Pass → Pass → Pass
 pick true x y = x

@@ -1,5 +1,5 @@
 -- Why a ring is emptied at once: in a sound slot times do not fall, so where the newest bucket is expired all are, and nothing
--- is live. w is the window in ticks: at `windowTicks W`, `older`, `ahead`, `recent` are `expired W`, `gone W`, `evicted W`.
+-- is live. w is the window in ticks: `older`, `ahead`, `recent` are `expired`, `gone`, `evicted` there.
 -- Assumes nothing.
 use mathlib.Core.Path.{_≡_, refl, sym, ap, _∙_}
 use mathlib.Core.Bool.{Bool, true, false, cond}
@@ -109,12 +109,12 @@ newest-at r b n d x e z v = v ∙ ap (λ (i : ℕ). getD (buckets r b) i noBucke
 -- ---- what it rests on
 
 -- the oldest would not do: it is expired here, and the newest, at age exactly the window, is live
-pub oldest-too-early : (expired 10 20000 (bucket 1 0 9999) ≡ true) × (gone 10 20000 (bucket 1 0 9999 ∷ bucket 1 0 10000 ∷ []) ≡ 1)
+pub oldest-too-early : (expired 10000 20000 (bucket 1 0 9999) ≡ true) × (gone 10000 20000 (bucket 1 0 9999 ∷ bucket 1 0 10000 ∷ []) ≡ 1)
 unfolding ahead older
 oldest-too-early = (refl, refl)
 
 -- nor would the newest at age exactly the window: nothing goes there, and a millisecond on all do
-pub window-too-early : (gone 10 20000 (bucket 1 0 10000 ∷ bucket 1 0 10000 ∷ []) ≡ 0) × (gone 10 20001 (bucket 1 0 10000 ∷ bucket 1 0 10000 ∷ []) ≡ 2)
+pub window-too-early : (gone 10000 20000 (bucket 1 0 10000 ∷ bucket 1 0 10000 ∷ []) ≡ 0) × (gone 10000 20001 (bucket 1 0 10000 ∷ bucket 1 0 10000 ∷ []) ≡ 2)
 unfolding ahead older
 window-too-early = (refl, refl)
 
@@ -122,6 +122,6 @@ window-too-early = (refl, refl)
 abbrev falling : List Bucket
 falling = bucket 1 0 10000 ∷ bucket 1 0 9999 ∷ []
 
-pub order-needed : (expired 10 20000 (newest falling) ≡ true) × (gone 10 20000 falling ≡ 0)
+pub order-needed : (expired 10000 20000 (newest falling) ≡ true) × (gone 10000 20000 falling ≡ 0)
 unfolding ahead older
 order-needed = (refl, refl)

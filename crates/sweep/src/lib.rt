@@ -180,6 +180,7 @@ fn no_pass() -> Pass
         live_declined: 0,
         oldest: nothing(),
         newest: nothing(),
+        eldest: nothing(),
     }
 }
 
@@ -204,10 +205,11 @@ fn pass_fit(b: &[u64], r: usize, last: u64, reading: u64, window: u64) -> Pass
         live_declined: g.declined,
         oldest: ring::nth_or_none(b, r, expired),
         newest,
+        eldest: ring::nth_or_none(b, r, 0),
     }
 }
 
-// Judges and measures a key's buckets in one pass, whatever the words. `window` is in milliseconds.
+// Judges and measures a key's buckets in one pass, whatever the words. `window` is in ticks.
 pub fn pass(b: &[u64], r: usize, last: u64, reading: u64, window: u64) -> Pass
     ensures { λ x. ⌜ x ≡ passOf r (now (b .entry)) last reading window ⌝ }
 {

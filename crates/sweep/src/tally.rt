@@ -15,7 +15,7 @@ pub struct Gone {
     pub declined: u64,
 }
 
-// What a pass finds. Where the buckets are not sound, all is zero.
+// What a pass finds; `oldest` is the oldest that is live, `eldest` the oldest of all. Where the buckets are not sound, all is zero.
 pub struct Pass {
     pub sound: bool,
     pub buckets: usize,
@@ -24,4 +24,5 @@ pub struct Pass {
     pub live_declined: u64,
     pub oldest: Bucket,
     pub newest: Bucket,
+    pub eldest: Bucket,
 }

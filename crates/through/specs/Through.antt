@@ -10,9 +10,8 @@ use Rattle.answers.specs.Rows.{decisionRow, shotRow, numberOf}
 use Rattle.answers.specs.declared.RateLimitDecision.the-variants.{Allowed}
 use Rattle.answers.specs.declared.ShotAnswer.the-variants.{Held, Decided}
 use Rattle.common.specs.declared.units.RateLimit.{RateLimit}
-use Rattle.settings.specs.Settings.{windowIn, bucketIn}
+use Rattle.settings.specs.Clock.{windowTicks, joinTicks}
 use Rattle.settings.specs.declared.Settings.{Settings}
-use Rattle.rules.specs.Buckets.{windowTicks}
 use Rattle.rules.specs.declared.RoomKind.the-variants.{Suppressed}
 use Rattle.room.specs.Room.{empty}
 use Rattle.suppressed_verdicts.specs.Calls.{inc}
@@ -21,7 +20,7 @@ use Rattle.gateway.specs.Gateway.{asShot}
 use Rattle.admissions.specs.Log.{Entry, inSpan, aged}
 use Rattle.steps.specs.Ops.{draws, Call, words}
 use Rattle.demand3.specs.History.{IsKey, hardOf, softOf, Clause, AllBy, LeavesAlone, Spares}
-use Rattle.demand3.specs.Demand3.{lessBucket, oneWindow, increment, ceiling, mission-ceiling, floor, mission-floor, Ceiling, Floor}
+use Rattle.demand3.specs.Demand3.{lessBucket, lookBack, increment, ceiling, mission-ceiling, floor, mission-floor, Ceiling, Floor}
 use Rattle.through.specs.Shot.{asks, as-shot-row, shot-quiet, limiter-answers}
 use Rattle.through.specs.Events.{Event, shot, call, season, Lent, lent, left, asking, asked, admittedIn, same-room, same-log}
 
@@ -58,7 +57,7 @@ all-asked P s key rate x (e ∷ es) p =
 abbrev pub CeilingThrough : (Settings → ℕ) → (Settings → RateLimit → ℕ) → Clause → Type 0
 CeilingThrough span limit P =
     (s : Settings) (slots ring : ℕ) (table key : List ℕ) (rate : RateLimit) (events : List Event) →
-    IsKey key → bucketIn s ≤ windowTicks (windowIn s) → EachBy P s key rate (lent table (empty slots ring)) events →
+    IsKey key → joinTicks s ≤ windowTicks s → EachBy P s key rate (lent table (empty slots ring)) events →
     (from : ℕ) → inSpan from (from + span s) (admittedIn s key (lent table (empty slots ring)) events) ≤ limit s rate
 
 carry-ceiling : (P : Clause) → Ceiling lessBucket hardOf P → CeilingThrough lessBucket hardOf P
@@ -77,14 +76,14 @@ mission-through-ceiling = carry-ceiling LeavesAlone mission-ceiling
 abbrev pub FloorThrough : (Settings → ℕ) → (Settings → RateLimit → ℕ) → Clause → Type 0
 FloorThrough back limit P =
     (s : Settings) (slots ring : ℕ) (table key : List ℕ) (rate : RateLimit) (events : List Event) (t number : ℕ) (given : RateLimit) (draw : ℕ) →
-    IsKey key → bucketIn s ≤ windowTicks (windowIn s) →
+    IsKey key → joinTicks s ≤ windowTicks s →
     let x = lent table (empty slots ring) in
     let y = left s x events in
     let answer = Gateway.shot s (y .table) (y .room) t key number given draw .answer in
     EachBy P s key rate x (shot t key number given draw ∷ events) → numberOf (shotRow answer) ≡ 0 → answer ≢ Held →
     1 + aged (back s) t (admittedIn s key x events) ≤ limit s rate → answer ≡ Decided Allowed
 
-carry-floor : (P : Clause) → Floor oneWindow softOf P → FloorThrough oneWindow softOf P
+carry-floor : (P : Clause) → Floor lookBack softOf P → FloorThrough lookBack softOf P
 carry-floor P f s slots ring table key rate events t number given draw is le p n h l = go (asks w key number) refl
   where
     x : Lent
@@ -116,11 +115,11 @@ carry-floor P f s slots ring table key rate events t number given draw is le p n
         let d : inc s (words Suppressed s (empty slots ring) calls) t key given 1 draw .answer ≡ Allowed =
         f s slots ring key rate calls t given 1 draw is le
         (subst (λ (y : List ℕ). P s key rate y t (draws key given 1 draw)) same (p .0), all-asked P s key rate x events (p .1)) on
-        (subst (λ (g : List Entry). 1 + aged (oneWindow s) t g ≤ softOf s rate) (same-log s key x events) l) in
+        (subst (λ (g : List Entry). 1 + aged (lookBack s) t g ≤ softOf s rate) (same-log s key x events) l) in
         a ∙ ap (λ (y : List ℕ). asShot (inc s y t key given 1 draw .answer)) same ∙ ap asShot d
 
-pub through-floor : FloorThrough oneWindow softOf Spares
+pub through-floor : FloorThrough lookBack softOf Spares
 through-floor = carry-floor Spares floor
 
-pub mission-through-floor : FloorThrough oneWindow softOf LeavesAlone
+pub mission-through-floor : FloorThrough lookBack softOf LeavesAlone
 mission-through-floor = carry-floor LeavesAlone mission-floor

@@ -9,12 +9,11 @@ use native.Mathlib.Omega.{arith}
 use lib.ListN.{getD, drop}
 use Rattle.answers.specs.Rows.{decisionRow, numberOf}
 use Rattle.common.specs.Ranges.{one}
-use Rattle.settings.specs.Settings.{windowIn}
+use Rattle.settings.specs.Clock.{windowTicks}
 use Rattle.answers.specs.declared.RateLimitDecision.{RateLimitDecision}
 use Rattle.answers.specs.declared.RateLimitDecision.the-variants as decision
 use Rattle.answers.specs.declared.RateLimitDecision.the-variants.{Allowed}
 use Rattle.settings.specs.declared.Settings.{Settings}
-use Rattle.rules.specs.Buckets.{windowTicks}
 use Rattle.rules.specs.declared.RoomKind.the-variants.{Suppressed}
 use Rattle.judge.specs.Verdict.{Verdict}
 use Rattle.suppressed_verdicts.specs.Calls as Own
@@ -63,7 +62,7 @@ Ceiling f = (shots : List Shot) (from : ℕ) → inSpan from (from + lessBucket 
 abbrev pub Floor : Inc → Type 0
 Floor f =
     (shots : List Shot) (c : Shot) → numberOf (decisionRow (shotBy f (wordsBy f shots) c .answer)) ≡ 0 →
-    c .count + aged (windowTicks (windowIn (hardBy 2))) (c .reading) (logBy f shots) ≤ soft → shotBy f (wordsBy f shots) c .answer ≡ Allowed
+    c .count + aged (windowTicks (hardBy 2)) (c .reading) (logBy f shots) ≤ soft → shotBy f (wordsBy f shots) c .answer ≡ Allowed
 
 -- ---- the limiter itself keeps both
 
@@ -96,8 +95,8 @@ own-ceiling shots from =
 pub own-floor : Floor Own.inc
 own-floor shots c z h =
     let n = subst (λ (v : List ℕ). numberOf (decisionRow (shotBy Own.inc v c .answer)) ≡ 0) (sym (same-words shots)) z in
-    let a : c .count + aged (windowTicks (windowIn (hardBy 2))) (c .reading) (admitted (hardBy 2) key room (calls shots)) ≤ soft =
-    subst (λ (l : List Entry). c .count + aged (windowTicks (windowIn (hardBy 2))) (c .reading) l ≤ soft) (sym (same-log shots)) h in
+    let a : c .count + aged (windowTicks (hardBy 2)) (c .reading) (admitted (hardBy 2) key room (calls shots)) ≤ soft =
+    subst (λ (l : List Entry). c .count + aged (windowTicks (hardBy 2)) (c .reading) l ≤ soft) (sym (same-log shots)) h in
     subst (λ (v : List ℕ). shotBy Own.inc v c .answer ≡ Allowed) (same-words shots)
     (mission-floor (hardBy 2) 1 3 key (perSecond one) (calls shots) (c .reading) (perSecond one) (c .count) (c .draw) is-key (omega arith)
     (calls-alone (c ∷ shots)) n (omega (arith, a, further .soft-10)))

@@ -1,17 +1,24 @@
 -- The slot opened is the key's, what it planned can be carried out, and every refusal is settled before that.
 -- Assumes nothing.
-use mathlib.Core.Path.{refl, sym, ap, _∙_}
+use mathlib.Core.Path.{refl, sym, ap, ap₂, subst, _∙_}
 use mathlib.Core.Bool.{Bool}
 use Prim.Native.Nat.{ℕ}
+use Rattle.common.specs.Limits.{absoluteWord}
+use Rattle.common.specs.Ranges.{rateOk}
+use Rattle.common.specs.Refusals.{first}
 use Rattle.room.specs.Room.{ringOf}
-use Rattle.settings.specs.Settings.{windowIn, bucketIn}
+use Rattle.settings.specs.Settings.{windowIn}
+use Rattle.settings.specs.Clock.{ticksIn}
 use Rattle.rules.specs.declared.RoomKind.the-variants.{Absolute}
-use Rattle.opened.specs.Slot.{noSlot, slotOf}
+use Rattle.opened.specs.declared.Slot.{Slot}
+use Rattle.opened.specs.Slot.{noSlot, slotOf, firstLook}
 use Rattle.judge.specs.declared.Judged.{Judged}
 use Rattle.judge.specs.Laws.{refused-is, passed-is, fault-early, no-fault}
+use Rattle.change.specs.Words.{Applies, applied}
+use Rattle.plan.specs.Plan.{lacksAt}
 use Rattle.absolute_test.specs.Test.{allowedAt, decidedAt}
-use Rattle.absolute_opened.specs.Opened.{clearsAt}
-use Rattle.absolute_verdicts.specs.Told.{Goes, window-fits, inc-refused, inc-late, inc-fits, inc-done}
+use Rattle.absolute_opened.specs.Opened.{clearsAt, incRefusals, incChange}
+use Rattle.absolute_verdicts.specs.Told.{Goes, inc-refused, inc-late, inc-fits, inc-done}
 use borrow.Author.Needs.{needs}
 use Rattle.absolute_inc.proofs.inc.Statement.{statement}
 use Rattle.absolute_inc.proofs.inc.Tie as tie
@@ -24,171 +31,236 @@ same-length c = search needs
 
 returns : tie.Need-returns
 returns c =
-    let a = c .before .before .before .before .before .before .before .args in
-    let n = c .before .fault in
-    let e = fault-early Absolute (a .settings) (a .room .now) (a .reading) (a .key .now) (n .result) (n .ensures) (c .if1 .taken) in
-    inc-refused (a .settings) (a .room .now) (a .reading) (a .key .now) (a .rate) (a .count) (record { code = n .result; slot = noSlot 0 })
-    (refused-is Absolute (a .settings) (a .room .now) (a .reading) (a .key .now) (n .result) e (c .if1 .taken)) (c .if1 .taken)
+    let y = c .before in
+    let a = y .before .before .before .before .args in
+    let e = fault-early Absolute (a .settings) (a .room .now) (a .reading) (a .key .now) (y .fault .result) (y .fault .ensures) (c .if1 .taken) in
+    inc-refused (a .settings) (a .room .now) (a .reading) (a .key .now) (a .rate) (a .count) (record { code = y .fault .result; slot = noSlot 0 })
+    (refused-is Absolute (a .settings) (a .room .now) (a .reading) (a .key .now) (y .fault .result) e (c .if1 .taken)) (c .if1 .taken)
+
+window-ticks-requires : tie.Need-window-ticks-requires
+window-ticks-requires c κs =
+    let y = c .before in
+    let a = y .before .before .before .before .args in
+    no-fault Absolute (a .settings) (a .room .now) (a .reading) (a .key .now) (sym (y .fault .ensures) ∙ c .if1 .left) .1 .window-high
 
 address-requires : tie.Need-address-requires
 address-requires c κs =
-    let a = c .before .before .before .before .before .before .before .before .args in
-    no-fault Absolute (a .settings) (a .room .now) (a .reading) (a .key .now) (sym (c .before .before .fault .ensures) ∙ c .before .if1 .left) .0
+    let y = c .before .before in
+    let d = y .before in
+    let a = d .before .before .before .before .args in
+    no-fault Absolute (a .settings) (a .room .now) (a .reading) (a .key .now) (sym (d .fault .ensures) ∙ y .if1 .left) .0
 
 open-at-requires : tie.Need-open-at-requires
 open-at-requires c κs =
-    let a = c .before .before .before .before .before .before .before .before .before .args in
-    let o = no-fault Absolute (a .settings) (a .room .now) (a .reading) (a .key .now) (sym (c .before .before .before .fault .ensures) ∙ c .before
-    .before .if1 .left) in
-    (o .0, o .1 .window-high)
+    let y = c .before .before .before in
+    let d = y .before in
+    let a = d .before .before .before .before .args in
+    no-fault Absolute (a .settings) (a .room .now) (a .reading) (a .key .now) (sym (d .fault .ensures) ∙ y .if1 .left) .0
 
 misfit-requires : tie.Need-misfit-requires
 misfit-requires c κs =
-    let a = c .before .before .before .before .before .before .before .before .before .before .before .args in
-    let o = no-fault Absolute (a .settings) (a .room .now) (a .reading) (a .key .now) (sym (c .before .before .before .before
-    .before .fault .ensures) ∙ c .before .before .before .before .if1 .left) in
-    (o .0, o .1, c .before .open-at .ensures ∙ ap (slotOf (windowIn (a .settings)) (a .room .now) (a .reading)) (c .before .before .address .ensures))
+    let y = c .before in
+    let d = y .before in
+    let m = d .before .before in
+    let n = m .before in
+    let o = n .before in
+    let a = o .before .before .before .before .args in
+    let none = no-fault Absolute (a .settings) (a .room .now) (a .reading) (a .key .now) (sym (o .fault .ensures) ∙ n .if1 .left) in (
+      none .0,
+      none .1,
+      y .open-at .ensures ∙ ap₂ (λ (ticks at : ℕ). slotOf ticks (a .room .now) (a .reading) at) (m .window-ticks .ensures)
+          (d .address .ensures),
+    )
 
 same-length-2 : tie.Need-same-length-2
 same-length-2 c = search needs
 
 returns-2 : tie.Need-returns-2
 returns-2 c =
-    let a = c .before .before .before .before .before .before .before .before .before .before .before .before .before .args in
-    let n = c .before .misfit in
-    inc-refused (a .settings) (a .room .now) (a .reading) (a .key .now) (a .rate) (a .count) (record { code = n .result; slot = noSlot 0 })
-    (refused-is Absolute (a .settings) (a .room .now) (a .reading) (a .key .now) (n .result) (sym (n .ensures)) (c .if2 .taken)) (c .if2 .taken)
+    let y = c .before in
+    let a = y .before .before .before .before .before .before .before .before .before .before .before .args in
+    inc-refused (a .settings) (a .room .now) (a .reading) (a .key .now) (a .rate) (a .count) (record { code = y .misfit .result; slot = noSlot 0 })
+    (refused-is Absolute (a .settings) (a .room .now) (a .reading) (a .key .now) (y .misfit .result) (sym (y .misfit .ensures)) (c .if2 .taken)) (c .if2 .taken)
 
 place-requires : tie.Need-place-requires
 place-requires c κs =
-    let a = c .before .before .before .before .before .before .before .before .before .before .before .before .before .before .args in
-    no-fault Absolute (a .settings) (a .room .now) (a .reading) (a .key .now) (sym (c .before .before .before .before .before .before .before
-    .before .fault .ensures) ∙ c .before .before .before .before .before .before .before .if1 .left) .0
+    let y = c .before .before .before .before .before .before .before .before in
+    let d = y .before in
+    let a = d .before .before .before .before .args in
+    no-fault Absolute (a .settings) (a .room .now) (a .reading) (a .key .now) (sym (d .fault .ensures) ∙ y .if1 .left) .0
 
 cut-limit-requires : tie.Need-cut-limit-requires
 cut-limit-requires c κs = search needs
 
+look-ticks-requires : tie.Need-look-ticks-requires
+look-ticks-requires c κs =
+    let y = c .before .before .before .before .before .before .before .before .before .before in
+    let d = y .before in
+    let a = d .before .before .before .before .args in
+    no-fault Absolute (a .settings) (a .room .now) (a .reading) (a .key .now) (sym (d .fault .ensures) ∙ y .if1 .left) .1 .window-high
+
+first-look-requires : tie.Need-first-look-requires
+first-look-requires c κs = search needs
+
 allows-requires : tie.Need-allows-requires
 allows-requires c κs = search needs
 
+join-ticks-requires : tie.Need-join-ticks-requires
+join-ticks-requires c κs =
+    let y = c .before .before .before .before .before .before .before .before .before .before .before .before .before in
+    let d = y .before in
+    let a = d .before .before .before .before .args in
+    no-fault Absolute (a .settings) (a .room .now) (a .reading) (a .key .now) (sym (d .fault .ensures) ∙ y .if1 .left) .1 .bucket-high
+
 clears-requires : tie.Need-clears-requires
 clears-requires c κs =
-    let a = c .before .before .before .before .before .before .before .before .before .before .before .before .before .before .before .before
-    .before .before .args in
-    no-fault Absolute (a .settings) (a .room .now) (a .reading) (a .key .now) (sym (c .before .before .before .before .before .before .before
-    .before .before .before .before .before .fault .ensures) ∙ c .before .before .before .before .before .before .before .before .before .before
-    .before .if1 .left) .0
+    let y = c .before .before .before .before .before .before .before .before .before .before .before .before .before .before .before in
+    let d = y .before in
+    let a = d .before .before .before .before .args in
+    no-fault Absolute (a .settings) (a .room .now) (a .reading) (a .key .now) (sym (d .fault .ensures) ∙ y .if1 .left) .0
 
 late-requires : tie.Need-late-requires
 late-requires c κs =
-    let a = c .before .before .before .before .before .before .before .before .before .before .before .before .before .before .before .before
-    .before .before .before .before .args in
-    no-fault Absolute (a .settings) (a .room .now) (a .reading) (a .key .now) (sym (c .before .before .before .before .before .before .before
-    .before .before .before .before .before .before .before .fault .ensures) ∙ c .before .before .before .before .before .before .before .before
-    .before .before .before .before .before .if1 .left) .0
+    let y = c .before .before .before .before .before .before .before .before .before .before .before .before .before .before .before .before .before in
+    let d = y .before in
+    let a = d .before .before .before .before .args in
+    no-fault Absolute (a .settings) (a .room .now) (a .reading) (a .key .now) (sym (d .fault .ensures) ∙ y .if1 .left) .0
 
 same-length-3 : tie.Need-same-length-3
 same-length-3 c = search needs
 
 returns-3 : tie.Need-returns-3
 returns-3 c =
-    let a = c .before .before .before .before .before .before .before .before .before .before .before .before .before .before .before .before
-    .before .before .before .before .before .before .args in
-    let o = c .before .before .before .before .before .before .before .before .before .before .before .before .open-at in
-    let e = sym (c .before .before .before .before .before .before .before .before .before .before .misfit .ensures) ∙ c .before .before .before
-    .before .before .before .before .before .before .if2 .left in
-    let x = o .result in
-    let k = o .ensures ∙ ap (slotOf (windowIn (a .settings)) (a .room .now) (a .reading)) (c .before .before .before .before .before .before .before
-    .before .before .before .before .before .before .address .ensures) in
-    let j : Judged = record { code = 0; slot = x } in
+    let y = c .before in
+    let d = y .before .before in
+    let m = d .before .before in
+    let n = m .before in
+    let o = n .before in
+    let p = o .before in
+    let q = p .before in
+    let r = q .before in
+    let u = r .before .before in
+    let v = u .before in
+    let g = v .before .before in
+    let h = g .before in
+    let i = h .before .before in
+    let a = i .before .before .before .before .before .before .args in
+    let slot = g .open-at .result in
+    let e = sym (v .misfit .ensures) ∙ u .if2 .left in
+    let slot-is = g .open-at .ensures ∙ ap₂ (λ (ticks at : ℕ). slotOf ticks (a .room .now) (a .reading) at) (i .window-ticks .ensures) (h .address .ensures) in
+    let looked = (o .first-look .ensures ∙ ap (λ (look : ℕ). firstLook look (a .reading) (g .open-at .result)) (p .look-ticks .ensures)) in
+    let j : Judged = record { code = 0; slot = slot } in
     let goes : Goes (a .settings) (a .room .now) (a .reading) (a .key .now) j = record
-    { is = passed-is Absolute (a .settings) (a .room .now) (a .reading) (a .key .now) x e k; none = refl } in
-    let i = c .before .before .before .before .before .before .cut-limit in
-    let p = c .before .before .before .before .before .before .before .place in
-    let n = c .before .before .before .before .before .allows in
-    let m = c .before .before .before .clears in
-    let l = c .before .late in
-    let may = n .ensures ∙ ap (λ (y : ℕ). allowedAt y x) (i .ensures) in
-    let out = m .ensures ∙ ap (λ (y : ℕ). clearsAt (ringOf (a .room .now)) (bucketIn (a .settings)) (a .reading) (a .count) y x) (i .ensures) in
-    inc-late (a .settings) (a .room .now) (a .reading) (a .key .now) (a .rate) (a .count) j (p .result) (n .result) (m .result) (l .result)
-    (record { goes = goes; place-is = p .ensures; may-is = may; out-is = out; number-is = l .ensures }) (c .if3 .taken)
+    { is = passed-is Absolute (a .settings) (a .room .now) (a .reading) (a .key .now) slot e slot-is; none = refl } in
+    let may = n .allows .ensures ∙ ap₂ (λ (limit : ℕ) (x : Slot). allowedAt limit x) (q .cut-limit .ensures) looked in
+    let out = d .clears .ensures ∙
+    ap₂ (λ (ticks limit : ℕ). clearsAt (ringOf (a .room .now)) ticks (a .reading) (a .count) limit slot) (m .join-ticks .ensures)
+    (q .cut-limit .ensures) in
+    let number = y .late .ensures ∙
+    ap (λ (ticks : ℕ). first (incRefusals (ringOf (a .room .now)) ticks (a .reading) (a .count) (rateOk (a .rate .0)) (n .allows .result)
+    (lacksAt (a .room .now) (r .place .result) slot) (d .clears .result) slot)) (m .join-ticks .ensures) in
+    inc-late (a .settings) (a .room .now) (a .reading) (a .key .now) (a .rate) (a .count) j (r .place .result) (n .allows .result)
+    (d .clears .result) (y .late .result)
+    (record { goes = goes; place-is = r .place .ensures; may-is = may; out-is = out; number-is = number }) (c .if3 .taken)
 
 decided-requires : tie.Need-decided-requires
 decided-requires c κs =
-    let a = c .before .before .before .before .before .before .before .before .before .before .before .before .before .before .before .before
-    .before .before .before .before .before .before .args in
-    let o = c .before .before .before .before .before .before .before .before .before .before .before .before .open-at in
-    let e = sym (c .before .before .before .before .before .before .before .before .before .before .misfit .ensures) ∙ c .before .before .before
-    .before .before .before .before .before .before .if2 .left in
-    let x = o .result in
-    let k = o .ensures ∙ ap (slotOf (windowIn (a .settings)) (a .room .now) (a .reading)) (c .before .before .before .before .before .before .before
-    .before .before .before .before .before .before .address .ensures) in
-    let j : Judged = record { code = 0; slot = x } in
-    let goes : Goes (a .settings) (a .room .now) (a .reading) (a .key .now) j = record
-    { is = passed-is Absolute (a .settings) (a .room .now) (a .reading) (a .key .now) x e k; none = refl } in
-    window-fits (a .settings) (a .room .now) (a .reading) (a .key .now) j goes
+    let e = c .before .before .before .before .before .before .before .before .before in
+    let y = e .before .before .before .before .before .before .before .before .before .before in
+    let d = y .before in
+    let a = d .before .before .before .before .args in
+    no-fault Absolute (a .settings) (a .room .now) (a .reading) (a .key .now) (sym (d .fault .ensures) ∙ y .if1 .left) .1 .window-high
 
 inc-change-requires : tie.Need-inc-change-requires
 inc-change-requires c κs = search needs
 
 apply-requires : tie.Need-apply-requires
 apply-requires c κs =
-    let a = c .before .before .before .before .before .before .before .before .before .before .before .before .before .before .before .before
-    .before .before .before .before .before .before .before .before .before .args in
-    let o = c .before .before .before .before .before .before .before .before .before .before .before .before .before .before .before .open-at in
-    let e = sym (c .before .before .before .before .before .before .before .before .before .before .before .before .before .misfit .ensures) ∙ c
-    .before .before .before .before .before .before .before .before .before .before .before .before .if2 .left in
-    let x = o .result in
-    let k = o .ensures ∙ ap (slotOf (windowIn (a .settings)) (a .room .now) (a .reading)) (c .before .before .before .before .before .before .before
-    .before .before .before .before .before .before .before .before .before .address .ensures) in
-    let j : Judged = record { code = 0; slot = x } in
+    let y = c .before in
+    let d = y .before .before in
+    let m = d .before in
+    let n = m .before .before in
+    let o = n .before .before in
+    let p = o .before in
+    let q = p .before in
+    let r = q .before in
+    let u = r .before in
+    let v = u .before in
+    let g = v .before .before in
+    let h = g .before in
+    let i = h .before .before in
+    let k = i .before in
+    let f = k .before .before in
+    let a = f .before .before .before .before .before .before .args in
+    let slot = i .open-at .result in
+    let e = sym (h .misfit .ensures) ∙ g .if2 .left in
+    let slot-is = i .open-at .ensures ∙ ap₂ (λ (ticks at : ℕ). slotOf ticks (a .room .now) (a .reading) at) (f .window-ticks .ensures) (k .address .ensures) in
+    let looked = (q .first-look .ensures ∙ ap (λ (look : ℕ). firstLook look (a .reading) (i .open-at .result)) (r .look-ticks .ensures)) in
+    let j : Judged = record { code = 0; slot = slot } in
     let goes : Goes (a .settings) (a .room .now) (a .reading) (a .key .now) j = record
-    { is = passed-is Absolute (a .settings) (a .room .now) (a .reading) (a .key .now) x e k; none = refl } in
-    let i = c .before .before .before .before .before .before .before .before .before .cut-limit in
-    let p = c .before .before .before .before .before .before .before .before .before .before .place in
-    let n = c .before .before .before .before .before .before .before .before .allows in
-    let m = c .before .before .before .before .before .before .clears in
-    let l = c .before .before .before .before .late in
-    let may = n .ensures ∙ ap (λ (y : ℕ). allowedAt y x) (i .ensures) in
-    let out = m .ensures ∙ ap (λ (y : ℕ). clearsAt (ringOf (a .room .now)) (bucketIn (a .settings)) (a .reading) (a .count) y x) (i .ensures) in
-    let h = c .before .inc-change in
-    inc-fits (a .settings) (a .room .now) (a .reading) (a .key .now) (a .rate) (a .count) j (p .result) (n .result) (m .result) (l .result)
-    (record { goes = goes; place-is = p .ensures; may-is = may; out-is = out; number-is = l .ensures }) (c .before .before
-    .before .if3 .left) (h .result) (h .ensures)
+    { is = passed-is Absolute (a .settings) (a .room .now) (a .reading) (a .key .now) slot e slot-is; none = refl } in
+    let may = p .allows .ensures ∙ ap₂ (λ (limit : ℕ) (x : Slot). allowedAt limit x) (u .cut-limit .ensures) looked in
+    let out = n .clears .ensures ∙
+    ap₂ (λ (ticks limit : ℕ). clearsAt (ringOf (a .room .now)) ticks (a .reading) (a .count) limit slot) (o .join-ticks .ensures)
+    (u .cut-limit .ensures) in
+    let number = m .late .ensures ∙
+    ap (λ (ticks : ℕ). first (incRefusals (ringOf (a .room .now)) ticks (a .reading) (a .count) (rateOk (a .rate .0)) (p .allows .result)
+    (lacksAt (a .room .now) (v .place .result) slot) (n .clears .result) slot)) (o .join-ticks .ensures) in
+    subst (λ (ticks : ℕ). Applies (a .room .now) (v .place .result) ticks (a .reading) (y .inc-change .result)) (sym (o .join-ticks .ensures))
+    (inc-fits (a .settings) (a .room .now) (a .reading) (a .key .now) (a .rate) (a .count) j (v .place .result) (p .allows .result)
+    (n .clears .result) (m .late .result)
+    (record { goes = goes; place-is = v .place .ensures; may-is = may; out-is = out; number-is = number }) (d .if3 .left)
+    (y .inc-change .result) (y .inc-change .ensures ∙
+    ap (incChange (absoluteWord (a .rate .0) (windowIn (a .settings))) (a .count) (p .allows .result) (n .clears .result) slot) looked))
 
 same-length-4 : tie.Need-same-length-4
 same-length-4 c = search needs
 
 returns-4 : tie.Need-returns-4
 returns-4 c =
-    let a = c .before .before .before .before .before .before .before .before .before .before .before .before .before .before .before .before
-    .before .before .before .before .before .before .before .before .before .before .before .before .args in
-    let o = c .before .before .before .before .before .before .before .before .before .before .before .before .before .before .before .before
-    .before .before .open-at in
-    let e = sym (c .before .before .before .before .before .before .before .before .before .before .before .before .before .before .before
-    .before .misfit .ensures) ∙ c .before .before .before .before .before .before .before .before .before .before .before .before .before .before
-    .before .if2 .left in
-    let x = o .result in
-    let k = o .ensures ∙ ap (slotOf (windowIn (a .settings)) (a .room .now) (a .reading)) (c .before .before .before .before .before .before .before
-    .before .before .before .before .before .before .before .before .before .before .before .before .address .ensures) in
-    let j : Judged = record { code = 0; slot = x } in
+    let y = c .before .before in
+    let d = y .before .before in
+    let m = d .before in
+    let n = m .before in
+    let o = n .before in
+    let p = o .before .before in
+    let q = p .before .before in
+    let r = q .before in
+    let u = r .before in
+    let v = u .before in
+    let g = v .before in
+    let h = g .before in
+    let i = h .before .before in
+    let k = i .before in
+    let f = k .before .before in
+    let l = f .before in
+    let b = l .before .before in
+    let a = b .before .before .before .before .before .before .args in
+    let slot = f .open-at .result in
+    let e = sym (k .misfit .ensures) ∙ i .if2 .left in
+    let slot-is = f .open-at .ensures ∙ ap₂ (λ (ticks at : ℕ). slotOf ticks (a .room .now) (a .reading) at) (b .window-ticks .ensures) (l .address .ensures) in
+    let looked = (u .first-look .ensures ∙ ap (λ (look : ℕ). firstLook look (a .reading) (f .open-at .result)) (v .look-ticks .ensures)) in
+    let j : Judged = record { code = 0; slot = slot } in
     let goes : Goes (a .settings) (a .room .now) (a .reading) (a .key .now) j = record
-    { is = passed-is Absolute (a .settings) (a .room .now) (a .reading) (a .key .now) x e k; none = refl } in
-    let i = c .before .before .before .before .before .before .before .before .before .before .before .before .cut-limit in
-    let p = c .before .before .before .before .before .before .before .before .before .before .before .before .before .place in
-    let n = c .before .before .before .before .before .before .before .before .before .before .before .allows in
-    let m = c .before .before .before .before .before .before .before .before .before .clears in
-    let l = c .before .before .before .before .before .before .before .late in
-    let may = n .ensures ∙ ap (λ (y : ℕ). allowedAt y x) (i .ensures) in
-    let out = m .ensures ∙ ap (λ (y : ℕ). clearsAt (ringOf (a .room .now)) (bucketIn (a .settings)) (a .reading) (a .count) y x) (i .ensures) in
-    let h = c .before .before .before .before .inc-change in
-    let y = c .before .before .apply in
-    let v = c .before .before .before .before .before .decided in
-    let window = a .settings .«window_size» in
-    inc-done (a .settings) (a .room .now) (a .reading) (a .key .now) (a .rate) (a .count) j (p .result) (n .result) (m .result) (l .result)
-    (record { goes = goes; place-is = p .ensures; may-is = may; out-is = out; number-is = l .ensures }) (c .before .before .before .before .before
-    .before .if3 .left) (h .result) (h .ensures) (y .last .0) (y .ensures) (v .result)
-    (v .ensures ∙ ap (λ (z : Bool). decidedAt window (a .reading) z x) may)
+    { is = passed-is Absolute (a .settings) (a .room .now) (a .reading) (a .key .now) slot e slot-is; none = refl } in
+    let may = r .allows .ensures ∙ ap₂ (λ (limit : ℕ) (x : Slot). allowedAt limit x) (g .cut-limit .ensures) looked in
+    let out = p .clears .ensures ∙
+    ap₂ (λ (ticks limit : ℕ). clearsAt (ringOf (a .room .now)) ticks (a .reading) (a .count) limit slot) (q .join-ticks .ensures)
+    (g .cut-limit .ensures) in
+    let number = o .late .ensures ∙
+    ap (λ (ticks : ℕ). first (incRefusals (ringOf (a .room .now)) ticks (a .reading) (a .count) (rateOk (a .rate .0)) (r .allows .result)
+    (lacksAt (a .room .now) (h .place .result) slot) (p .clears .result) slot)) (q .join-ticks .ensures) in
+    inc-done (a .settings) (a .room .now) (a .reading) (a .key .now) (a .rate) (a .count) j (h .place .result) (r .allows .result)
+    (p .clears .result) (o .late .result)
+    (record { goes = goes; place-is = h .place .ensures; may-is = may; out-is = out; number-is = number }) (n .if3 .left)
+    (d .inc-change .result) (d .inc-change .ensures ∙
+    ap (incChange (absoluteWord (a .rate .0) (windowIn (a .settings))) (a .count) (r .allows .result) (p .clears .result) slot) looked)
+    (y .apply .last .0)
+    (y .apply .ensures ∙
+    ap (λ (ticks : ℕ). applied (a .room .now) (h .place .result) (a .key .now) ticks (a .reading) (d .inc-change .result)) (q .join-ticks .ensures))
+    (m .decided .result)
+    (m .decided .ensures ∙
+    ap₂ (λ (allowed : Bool) (x : Slot). decidedAt (ticksIn (a .settings)) (a .settings .«window_size») (a .reading) allowed x) may looked)
 
 pub inc-spec : {M : Type 1} → statement M
 inc-spec =
@@ -197,6 +269,7 @@ inc-spec =
     fault-requires
     same-length
     returns
+    window-ticks-requires
     address-requires
     open-at-requires
     misfit-requires
@@ -204,7 +277,10 @@ inc-spec =
     returns-2
     place-requires
     cut-limit-requires
+    look-ticks-requires
+    first-look-requires
     allows-requires
+    join-ticks-requires
     clears-requires
     late-requires
     same-length-3

@@ -35,7 +35,7 @@ returns-3 : tie.Need-returns-3
 returns-3 c =
     let a = c .before .before .before .args in
     ap Update (c .leaving .ensures) ∙
-    sym (counts-change (absoluteWord (a .rate .0) (a .window .0)) (a .count) (a .may) (a .out) (a .x)
+    sym (counts-change (absoluteWord (a .rate .0) (a .window .0)) (a .count) (a .may) (a .out) (a .x) (a .looked)
     (not-false (a .x .series) (c .before .before .if1 .left)) (not-false (a .may) (c .before .if2 .left)))
 
 pub inc-change-spec : {M : Type 1} → statement M

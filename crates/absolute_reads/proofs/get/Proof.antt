@@ -1,5 +1,8 @@
 -- The slot judged is the key's, and what it planned can be carried out.
-use Rattle.absolute_verdicts.specs.Told.{get-refused, get-fits, get-done}
+use mathlib.Core.Path.{sym, ap, subst, _∙_}
+use Prim.Native.Nat.{ℕ}
+use Rattle.change.specs.Words.{Applies, applied}
+use Rattle.absolute_verdicts.specs.Told.{bucket-fits, get-refused, get-fits, get-done}
 use borrow.Author.Needs.{needs}
 use Rattle.absolute_reads.proofs.get.Statement.{statement}
 use Rattle.absolute_reads.proofs.get.Tie as tie
@@ -12,33 +15,45 @@ same-length c = search needs
 
 returns : tie.Need-returns
 returns c =
-    let j = c .before .judge in
-    let a = c .before .before .before .before .before .before .args in
-    get-refused (a .settings) (a .room .now) (a .reading) (a .key .now) (j .result) (j .ensures) (c .if1 .taken)
+    let y = c .before in
+    let a = y .before .before .before .before .args in
+    get-refused (a .settings) (a .room .now) (a .reading) (a .key .now) (y .judge .result) (y .judge .ensures) (c .if1 .taken)
+
+join-ticks-requires : tie.Need-join-ticks-requires
+join-ticks-requires c κs =
+    let y = c .before .before in
+    let d = y .before in
+    let a = d .before .before .before .before .args in
+    bucket-fits (a .settings) (a .room .now) (a .reading) (a .key .now) (d .judge .result) (record { is = d .judge .ensures; none = y .if1 .left })
 
 get-change-requires : tie.Need-get-change-requires
 get-change-requires c κs = search needs
 
 apply-requires : tie.Need-apply-requires
 apply-requires c κs =
-    let k = c .before .before .before .before in
-    let j = k .before .judge in
-    let a = k .before .before .before .before .before .before .args in
-    get-fits (a .settings) (a .room .now) (a .reading) (a .key .now) (j .result) (record { is = j .ensures; none = k .if1 .left }) (c .get-change .result)
-    (c .get-change .ensures)
+    let y = c .before .before in
+    let d = y .before .before .before in
+    let m = d .before in
+    let a = m .before .before .before .before .args in
+    subst (λ (ticks : ℕ). Applies (a .room .now) (m .judge .result .slot .at) ticks (a .reading) (c .get-change .result)) (sym (y .join-ticks .ensures))
+    (get-fits (a .settings) (a .room .now) (a .reading) (a .key .now) (m .judge .result) (record { is = m .judge .ensures; none = d .if1 .left })
+    (c .get-change .result) (c .get-change .ensures))
 
 same-length-2 : tie.Need-same-length-2
 same-length-2 c = search needs
 
 returns-2 : tie.Need-returns-2
 returns-2 c =
-    let m = c .before .before in
-    let g = m .before .get-change in
-    let k = m .before .before .before .before .before in
-    let j = k .before .judge in
-    let a = k .before .before .before .before .before .before .args in
-    get-done (a .settings) (a .room .now) (a .reading) (a .key .now) (j .result) (record { is = j .ensures; none = k .if1 .left }) (g .result) (g .ensures)
-    (m .apply .last .0) (m .apply .ensures)
+    let y = c .before .before in
+    let d = y .before in
+    let m = d .before .before in
+    let n = m .before .before .before in
+    let o = n .before in
+    let a = o .before .before .before .before .args in
+    get-done (a .settings) (a .room .now) (a .reading) (a .key .now) (o .judge .result) (record { is = o .judge .ensures; none = n .if1 .left })
+    (d .get-change .result) (d .get-change .ensures) (y .apply .last .0)
+    (y .apply .ensures ∙
+    ap (λ (ticks : ℕ). applied (a .room .now) (o .judge .result .slot .at) (a .key .now) ticks (a .reading) (d .get-change .result)) (m .join-ticks .ensures))
 
 pub get-spec : {M : Type 1} → statement M
 get-spec =
@@ -47,6 +62,7 @@ get-spec =
     judge-requires
     same-length
     returns
+    join-ticks-requires
     get-change-requires
     apply-requires
     same-length-2

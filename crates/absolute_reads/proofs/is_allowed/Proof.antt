@@ -1,9 +1,14 @@
 -- The slot judged is the key's, and what it planned can be carried out.
-use mathlib.Core.Path.{_∙_, ap}
+use mathlib.Core.Path.{sym, ap, ap₂, subst, _∙_}
 use mathlib.Core.Bool.{Bool}
 use Prim.Native.Nat.{ℕ}
+use Rattle.settings.specs.Clock.{ticksIn}
+use Rattle.opened.specs.declared.Slot.{Slot}
+use Rattle.opened.specs.Slot.{firstLook}
+use Rattle.change.specs.Words.{Applies, applied}
 use Rattle.absolute_test.specs.Test.{evicts, allowedAt, decidedAt}
-use Rattle.absolute_verdicts.specs.Told.{window-fits, ask-refused, ask-fits, ask-done}
+use Rattle.absolute_opened.specs.Opened.{askChange}
+use Rattle.absolute_verdicts.specs.Told.{window-fits, bucket-fits, ask-refused, ask-fits, ask-done}
 use borrow.Author.Needs.{needs}
 use Rattle.absolute_reads.proofs.is_allowed.Statement.{statement}
 use Rattle.absolute_reads.proofs.is_allowed.Tie as tie
@@ -16,40 +21,62 @@ same-length c = search needs
 
 returns : tie.Need-returns
 returns c =
-    let j = c .before .judge in
-    let a = c .before .before .before .before .before .before .before .args in
-    ask-refused (a .settings) (a .room .now) (a .reading) (a .key .now) (j .result) (j .ensures) (c .if1 .taken)
+    let y = c .before in
+    let a = y .before .before .before .before .args in
+    ask-refused (a .settings) (a .room .now) (a .reading) (a .key .now) (y .judge .result) (y .judge .ensures) (c .if1 .taken)
 
 cut-limit-requires : tie.Need-cut-limit-requires
 cut-limit-requires c κs = search needs
+
+look-ticks-requires : tie.Need-look-ticks-requires
+look-ticks-requires c κs =
+    let y = c .before .before in
+    let d = y .before in
+    let a = d .before .before .before .before .args in
+    window-fits (a .settings) (a .room .now) (a .reading) (a .key .now) (d .judge .result) (record { is = d .judge .ensures; none = y .if1 .left })
+
+first-look-requires : tie.Need-first-look-requires
+first-look-requires c κs = search needs
 
 allows-requires : tie.Need-allows-requires
 allows-requires c κs = search needs
 
 decided-requires : tie.Need-decided-requires
 decided-requires c κs =
-    let k = c .before .before .before in
-    let j = k .before .judge in
-    let a = k .before .before .before .before .before .before .before .args in
-    window-fits (a .settings) (a .room .now) (a .reading) (a .key .now) (j .result) (record { is = j .ensures; none = k .if1 .left })
+    let y = c .before .before .before .before .before in
+    let d = y .before in
+    let a = d .before .before .before .before .args in
+    window-fits (a .settings) (a .room .now) (a .reading) (a .key .now) (d .judge .result) (record { is = d .judge .ensures; none = y .if1 .left })
 
 evicts-requires : tie.Need-evicts-requires
 evicts-requires c κs = search needs
+
+join-ticks-requires : tie.Need-join-ticks-requires
+join-ticks-requires c κs =
+    let y = c .before .before .before .before .before .before .before in
+    let d = y .before in
+    let a = d .before .before .before .before .args in
+    bucket-fits (a .settings) (a .room .now) (a .reading) (a .key .now) (d .judge .result) (record { is = d .judge .ensures; none = y .if1 .left })
 
 ask-change-requires : tie.Need-ask-change-requires
 ask-change-requires c κs = search needs
 
 apply-requires : tie.Need-apply-requires
 apply-requires c κs =
-    let v = c .before .before in
-    let i = v .before .before .before in
-    let k = i .before .before in
-    let j = k .before .judge in
-    let a = k .before .before .before .before .before .before .before .args in
-    let x = j .result .slot in
-    let again = v .evicts .ensures ∙ ap (λ (y : ℕ). evicts y x) (i .cut-limit .ensures) in
-    ask-fits (a .settings) (a .room .now) (a .reading) (a .key .now) (j .result) (record { is = j .ensures; none = k .if1 .left })
-    (v .evicts .result) again (c .ask-change .result) (c .ask-change .ensures)
+    let y = c .before .before in
+    let d = y .before in
+    let m = d .before .before .before in
+    let n = m .before in
+    let o = n .before in
+    let p = o .before .before in
+    let q = p .before in
+    let a = q .before .before .before .before .args in
+    subst (λ (ticks : ℕ). Applies (a .room .now) (q .judge .result .slot .at) ticks (a .reading) (c .ask-change .result)) (sym (y .join-ticks .ensures))
+    (ask-fits (a .settings) (a .room .now) (a .reading) (a .key .now) (q .judge .result) (record { is = q .judge .ensures; none = p .if1 .left })
+    (d .evicts .result) (d .evicts .ensures ∙ ap (λ (limit : ℕ). evicts limit (q .judge .result .slot)) (o .cut-limit .ensures))
+    (c .ask-change .result) (c .ask-change .ensures ∙
+    ap (askChange (d .evicts .result)) (m .first-look .ensures ∙ ap (λ (look : ℕ). firstLook look (a .reading) (q .judge .result .slot))
+    (n .look-ticks .ensures))))
 
 same-length-2 : tie.Need-same-length-2
 same-length-2 c = search needs
@@ -57,20 +84,30 @@ same-length-2 c = search needs
 returns-2 : tie.Need-returns-2
 returns-2 c =
     let y = c .before .before in
-    let g = y .before in
-    let v = g .before .before in
-    let d = v .before in
-    let n = d .before in
-    let i = v .before .before .before in
-    let k = i .before .before in
-    let j = k .before .judge in
-    let a = k .before .before .before .before .before .before .before .args in
-    let x = j .result .slot in
-    let again = v .evicts .ensures ∙ ap (λ (y : ℕ). evicts y x) (i .cut-limit .ensures) in
-    let may = n .allows .ensures ∙ ap (λ (y : ℕ). allowedAt y x) (i .cut-limit .ensures) in
-    ask-done (a .settings) (a .room .now) (a .reading) (a .key .now) (j .result) (record { is = j .ensures; none = k .if1 .left })
-    (v .evicts .result) again (g .ask-change .result) (g .ask-change .ensures) (y .apply .last .0) (y .apply .ensures)
-    (d .decided .result) (d .decided .ensures ∙ ap (λ (z : Bool). decidedAt (a .settings .«window_size») (a .reading) z x) may)
+    let d = y .before in
+    let m = d .before .before in
+    let n = m .before in
+    let o = n .before in
+    let p = o .before in
+    let q = p .before in
+    let r = q .before in
+    let u = r .before in
+    let v = u .before .before in
+    let g = v .before in
+    let a = g .before .before .before .before .args in
+    let may = p .allows .ensures ∙ ap₂ (λ (limit : ℕ) (slot : Slot). allowedAt limit slot) (u .cut-limit .ensures)
+    (q .first-look .ensures ∙ ap (λ (look : ℕ). firstLook look (a .reading) (g .judge .result .slot)) (r .look-ticks .ensures)) in
+    ask-done (a .settings) (a .room .now) (a .reading) (a .key .now) (g .judge .result) (record { is = g .judge .ensures; none = v .if1 .left })
+    (n .evicts .result) (n .evicts .ensures ∙ ap (λ (limit : ℕ). evicts limit (g .judge .result .slot)) (u .cut-limit .ensures))
+    (d .ask-change .result) (d .ask-change .ensures ∙
+    ap (askChange (n .evicts .result)) (q .first-look .ensures ∙ ap (λ (look : ℕ). firstLook look (a .reading) (g .judge .result .slot))
+    (r .look-ticks .ensures))) (y .apply .last .0)
+    (y .apply .ensures ∙
+    ap (λ (ticks : ℕ). applied (a .room .now) (g .judge .result .slot .at) (a .key .now) ticks (a .reading) (d .ask-change .result)) (m .join-ticks .ensures))
+    (o .decided .result)
+    (o .decided .ensures ∙
+    ap₂ (λ (allowed : Bool) (slot : Slot). decidedAt (ticksIn (a .settings)) (a .settings .«window_size») (a .reading) allowed slot) may
+    (q .first-look .ensures ∙ ap (λ (look : ℕ). firstLook look (a .reading) (g .judge .result .slot)) (r .look-ticks .ensures)))
 
 pub is-allowed-spec : {M : Type 1} → statement M
 is-allowed-spec =
@@ -80,9 +117,12 @@ is-allowed-spec =
     same-length
     returns
     cut-limit-requires
+    look-ticks-requires
+    first-look-requires
     allows-requires
     decided-requires
     evicts-requires
+    join-ticks-requires
     ask-change-requires
     apply-requires
     same-length-2

@@ -1,6 +1,7 @@
 -- A refused call leaves the room; another frees the slot, and gives what it held.
 use mathlib.Core.Path.{_∙_, sym, ap, subst}
-use Rattle.settings.specs.Settings.{bucketIn}
+use Prim.Native.Nat.{ℕ}
+use Rattle.settings.specs.Clock.{joinTicks}
 use Rattle.answers.specs.declared.DeleteAnswer.the-variants.{Refused}
 use Rattle.change.specs.declared.Change.{Change}
 use Rattle.change.specs.Words.{applied, Applies}
@@ -22,24 +23,33 @@ same-length c = search needs
 
 returns : tie.Need-returns
 returns c =
-    let a = c .before .before .before .before .before .args in
-    let j = c .before .judge in
+    let y = c .before in
+    let a = y .before .before .before .before .args in
     told-as (delete-opened (a .kind) (a .settings) (a .room .now) (a .reading) (a .key .now))
-    (judged-early (a .kind) (a .settings) (a .room .now) (a .reading) (a .key .now) (j .result) (j .ensures) Refused noOwn
+    (judged-early (a .kind) (a .settings) (a .room .now) (a .reading) (a .key .now) (y .judge .result) (y .judge .ensures) Refused noOwn
     (deletes (a .settings) (a .room .now) (a .reading) (a .key .now)) (c .if1 .taken))
+
+join-ticks-requires : tie.Need-join-ticks-requires
+join-ticks-requires c κs =
+    let y = c .before in
+    let d = y .before in
+    let a = d .before .before .before .before .args in
+    judged-passed (a .kind) (a .settings) (a .room .now) (a .reading) (a .key .now) (d .judge .result) (d .judge .ensures) (y .if1 .left) .settings .bucket-high
 
 deleting-requires : tie.Need-deleting-requires
 deleting-requires c κs = search needs
 
 apply-requires : tie.Need-apply-requires
 apply-requires c κs =
-    let a = c .before .before .before .before .before .before .before .before .before .args in
-    let j = c .before .before .before .before .before .judge in
-    let h = c .before .before .before .before .if1 .left in
-    subst (λ (y : Change). Applies (a .room .now) (j .result .slot .at) (bucketIn (a .settings)) (a .reading) y) (sym (c .deleting .ensures))
-    (judged-applies (a .kind) (a .settings) (a .room .now) (a .reading) (a .key .now) (j .result) (j .ensures) deleting h
+    let y = c .before .before in
+    let d = y .before .before in
+    let m = d .before in
+    let a = m .before .before .before .before .args in
+    subst (λ (ticks : ℕ). Applies (a .room .now) (m .judge .result .slot .at) ticks (a .reading) (c .deleting .result)) (sym (y .join-ticks .ensures))
+    (subst (λ (change : Change). Applies (a .room .now) (m .judge .result .slot .at) (joinTicks (a .settings)) (a .reading) change) (sym (c .deleting .ensures))
+    (judged-applies (a .kind) (a .settings) (a .room .now) (a .reading) (a .key .now) (m .judge .result) (m .judge .ensures) deleting (d .if1 .left)
     (delete-applies (a .kind) (a .settings) (a .room .now) (a .reading) (a .key .now)
-    (judged-passed (a .kind) (a .settings) (a .room .now) (a .reading) (a .key .now) (j .result) (j .ensures) h)))
+    (judged-passed (a .kind) (a .settings) (a .room .now) (a .reading) (a .key .now) (m .judge .result) (m .judge .ensures) (d .if1 .left)))))
 
 deleted-requires : tie.Need-deleted-requires
 deleted-requires c κs = search needs
@@ -49,18 +59,33 @@ same-length-2 c = search needs
 
 returns-2 : tie.Need-returns-2
 returns-2 c =
-    let a = c .before .before .before .before .before .before .before .before .before .before .before .before .before .args in
-    let j = c .before .before .before .before .before .before .before .before .before .judge in
-    let h = c .before .before .before .before .before .before .before .before .if1 .left in
-    let x = j .result .slot in
+    let y = c .before .before .before in
+    let d = y .before in
+    let m = d .before .before in
+    let n = m .before .before in
+    let o = n .before in
+    let a = o .before .before .before .before .args in
+    let x = o .judge .result .slot in
     told-as (delete-opened (a .kind) (a .settings) (a .room .now) (a .reading) (a .key .now))
-    (judged-done (a .kind) (a .settings) (a .room .now) (a .reading) (a .key .now) (j .result) (j .ensures) Refused noOwn
-    (deletes (a .settings) (a .room .now) (a .reading) (a .key .now)) _ _ h (none-own x)
+    (judged-done (a .kind) (a .settings) (a .room .now) (a .reading) (a .key .now) (o .judge .result) (o .judge .ensures) Refused noOwn
+    (deletes (a .settings) (a .room .now) (a .reading) (a .key .now)) _ _ (n .if1 .left) (none-own x)
     (record {
       answer = c .deleted .ensures;
-      words = c .before .before .before .apply .ensures ∙
-          ap (applied (a .room .now) (x .at) (a .key .now) (bucketIn (a .settings)) (a .reading)) (c .before .before .before .before .deleting .ensures);
+      words = y .apply .ensures ∙
+          ap (λ (ticks : ℕ). applied (a .room .now) (x .at) (a .key .now) ticks (a .reading) (d .deleting .result)) (m .join-ticks .ensures) ∙
+          ap (applied (a .room .now) (x .at) (a .key .now) (joinTicks (a .settings)) (a .reading)) (d .deleting .ensures);
     }))
 
 pub delete-spec : {M : Type 1} → statement M
-delete-spec = tie.close (tie.spec judge-requires same-length returns deleting-requires apply-requires deleted-requires same-length-2 returns-2)
+delete-spec =
+    tie.close
+    (tie.spec
+    judge-requires
+    same-length
+    returns
+    join-ticks-requires
+    deleting-requires
+    apply-requires
+    deleted-requires
+    same-length-2
+    returns-2)

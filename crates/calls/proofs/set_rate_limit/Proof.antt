@@ -1,6 +1,7 @@
 -- A refused call leaves the room; another stores the limit of a known series, and gives the old rate.
 use mathlib.Core.Path.{_∙_, sym, ap, subst}
-use Rattle.settings.specs.Settings.{bucketIn}
+use Prim.Native.Nat.{ℕ}
+use Rattle.settings.specs.Clock.{joinTicks}
 use Rattle.answers.specs.declared.OldRateAnswer.the-variants.{Refused}
 use Rattle.change.specs.declared.Change.{Change}
 use Rattle.change.specs.Words.{applied, Applies}
@@ -23,10 +24,10 @@ same-length c = search needs
 
 returns : tie.Need-returns
 returns c =
-    let a = c .before .before .before .before .before .args in
-    let j = c .before .judge in
+    let y = c .before in
+    let a = y .before .before .before .before .args in
     told-as (rate-opened (a .kind) (a .settings) (a .room .now) (a .reading) (a .key .now) (a .rate))
-    (judged-early (a .kind) (a .settings) (a .room .now) (a .reading) (a .key .now) (j .result) (j .ensures) Refused (rateOwnOf (a .rate))
+    (judged-early (a .kind) (a .settings) (a .room .now) (a .reading) (a .key .now) (y .judge .result) (y .judge .ensures) Refused (rateOwnOf (a .rate))
     (limits (a .kind) (a .settings) (a .room .now) (a .reading) (a .key .now) (a .rate)) (c .if1 .taken))
 
 rate-refusal-requires : tie.Need-rate-refusal-requires
@@ -37,12 +38,14 @@ same-length-2 c = search needs
 
 returns-2 : tie.Need-returns-2
 returns-2 c =
-    let a = c .before .before .before .before .before .before .before .args in
-    let j = c .before .before .before .judge in
+    let y = c .before in
+    let d = y .before in
+    let m = d .before in
+    let a = m .before .before .before .before .args in
     told-as (rate-opened (a .kind) (a .settings) (a .room .now) (a .reading) (a .key .now) (a .rate))
-    (judged-own (a .kind) (a .settings) (a .room .now) (a .reading) (a .key .now) (j .result) (j .ensures) Refused (rateOwnOf (a .rate))
-    (limits (a .kind) (a .settings) (a .room .now) (a .reading) (a .key .now) (a .rate)) (c .before .rate-refusal .result) (c .before .before .if1 .left)
-    (c .before .rate-refusal .ensures) (c .if2 .taken))
+    (judged-own (a .kind) (a .settings) (a .room .now) (a .reading) (a .key .now) (m .judge .result) (m .judge .ensures) Refused (rateOwnOf (a .rate))
+    (limits (a .kind) (a .settings) (a .room .now) (a .reading) (a .key .now) (a .rate)) (y .rate-refusal .result) (d .if1 .left)
+    (y .rate-refusal .ensures) (c .if2 .taken))
 
 limit-of-requires : tie.Need-limit-of-requires
 limit-of-requires c κs = search needs
@@ -50,16 +53,27 @@ limit-of-requires c κs = search needs
 limiting-requires : tie.Need-limiting-requires
 limiting-requires c κs = search needs
 
+join-ticks-requires : tie.Need-join-ticks-requires
+join-ticks-requires c κs =
+    let y = c .before .before .before .before .before .before in
+    let d = y .before in
+    let a = d .before .before .before .before .args in
+    judged-passed (a .kind) (a .settings) (a .room .now) (a .reading) (a .key .now) (d .judge .result) (d .judge .ensures) (y .if1 .left) .settings .bucket-high
+
 apply-requires : tie.Need-apply-requires
 apply-requires c κs =
-    let a = c .before .before .before .before .before .before .before .before .before .before .before .before .args in
-    let j = c .before .before .before .before .before .before .before .before .judge in
-    let h = c .before .before .before .before .before .before .before .if1 .left in
-    let l = c .before .before .limit-of .result in
-    subst (λ (y : Change). Applies (a .room .now) (j .result .slot .at) (bucketIn (a .settings)) (a .reading) y) (sym (c .before .limiting .ensures))
-    (judged-applies (a .kind) (a .settings) (a .room .now) (a .reading) (a .key .now) (j .result) (j .ensures) (λ (x : Slot). limiting x l) h
-    (rate-applies (a .kind) (a .settings) (a .room .now) (a .reading) (a .key .now) l
-    (judged-passed (a .kind) (a .settings) (a .room .now) (a .reading) (a .key .now) (j .result) (j .ensures) h)))
+    let y = c .before .before in
+    let d = y .before in
+    let m = d .before .before .before .before in
+    let n = m .before in
+    let a = n .before .before .before .before .args in
+    let limit = d .limit-of .result in
+    subst (λ (ticks : ℕ). Applies (a .room .now) (n .judge .result .slot .at) ticks (a .reading) (y .limiting .result)) (sym (c .join-ticks .ensures))
+    (subst (λ (change : Change). Applies (a .room .now) (n .judge .result .slot .at) (joinTicks (a .settings)) (a .reading) change) (sym (y .limiting .ensures))
+    (judged-applies (a .kind) (a .settings) (a .room .now) (a .reading) (a .key .now) (n .judge .result) (n .judge .ensures) (λ (x : Slot). limiting x limit)
+    (m .if1 .left)
+    (rate-applies (a .kind) (a .settings) (a .room .now) (a .reading) (a .key .now) limit
+    (judged-passed (a .kind) (a .settings) (a .room .now) (a .reading) (a .key .now) (n .judge .result) (n .judge .ensures) (m .if1 .left)))))
 
 old-rate-requires : tie.Need-old-rate-requires
 old-rate-requires c κs = search needs
@@ -69,24 +83,42 @@ same-length-3 c = search needs
 
 returns-3 : tie.Need-returns-3
 returns-3 c =
-    let a = c .before .before .before .before .before .before .before .before .before .before .before .before .before .before .before .before .args in
-    let j = c .before .before .before .before .before .before .before .before .before .before .before .before .judge in
-    let h = c .before .before .before .before .before .before .before .before .before .before .before .if1 .left in
-    let x = j .result .slot in
+    let y = c .before .before .before in
+    let d = y .before in
+    let m = d .before .before in
+    let n = m .before in
+    let o = n .before .before in
+    let p = o .before in
+    let q = p .before in
+    let r = q .before in
+    let a = r .before .before .before .before .args in
+    let x = r .judge .result .slot in
     told-as (rate-opened (a .kind) (a .settings) (a .room .now) (a .reading) (a .key .now) (a .rate))
-    (judged-done (a .kind) (a .settings) (a .room .now) (a .reading) (a .key .now) (j .result) (j .ensures) Refused (rateOwnOf (a .rate))
-    (limits (a .kind) (a .settings) (a .room .now) (a .reading) (a .key .now) (a .rate)) _ _ h
-    (sym (c .before .before .before .before .before .before .before .before .before .before .rate-refusal .ensures) ∙
-    c .before .before .before .before .before .before .before .before .before .if2 .left)
+    (judged-done (a .kind) (a .settings) (a .room .now) (a .reading) (a .key .now) (r .judge .result) (r .judge .ensures) Refused (rateOwnOf (a .rate))
+    (limits (a .kind) (a .settings) (a .room .now) (a .reading) (a .key .now) (a .rate)) _ _ (q .if1 .left)
+    (sym (p .rate-refusal .ensures) ∙ o .if2 .left)
     (record {
       answer = c .old-rate .ensures;
-      words = c .before .before .before .apply .ensures ∙
-          ap (applied (a .room .now) (x .at) (a .key .now) (bucketIn (a .settings)) (a .reading))
-          (c .before .before .before .before .before .limiting .ensures ∙
-          ap (limiting x) (c .before .before .before .before .before .before .limit-of .ensures));
+      words = y .apply .ensures ∙
+          ap (λ (ticks : ℕ). applied (a .room .now) (x .at) (a .key .now) ticks (a .reading) (m .limiting .result)) (d .join-ticks .ensures) ∙
+          ap (applied (a .room .now) (x .at) (a .key .now) (joinTicks (a .settings)) (a .reading))
+          (m .limiting .ensures ∙ ap (limiting x) (n .limit-of .ensures));
     }))
 
 pub set-rate-limit-spec : {M : Type 1} → statement M
-set-rate-limit-spec = tie.close
-    (tie.spec judge-requires same-length returns rate-refusal-requires same-length-2 returns-2 limit-of-requires limiting-requires apply-requires
-    old-rate-requires same-length-3 returns-3)
+set-rate-limit-spec =
+    tie.close
+    (tie.spec
+    judge-requires
+    same-length
+    returns
+    rate-refusal-requires
+    same-length-2
+    returns-2
+    limit-of-requires
+    limiting-requires
+    join-ticks-requires
+    apply-requires
+    old-rate-requires
+    same-length-3
+    returns-3)

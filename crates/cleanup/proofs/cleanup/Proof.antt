@@ -1,7 +1,9 @@
 -- Refused, or judged and then cleaned.
-use mathlib.Core.Path.{sym, _∙_}
+use mathlib.Core.Path.{sym, ap, subst, _∙_}
+use Prim.Native.Nat.{ℕ, _≤_}
+use Rattle.settings.specs.Clock.{ticks-some}
+use Rattle.stale.specs.Uses.{cleaned}
 use Rattle.cleanup.specs.Laws.{passed, passed-ready, cleanup-refused, cleanup-done}
-use native.Mathlib.Omega.{arith}
 use borrow.Author.Needs.{needs}
 use Rattle.cleanup.proofs.cleanup.Statement.{statement}
 use Rattle.cleanup.proofs.cleanup.Tie as tie
@@ -18,12 +20,17 @@ returns c =
     let a = c .before .before .before .before .args in
     cleanup-refused (a .kind) (a .settings) (a .room .now) (a .reading) (a .stale) (j .result) (j .ensures) (c .if1 .taken)
 
+ticks-per-millisecond-requires : tie.Need-ticks-per-millisecond-requires
+ticks-per-millisecond-requires c κs = search needs
+
 clean-requires : tie.Need-clean-requires
 clean-requires c κs =
-    let j = c .before .before in
-    let a = j .before .before .before .args in
-    passed-ready (a .kind) (a .settings) (a .room .now) (a .reading)
-    (passed (a .kind) (a .settings) (a .room .now) (a .reading) (sym (j .judge-all .ensures) ∙ c .before .if1 .left))
+    let j = c .before .before .before in
+    let a = j .before .before .before .args in (
+      passed-ready (a .kind) (a .settings) (a .room .now) (a .reading)
+          (passed (a .kind) (a .settings) (a .room .now) (a .reading) (sym (j .judge-all .ensures) ∙ c .before .before .if1 .left)),
+      subst (λ (n : ℕ). 1 ≤ n) (sym (c .ticks-per-millisecond .ensures)) (ticks-some (a .settings)),
+    )
 
 same-length-2 : tie.Need-same-length-2
 same-length-2 c = search needs
@@ -31,12 +38,13 @@ same-length-2 c = search needs
 returns-2 : tie.Need-returns-2
 returns-2 c =
     let k = c .before .before in
-    let j = k .before .before .before in
+    let i = k .before .before .before in
+    let j = i .before in
     let a = j .before .before .before .args in
-    cleanup-done (a .kind) (a .settings) (a .room .now) (a .reading) (a .stale) (k .clean .last .0)
-    (sym (j .judge-all .ensures) ∙ k .before .before .if1 .left) (k .clean .ensures)
+    cleanup-done (a .kind) (a .settings) (a .room .now) (a .reading) (a .stale) (k .clean .last .0) (sym (j .judge-all .ensures) ∙ i .if1 .left)
+    (k .clean .ensures ∙ ap (λ (n : ℕ). cleaned (a .room .now) (a .reading) n (a .stale)) (k .before .ticks-per-millisecond .ensures))
 
 pub cleanup-spec : {M : Type 1} → statement M
 cleanup-spec =
     tie.close
-    (tie.spec judge-all-requires same-length returns clean-requires same-length-2 returns-2)
+    (tie.spec judge-all-requires same-length returns ticks-per-millisecond-requires clean-requires same-length-2 returns-2)

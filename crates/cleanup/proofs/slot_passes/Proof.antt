@@ -1,8 +1,9 @@
 -- A free slot is not judged; of another the key, then the rest.
-use mathlib.Core.Path.{sym, _∙_}
+use mathlib.Core.Path.{sym, ap, _∙_}
+use Prim.Native.Nat.{ℕ}
+use Rattle.opened.specs.Slot.{slotOf}
 use borrow.Author.Tests.{not-true, not-false}
 use Rattle.cleanup.specs.Laws.{passes-free, fails-key, passes-right}
-use native.Mathlib.Omega.{arith}
 use borrow.Author.Needs.{needs}
 use Rattle.cleanup.proofs.slot_passes.Statement.{statement}
 use Rattle.cleanup.proofs.slot_passes.Tie as tie
@@ -13,7 +14,7 @@ use-of-requires c κs = search needs
 returns : tie.Need-returns
 returns c =
     let k = c .before in
-    let a = k .before .before .before .args in
+    let a = k .before .before .args in
     passes-free (a .kind) (a .settings) (a .w .now) (a .i) (sym (k .use-of .ensures) ∙ c .if1 .taken)
 
 key-fits-requires : tie.Need-key-fits-requires
@@ -23,9 +24,12 @@ returns-2 : tie.Need-returns-2
 returns-2 c =
     let k = c .before in
     let u = k .before .before in
-    let a = u .before .before .before .args in
+    let a = u .before .before .args in
     fails-key (a .kind) (a .settings) (a .w .now) (a .i) (λ z. k .before .if1 .left (u .use-of .ensures ∙ z))
     (sym (k .key-fits .ensures) ∙ not-true (k .key-fits .result) (c .if2 .taken))
+
+window-ticks-requires : tie.Need-window-ticks-requires
+window-ticks-requires c κs = search needs
 
 open-at-requires : tie.Need-open-at-requires
 open-at-requires c κs = search needs
@@ -39,13 +43,14 @@ slot-right-requires c κs = search needs
 returns-3 : tie.Need-returns-3
 returns-3 c =
     let o = c .before .before in
-    let k = o .before .before in
+    let n = o .before in
+    let k = n .before .before in
     let u = k .before .before in
-    let s = u .before .before .before in
+    let s = u .before .before in
     let a = s .args in
     passes-right (a .kind) (a .settings) (a .w .now) (a .i) (a .reading) (u .use-of .result) (o .open-at .result) (c .slot-right .result) (s .pre .1)
-    (λ z. k .before .if1 .left (u .use-of .ensures ∙ z)) (sym (k .key-fits .ensures) ∙ not-false (k .key-fits .result) (o .before .if2 .left))
-    (u .use-of .ensures) (o .open-at .ensures) (c .slot-right .ensures)
+    (λ z. k .before .if1 .left (u .use-of .ensures ∙ z)) (sym (k .key-fits .ensures) ∙ not-false (k .key-fits .result) (n .before .if2 .left))
+    (u .use-of .ensures) (o .open-at .ensures ∙ ap (λ (W : ℕ). slotOf W (a .w .now) (a .reading) (a .i)) (n .window-ticks .ensures)) (c .slot-right .ensures)
 
 pub slot-passes-spec : {M : Type 1} → statement M
 slot-passes-spec =
@@ -55,6 +60,7 @@ slot-passes-spec =
     returns
     key-fits-requires
     returns-2
+    window-ticks-requires
     open-at-requires
     shared-slice-read-slot-right
     slot-right-requires

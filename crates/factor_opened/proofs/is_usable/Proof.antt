@@ -15,9 +15,14 @@ returns c = simp (← c .before .stays .ensures, not-true (c .before .stays .res
 less-requires : tie.Need-less-requires
 less-requires c κs = search needs
 
+cache-ticks-requires : tie.Need-cache-ticks-requires
+cache-ticks-requires c κs = search needs
+
 returns-2 : tie.Need-returns-2
 unfolding usableAt
-returns-2 c = simp (← c .before .before .stays .ensures, not-false (c .before .before .stays .result) (c .before .if1 .left), ← c .less .ensures)
+returns-2 c =
+    let s = c .before .before .before .stays in
+    simp (← s .ensures, not-false (s .result) (c .before .before .if1 .left), ← c .before .less .ensures, ← c .cache-ticks .ensures)
 
 pub is-usable-spec : {M : Type 1} → statement M
-is-usable-spec = tie.close (tie.spec stays-requires returns less-requires returns-2)
+is-usable-spec = tie.close (tie.spec stays-requires returns less-requires cache-ticks-requires returns-2)

@@ -1,8 +1,8 @@
 -- The settings and lengths, then the rest.
 -- Assumes nothing.
-use mathlib.Core.Path.{_∙_, sym, ap}
+use mathlib.Core.Path.{_∙_, sym, ap₂}
+use Prim.Native.Nat.{ℕ}
 use Rattle.opened.specs.Slot.{slotOf}
-use Rattle.settings.specs.Settings.{windowIn}
 use Rattle.judge.specs.Laws.{refused-is, passed-is, fault-early, no-fault}
 use borrow.Author.Needs.{needs}
 use Rattle.judge.proofs.judge.Statement.{statement}
@@ -25,6 +25,15 @@ returns c =
     c .refused .ensures ∙ refused-is (a .args .kind) s w t key (n .result)
     (fault-early (a .args .kind) s w t key (n .result) (n .ensures) (c .before .if1 .taken)) (c .before .if1 .taken)
 
+window-ticks-requires : tie.Need-window-ticks-requires
+window-ticks-requires c κs =
+    let a = c .before .before .before .before in
+    let s = a .args .settings in
+    let w = a .args .w .now in
+    let key = a .args .key .now in
+    let t = a .args .reading in
+    no-fault (a .args .kind) s w t key (sym (c .before .fault .ensures) ∙ c .if1 .left) .1 .window-high
+
 address-requires : tie.Need-address-requires
 address-requires c κs =
     let a = c .before .before .before .before .before in
@@ -41,8 +50,7 @@ open-at-requires c κs =
     let w = a .args .w .now in
     let key = a .args .key .now in
     let t = a .args .reading in
-    let o = no-fault (a .args .kind) s w t key (sym (c .before .before .before .fault .ensures) ∙ c .before .before .if1 .left) in
-    (o .0, o .1 .window-high)
+    no-fault (a .args .kind) s w t key (sym (c .before .before .before .fault .ensures) ∙ c .before .before .if1 .left) .0
 
 misfit-requires : tie.Need-misfit-requires
 misfit-requires c κs =
@@ -52,7 +60,7 @@ misfit-requires c κs =
     let key = a .args .key .now in
     let t = a .args .reading in
     let o = no-fault (a .args .kind) s w t key (sym (c .before .before .before .before .fault .ensures) ∙ c .before .before .before .if1 .left) in
-    (o .0, o .1, c .open-at .ensures ∙ ap (slotOf (windowIn s) w t) (c .before .address .ensures))
+    (o .0, o .1, c .open-at .ensures ∙ ap₂ (λ (W i : ℕ). slotOf W w t i) (c .before .before .window-ticks .ensures) (c .before .address .ensures))
 
 refused-requires-2 : tie.Need-refused-requires-2
 refused-requires-2 c κs = search needs
@@ -76,7 +84,8 @@ returns-3 c =
     let t = a .args .reading in
     let m = c .before .misfit in
     passed-is (a .args .kind) s w t key (c .before .before .open-at .result) (sym (m .ensures) ∙ c .if2 .left)
-    (c .before .before .open-at .ensures ∙ ap (slotOf (windowIn s) w t) (c .before .before .before .address .ensures))
+    (c .before .before .open-at .ensures ∙
+    ap₂ (λ (W i : ℕ). slotOf W w t i) (c .before .before .before .before .window-ticks .ensures) (c .before .before .before .address .ensures))
 
 pub judge-spec : {M : Type 1} → statement M
 judge-spec =
@@ -85,6 +94,7 @@ judge-spec =
     fault-requires
     refused-requires
     returns
+    window-ticks-requires
     address-requires
     open-at-requires
     misfit-requires

@@ -56,10 +56,8 @@ part-open-body-end c = search needs
 open-body-requires : tie.Need-open-body-requires
 open-body-requires c κs =
     let k = c .before in
-    let a = k .before .before .before .before .before .before .before in (
-      omega (arith, part-length (a .args .w .now) (k .start .result) (a .args .at) (k .start .ensures .at) (a .pre .0) (k .before .before .if1 .left)),
-      a .pre .1,
-    )
+    let a = k .before .before .before .before .before .before .before in
+    omega (arith, part-length (a .args .w .now) (k .start .result) (a .args .at) (k .start .ensures .at) (a .pre) (k .before .before .if1 .left))
 
 returns-2 : tie.Need-returns-2
 returns-2 c =

@@ -10,9 +10,6 @@ no-pass-requires c κs = search needs
 returns : tie.Need-returns
 returns c = rw (not-true (c .before .before .before .args .series) (c .before .if1 .taken)) (c .no-pass .ensures)
 
-mul-pass : tie.Need-mul-pass
-mul-pass c = search needs
-
 pass-requires : tie.Need-pass-requires
 pass-requires c κs = search needs
 
@@ -20,4 +17,4 @@ returns-2 : tie.Need-returns-2
 returns-2 c = rw (not-false (c .before .before .before .args .series) (c .before .if1 .left)) (c .pass .ensures)
 
 pub series-pass-spec : {M : Type 1} → statement M
-series-pass-spec = tie.close (tie.spec no-pass-requires returns mul-pass pass-requires returns-2)
+series-pass-spec = tie.close (tie.spec no-pass-requires returns pass-requires returns-2)

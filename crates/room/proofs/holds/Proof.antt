@@ -1,17 +1,16 @@
--- A free slot has no key, and one in use has the key that its words spell.
+-- A slot whose words spell another key has not this one; one with it has it where it is in use.
 -- Assumes nothing.
 use mathlib.Core.Path.{sym, ap, _∙_}
+use mathlib.Core.Bool.{not}
+use Prim.Native.Nat.{ℕ}
 use borrow.Author.Needs.{needs}
+use borrow.Author.Tests.{not-true, not-false}
+use lib.Dec.{eqb}
+use Rattle.keys.specs.declared.Key.{Key}
 use Rattle.keys.specs.Keys.{sameKey}
-use Rattle.room.specs.Entries.{has-free, has-used}
+use Rattle.room.specs.Entries.{has-other, has-same}
 use Rattle.room.proofs.holds.Statement.{statement}
 use Rattle.room.proofs.holds.Tie as tie
-
-use-of-requires : tie.Need-use-of-requires
-use-of-requires c κs = search needs
-
-returns : tie.Need-returns
-returns c = let a = c .before .before .before .args in sym (has-free (a .w .now) (a .k) (a .s) (sym (c .before .use-of .ensures) ∙ c .if1 .taken))
 
 key-at-requires : tie.Need-key-at-requires
 key-at-requires c κs = search needs
@@ -19,10 +18,24 @@ key-at-requires c κs = search needs
 same-key-requires : tie.Need-same-key-requires
 same-key-requires c κs = search needs
 
+returns : tie.Need-returns
+returns c =
+    let a = c .before .before .before .before .args in
+    let b = c .before .before in
+    sym (has-other (a .w .now) (a .k) (a .s) (ap (λ (x : Key). sameKey x (a .k)) (sym (b .key-at .ensures)) ∙ sym (c .before .same-key .ensures) ∙ not-true _
+    (c .if1 .taken)))
+
+use-of-requires : tie.Need-use-of-requires
+use-of-requires c κs = search needs
+
 returns-2 : tie.Need-returns-2
-returns-2 c = let a = c .before .before .before .before .before .args in c .same-key .ensures ∙ ap (λ x. sameKey x (a .k)) (c .before .key-at .ensures) ∙
-    sym (has-used (a .w .now) (a .k) (a .s) (λ e. c .before .before .if1 .left (c .before .before .before .use-of .ensures ∙ e)))
+returns-2 c =
+    let a = c .before .before .before .before .before .args in
+    let b = c .before .before in
+    ap (λ (u : ℕ). not (eqb u 0)) (c .use-of .ensures) ∙
+    sym (has-same (a .w .now) (a .k) (a .s)
+    (ap (λ (x : Key). sameKey x (a .k)) (sym (b .before .key-at .ensures)) ∙ sym (b .same-key .ensures) ∙ not-false _ (c .before .if1 .left)))
 
 pub holds-spec : {M : Type 1} → statement M
 holds-spec =
-    tie.close (tie.spec use-of-requires returns key-at-requires same-key-requires returns-2)
+    tie.close (tie.spec key-at-requires same-key-requires returns use-of-requires returns-2)

@@ -6,7 +6,6 @@ use Prim.Native.Nat.{ℕ}
 use Rattle.room.specs.Room.{Directory, slotsOf, withReading}
 use Rattle.stale.specs.Uses.{cleaned}
 use Rattle.stale.specs.Swept.{swept-room}
-use native.Mathlib.Omega.{arith}
 use borrow.Author.Needs.{needs}
 use Rattle.stale.proofs.clean.Statement.{statement}
 use Rattle.stale.proofs.clean.Tie as tie
@@ -19,7 +18,8 @@ store-reading-requires c κs =
     let k = c .before .before .before in
     let s = k .before .before .before in
     let w = s .args .w .now in
-    subst (λ (y : List ℕ). Directory y) (sym (k .sweep .ensures)) (room-directory (swept-room w (s .args .reading) (s .args .stale) (slotsOf w) (s .pre .room)))
+    subst (λ (y : List ℕ). Directory y) (sym (k .sweep .ensures)) (room-directory (swept-room w (s .args .reading) (s .args .ticks) (s .args .stale)
+    (slotsOf w) (s .pre .0 .room)))
 
 same-length : tie.Need-same-length
 same-length c = search needs

@@ -12,10 +12,10 @@ use Rattle.stale.proofs.sweep.Statement.{statement}
 use Rattle.stale.proofs.sweep.Tie as tie
 
 abbrev Inv-loop : tie.InvT-loop
-Inv-loop w₀ reading stale n at₀ w at = (at ≤ n) × (w ≡ swept w₀ reading stale at)
+Inv-loop w₀ reading ticks stale n at₀ w at = (at ≤ n) × (w ≡ swept w₀ reading ticks stale at)
 
 abbrev μ-loop : tie.MeasureT-loop
-μ-loop w₀ reading stale n at₀ w at = n - at
+μ-loop w₀ reading ticks stale n at₀ w at = n - at
 
 slice-read-n : tie.Need-slice-read-n Inv-loop μ-loop
 slice-read-n c = search needs
@@ -27,14 +27,17 @@ loop-holds c = (omega arith, refl)
 use-next-requires : tie.Need-use-next-requires Inv-loop μ-loop
 use-next-requires c κs =
     let l = c .before .before in
-    let s = l .before .before .before in
-    swept-readable (s .args .w .now) (s .args .reading) (s .args .stale) (l .loop .w) (l .loop .at) (l .loop .inv .1) (s .pre) (c .before .loop-test .taken)
+    let s = l .before .before .before in (
+      swept-readable (s .args .w .now) (s .args .reading) (s .args .ticks) (s .args .stale) (l .loop .w) (l .loop .at) (l .loop .inv .1) (s .pre .0)
+          (c .before .loop-test .taken),
+      s .pre .1,
+    )
 
 set-use-requires : tie.Need-set-use-requires Inv-loop μ-loop
 set-use-requires c κs =
     let l = c .before .before .before .before in
     let s = l .before .before .before in
-    let r = swept-readable (s .args .w .now) (s .args .reading) (s .args .stale) (l .loop .w) (l .loop .at) (l .loop .inv .1) (s .pre)
+    let r = swept-readable (s .args .w .now) (s .args .reading) (s .args .ticks) (s .args .stale) (l .loop .w) (l .loop .at) (l .loop .inv .1) (s .pre .0)
     (c .before .before .before .loop-test .taken) in
     (room-directory (r .room), r .inside)
 
@@ -52,7 +55,7 @@ loop-again c =
     let a = l .before .before .before .args in
     let t : l .loop .at ≤ slotsOf (a .w .now) = omega (arith, n .before .before .loop-test .taken) in (
       omega arith,
-      swept-turn (a .w .now) (a .reading) (a .stale) (l .loop .w) (u .set-use .last .0) (l .loop .at) (n .use-next .result) t (l .loop .inv .1)
+      swept-turn (a .w .now) (a .reading) (a .ticks) (a .stale) (l .loop .w) (u .set-use .last .0) (l .loop .at) (n .use-next .result) t (l .loop .inv .1)
           (n .use-next .ensures) (u .set-use .ensures),
     )
 
@@ -60,14 +63,14 @@ same-length : tie.Need-same-length Inv-loop μ-loop
 same-length c =
     let l = c .before in
     let a = l .before .before .before .args in
-    ap (λ y. length y) (l .loop .inv .1) ∙ swept-length (a .w .now) (a .reading) (a .stale) (l .loop .at)
+    ap (λ y. length y) (l .loop .inv .1) ∙ swept-length (a .w .now) (a .reading) (a .ticks) (a .stale) (l .loop .at)
 
 returns : tie.Need-returns Inv-loop μ-loop
 returns c =
     let l = c .before in
     let a = l .before .before .before .args in
     let e : l .loop .at ≡ slotsOf (a .w .now) = omega arith in
-    l .loop .inv .1 ∙ ap (swept (a .w .now) (a .reading) (a .stale)) e
+    l .loop .inv .1 ∙ ap (swept (a .w .now) (a .reading) (a .ticks) (a .stale)) e
 
 pub sweep-spec : {M : Type 1} → statement M
 sweep-spec =

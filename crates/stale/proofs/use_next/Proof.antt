@@ -1,5 +1,5 @@
 -- The body that is lent is the slot's.
-use mathlib.Core.Path.{_≡_, sym, ap, ap₂, subst, _∙_}
+use mathlib.Core.Path.{sym, ap, ap₂, subst, _∙_}
 use mathlib.Core.List.{List}
 use Prim.Native.Nat.{ℕ}
 use Rattle.ring.specs.Ring.{Shape}
@@ -48,11 +48,13 @@ use-after-requires c κs =
     let s = k .before .before .before .before in
     let w = s .args .w .now in
     let i = s .args .i in
-    let e = part-body w (k .start .result) i (k .start .ensures .at) in
-    record {
-      long = omega (arith, part-length w (k .start .result) i (k .start .ensures .at) (s .pre .room) (s .pre .inside));
-      shape = λ p. subst (λ (b : List ℕ). Shape (ringOf w) b) (sym e) (s .pre .shape (ap hasSeries (sym (k .before .use-of .ensures)) ∙ p));
-    }
+    let e = part-body w (k .start .result) i (k .start .ensures .at) in (
+      record {
+        long = omega (arith, part-length w (k .start .result) i (k .start .ensures .at) (s .pre .0 .room) (s .pre .0 .inside));
+        shape = λ p. subst (λ (b : List ℕ). Shape (ringOf w) b) (sym e) (s .pre .0 .shape (ap hasSeries (sym (k .before .use-of .ensures)) ∙ p));
+      },
+      s .pre .1,
+    )
 
 returns : tie.Need-returns
 returns c =
@@ -60,7 +62,7 @@ returns c =
     let a = k .before .before .before .before .args in
     let w = a .w .now in
     c .use-after .ensures ∙
-    ap₂ (λ (u : ℕ) (b : List ℕ). useAfter (ringOf w) u b (a .reading) (a .stale)) (k .before .use-of .ensures)
+    ap₂ (λ (u : ℕ) (b : List ℕ). useAfter (ringOf w) u b (a .reading) (a .ticks) (a .stale)) (k .before .use-of .ensures)
     (part-body w (k .start .result) (a .i) (k .start .ensures .at))
 
 pub use-next-spec : {M : Type 1} → statement M

@@ -1,13 +1,13 @@
--- Refusals 1 to 7, then 8 to 12; then the change is carried out.
+-- Refusals 1 to 7; then it is counted by the slot as a first look leaves it.
 -- Assumes nothing.
-use mathlib.Core.Path.{refl, sym, ap, _∙_}
-use Rattle.settings.specs.Settings.{windowIn}
-use Rattle.room.specs.Room.{ringOf}
+use mathlib.Core.Path.{sym, ap₂, _∙_}
+use Prim.Native.Nat.{ℕ}
 use Rattle.rules.specs.declared.RoomKind.the-variants.{Suppressed}
-use Rattle.opened.specs.Slot.{noSlot, slotOf}
-use Rattle.judge.specs.Laws.{refused-is, passed-is, fault-early, no-fault}
-use Rattle.plan.specs.Plan.{lacksAt}
-use Rattle.suppressed_verdicts.specs.Laws.{in-room, inc-early, inc-late, inc-total, inc-applies, inc-done}
+use Rattle.opened.specs.declared.Slot.{Slot}
+use Rattle.opened.specs.Slot.{noSlot, slotOf, firstLook}
+use Rattle.opened.specs.Look.{look-leaves, look-else}
+use Rattle.judge.specs.Laws.{refused-is, fault-early, no-fault}
+use Rattle.suppressed_verdicts.specs.Laws.{inc-early}
 use borrow.Author.Needs.{needs}
 use Rattle.suppressed_inc.proofs.inc.Statement.{statement}
 use Rattle.suppressed_inc.proofs.inc.Tie as tie
@@ -20,142 +20,122 @@ same-length c = search needs
 
 returns : tie.Need-returns
 returns c =
-    let a = c .before .before .before .before .before .args in
-    let n = c .before .fault in
+    let f = c .before in
+    let a = f .before .before .before .before .args in
+    let n = f .fault in
     let e = fault-early Suppressed (a .settings) (a .room .now) (a .reading) (a .key .now) (n .result) (n .ensures) (c .if1 .taken) in
     inc-early (a .settings) (a .room .now) (a .reading) (a .key .now) (record { code = n .result; slot = noSlot 0 })
     (refused-is Suppressed (a .settings) (a .room .now) (a .reading) (a .key .now) (n .result) e (c .if1 .taken)) (a .rate) (a .count) (a .draw) (c .if1 .taken)
 
+window-ticks-requires : tie.Need-window-ticks-requires
+window-ticks-requires c κs =
+    let f = c .before in
+    let s = f .before .before .before .before in
+    let a = s .args in
+    no-fault Suppressed (a .settings) (a .room .now) (a .reading) (a .key .now) (sym (f .fault .ensures) ∙ c .if1 .left) .1 .window-high
+
 address-requires : tie.Need-address-requires
 address-requires c κs =
-    let a = c .before .before .before .before .before .before .before .args in
-    no-fault Suppressed (a .settings) (a .room .now) (a .reading) (a .key .now)
-    (sym (c .before .before .before .fault .ensures) ∙ c .before .before .if1 .left) .0
+    let i = c .before .before in
+    let f = i .before in
+    let s = f .before .before .before .before in
+    let a = s .args in
+    no-fault Suppressed (a .settings) (a .room .now) (a .reading) (a .key .now) (sym (f .fault .ensures) ∙ i .if1 .left) .0
 
 open-at-requires : tie.Need-open-at-requires
 open-at-requires c κs =
-    let a = c .before .before .before .before .before .before .before .before .args in
-    let o = no-fault Suppressed (a .settings) (a .room .now) (a .reading) (a .key .now)
-    (sym (c .before .before .before .before .fault .ensures) ∙ c .before .before .before .if1 .left) in
-    (o .0, o .1 .window-high)
+    let i = c .before .before .before in
+    let f = i .before in
+    let s = f .before .before .before .before in
+    let a = s .args in
+    no-fault Suppressed (a .settings) (a .room .now) (a .reading) (a .key .now) (sym (f .fault .ensures) ∙ i .if1 .left) .0
 
 misfit-requires : tie.Need-misfit-requires
 misfit-requires c κs =
-    let a = c .before .before .before .before .before .before .before .before .before .before .args in
-    let o = no-fault Suppressed (a .settings) (a .room .now) (a .reading) (a .key .now)
-    (sym (c .before .before .before .before .before .before .fault .ensures) ∙ c .before .before .before .before .before .if1 .left) in
-    (o .0, o .1, c .before .open-at .ensures ∙ ap (slotOf (windowIn (a .settings)) (a .room .now) (a .reading)) (c .before .before .address .ensures))
+    let o = c .before in
+    let d = o .before in
+    let n = d .before .before in
+    let i = n .before in
+    let f = i .before in
+    let s = f .before .before .before .before in
+    let a = s .args in
+    let q = no-fault Suppressed (a .settings) (a .room .now) (a .reading) (a .key .now) (sym (f .fault .ensures) ∙ i .if1 .left) in
+    (q .0, q .1, o .open-at .ensures ∙ ap₂ (λ (W i : ℕ). slotOf W (a .room .now) (a .reading) i) (n .window-ticks .ensures) (d .address .ensures))
 
 same-length-2 : tie.Need-same-length-2
 same-length-2 c = search needs
 
 returns-2 : tie.Need-returns-2
 returns-2 c =
+    let m = c .before .misfit in
     let a = c .before .before .before .before .before .before .before .before .before .before .before .before .args in
-    let n = c .before .misfit in
-    inc-early (a .settings) (a .room .now) (a .reading) (a .key .now) (record { code = n .result; slot = noSlot 0 })
-    (refused-is Suppressed (a .settings) (a .room .now) (a .reading) (a .key .now) (n .result) (sym (n .ensures)) (c .if2 .taken)) (a .rate) (a .count)
+    inc-early (a .settings) (a .room .now) (a .reading) (a .key .now) (record { code = m .result; slot = noSlot 0 })
+    (refused-is Suppressed (a .settings) (a .room .now) (a .reading) (a .key .now) (m .result) (sym (m .ensures)) (c .if2 .taken)) (a .rate) (a .count)
     (a .draw) (c .if2 .taken)
 
-place-requires : tie.Need-place-requires
-place-requires c κs =
-    let a = c .before .before .before .before .before .before .before .before .before .before .before .before .before .args in
-    no-fault Suppressed (a .settings) (a .room .now) (a .reading) (a .key .now)
-    (sym (c .before .before .before .before .before .before .before .before .before .fault .ensures) ∙
-    c .before .before .before .before .before .before .before .before .if1 .left) .0
+look-ticks-requires : tie.Need-look-ticks-requires
+look-ticks-requires c κs =
+    let i = c .before .before .before .before .before .before .before in
+    let f = i .before in
+    let s = f .before .before .before .before in
+    let a = s .args in
+    no-fault Suppressed (a .settings) (a .room .now) (a .reading) (a .key .now) (sym (f .fault .ensures) ∙ i .if1 .left) .1 .window-high
 
-late-requires : tie.Need-late-requires
-late-requires c κs =
-    let a = c .before .before .before .before .before .before .before .before .before .before .before .before .before .before .before .args in
-    no-fault Suppressed (a .settings) (a .room .now) (a .reading) (a .key .now)
-    (sym (c .before .before .before .before .before .before .before .before .before .before .before .fault .ensures) ∙
-    c .before .before .before .before .before .before .before .before .before .before .if1 .left) .0
+leaves-expired-requires : tie.Need-leaves-expired-requires
+leaves-expired-requires c κs = search needs
+
+all-stay-requires : tie.Need-all-stay-requires
+all-stay-requires c κs = search needs
+
+count-by-requires : tie.Need-count-by-requires
+count-by-requires c κs =
+    let v = c .before .before .before in
+    let y = v .before in
+    let u = y .before in
+    let m = u .before in
+    let o = m .before .before in
+    let d = o .before in
+    let n = d .before .before in
+    let s = n .before .before .before .before .before .before in
+    let a = s .args in
+    let x = o .open-at .result in
+    let look = y .look-ticks .result in (
+      sym (m .misfit .ensures) ∙ u .if2 .left,
+      c .before .all-stay .ensures ∙ look-leaves look (a .reading) x (sym (v .leaves-expired .ensures) ∙ c .before .before .if3 .taken) ∙
+          ap₂ (λ (n : ℕ) (y : Slot). firstLook n (a .reading) y) (y .look-ticks .ensures)
+          (o .open-at .ensures ∙ ap₂ (λ (W i : ℕ). slotOf W (a .room .now) (a .reading) i) (n .window-ticks .ensures) (d .address .ensures)),
+    )
 
 same-length-3 : tie.Need-same-length-3
 same-length-3 c = search needs
 
 returns-3 : tie.Need-returns-3
-returns-3 c =
-    let a = c .before .before .before .before .before .before .before .before .before .before .before .before .before .before .before .before .before .args in
-    let x = c .before .before .before .before .before .before .before .before .open-at in
-    let k = x .ensures ∙ ap (slotOf (windowIn (a .settings)) (a .room .now) (a .reading))
-    (c .before .before .before .before .before .before .before .before .before .address .ensures) in
-    let e = sym (c .before .before .before .before .before .before .misfit .ensures) ∙ c .before .before .before .before .before .if2 .left in
-    let p = c .before .before .before .place in
-    let l = c .before .late in
-    inc-late (a .settings) (a .room .now) (a .reading) (a .key .now) e (x .result) k (p .result) (p .ensures) (lacksAt (a .room .now) (p .result) (x .result))
-    refl (a .rate) (a .count) (a .draw) (ringOf (a .room .now)) (l .result) refl (l .ensures) (c .if3 .taken)
+returns-3 c = c .before .before .count-by .ensures
 
-limit-for-requires : tie.Need-limit-for-requires
-limit-for-requires c κs = search needs
-
-forecast-requires : tie.Need-forecast-requires
-forecast-requires c κs =
-    let a = c .before .before .before .before .before .before .before .before .before .before .before .before .before .before .before .before
-    .before .before .args in
-    let x = c .before .before .before .before .before .before .before .before .before .open-at in
-    let k = x .ensures ∙ ap (slotOf (windowIn (a .settings)) (a .room .now) (a .reading))
-    (c .before .before .before .before .before .before .before .before .before .before .address .ensures) in
-    let e = sym (c .before .before .before .before .before .before .before .misfit .ensures) ∙ c .before .before .before .before .before .before .if2 .left in
-    let p = c .before .before .before .before .place in
-    let l = c .before .before .late in
-    inc-total (a .settings) (a .room .now) (a .reading) (a .key .now) e (x .result) k (p .result) (p .ensures) (lacksAt (a .room .now) (p .result) (x .result))
-    refl (a .rate) (a .count) (a .draw) (ringOf (a .room .now)) (l .result) refl (l .ensures) (c .before .if3 .left)
-
-decide-requires : tie.Need-decide-requires
-decide-requires c κs =
-    let a = c .before .before .before .before .before .before .before .before .before .before .before .before .before .before .before .before
-    .before .before .before .before .args in
-    let x = c .before .before .before .before .before .before .before .before .before .before .before .open-at in
-    let k = x .ensures ∙ ap (slotOf (windowIn (a .settings)) (a .room .now) (a .reading))
-    (c .before .before .before .before .before .before .before .before .before .before .before .before .address .ensures) in
-    let e = sym (c .before .before .before .before .before .before .before .before .before .misfit .ensures) ∙
-    c .before .before .before .before .before .before .before .before .if2 .left in
-    in-room (a .settings) (a .room .now) (a .reading) (a .key .now) (record { code = 0; slot = x .result })
-    (passed-is Suppressed (a .settings) (a .room .now) (a .reading) (a .key .now) (x .result) e k) refl
-
-inc-change-requires : tie.Need-inc-change-requires
-inc-change-requires c κs = search needs
-
-apply-requires : tie.Need-apply-requires
-apply-requires c κs =
-    let h = c .before .inc-change in
-    let d = c .before .before .before in
-    let f = d .before .before in
-    let l = f .before .before .before in
-    let p = l .before .before in
-    let m = p .before .before .before in
-    let x = m .before .before in
-    let a = x .before .before .before .before .before .before .before .before .before .args in
-    let k = x .open-at .ensures ∙ ap (slotOf (windowIn (a .settings)) (a .room .now) (a .reading)) (x .before .address .ensures) in
-    let e = sym (m .misfit .ensures) ∙ p .before .before .if2 .left in
-    let lacks = lacksAt (a .room .now) (p .place .result) (x .open-at .result) in
-    inc-applies (a .settings) (a .room .now) (a .reading) (a .key .now) e (x .open-at .result) k (p .place .result) (p .place .ensures) lacks refl (a .rate)
-    (a .count) (a .draw) (ringOf (a .room .now)) (l .late .result) refl (l .late .ensures) (f .before .before .if3 .left) (d .decide .result)
-    (f .before .limit-for .result) (f .forecast .result) (f .before .limit-for .ensures) (f .forecast .ensures) (d .decide .ensures) (h .result)
-    (h .ensures)
+count-by-requires-2 : tie.Need-count-by-requires-2
+count-by-requires-2 c κs =
+    let v = c .before .before in
+    let y = v .before in
+    let u = y .before in
+    let m = u .before in
+    let o = m .before .before in
+    let d = o .before in
+    let n = d .before .before in
+    let s = n .before .before .before .before .before .before in
+    let a = s .args in
+    let x = o .open-at .result in
+    let look = y .look-ticks .result in (
+      sym (m .misfit .ensures) ∙ u .if2 .left,
+      look-else look (a .reading) x (sym (v .leaves-expired .ensures) ∙ c .before .if3 .left) ∙
+          ap₂ (λ (n : ℕ) (y : Slot). firstLook n (a .reading) y) (y .look-ticks .ensures)
+          (o .open-at .ensures ∙ ap₂ (λ (W i : ℕ). slotOf W (a .room .now) (a .reading) i) (n .window-ticks .ensures) (d .address .ensures)),
+    )
 
 same-length-4 : tie.Need-same-length-4
 same-length-4 c = search needs
 
 returns-4 : tie.Need-returns-4
-returns-4 c =
-    let y = c .before .before .apply in
-    let h = c .before .before .before .before .inc-change in
-    let d = c .before .before .before .before .before .before in
-    let f = d .before .before in
-    let l = f .before .before .before in
-    let p = l .before .before in
-    let m = p .before .before .before in
-    let x = m .before .before in
-    let a = x .before .before .before .before .before .before .before .before .before .args in
-    let k = x .open-at .ensures ∙ ap (slotOf (windowIn (a .settings)) (a .room .now) (a .reading)) (x .before .address .ensures) in
-    let e = sym (m .misfit .ensures) ∙ p .before .before .if2 .left in
-    let lacks = lacksAt (a .room .now) (p .place .result) (x .open-at .result) in
-    inc-done (a .settings) (a .room .now) (a .reading) (a .key .now) e (x .open-at .result) k (p .place .result) (p .place .ensures) lacks refl (a .rate)
-    (a .count) (a .draw) (ringOf (a .room .now)) (l .late .result) refl (l .late .ensures) (f .before .before .if3 .left) (d .decide .result)
-    (f .before .limit-for .result) (f .forecast .result) (f .before .limit-for .ensures) (f .forecast .ensures) (d .decide .ensures) (h .result)
-    (y .last .0) (h .ensures) (y .ensures)
+returns-4 c = c .before .before .count-by2 .ensures
 
 pub inc-spec : {M : Type 1} → statement M
 inc-spec =
@@ -164,19 +144,18 @@ inc-spec =
     fault-requires
     same-length
     returns
+    window-ticks-requires
     address-requires
     open-at-requires
     misfit-requires
     same-length-2
     returns-2
-    place-requires
-    late-requires
+    look-ticks-requires
+    leaves-expired-requires
+    all-stay-requires
+    count-by-requires
     same-length-3
     returns-3
-    limit-for-requires
-    forecast-requires
-    decide-requires
-    inc-change-requires
-    apply-requires
+    count-by-requires-2
     same-length-4
     returns-4)

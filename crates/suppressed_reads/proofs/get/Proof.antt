@@ -1,5 +1,8 @@
 -- Refusals 1 to 7; then the change is carried out.
-use Rattle.suppressed_verdicts.specs.Laws.{not-early, slot-found, in-room, get-early, get-applies, get-done}
+use mathlib.Core.Path.{sym, ap, subst, _∙_}
+use Prim.Native.Nat.{ℕ}
+use Rattle.change.specs.Words.{Applies, applied}
+use Rattle.suppressed_verdicts.specs.Laws.{not-early, slot-found, proper-found, slot-in-room, get-early, get-applies, get-done}
 use borrow.Author.Needs.{needs}
 use Rattle.suppressed_reads.proofs.get.Statement.{statement}
 use Rattle.suppressed_reads.proofs.get.Tie as tie
@@ -12,48 +15,65 @@ same-length c = search needs
 
 returns : tie.Need-returns
 returns c =
-    let a = c .before .before .before .before .before .before .args in
-    let j = c .before .before .judge in
-    get-early (a .settings) (a .room .now) (a .reading) (a .key .now) (j .result) (j .ensures) (c .if1 .taken)
+    let y = c .before .before in
+    let a = y .before .before .before .before .args in
+    get-early (a .settings) (a .room .now) (a .reading) (a .key .now) (y .judge .result) (y .judge .ensures) (c .if1 .taken)
 
 ask-requires : tie.Need-ask-requires
 ask-requires c κs =
-    let a = c .before .before .before .before .before .before .before .args in
-    let j = c .before .before .before .judge in
-    let z = c .before .if1 .left in
-    in-room (a .settings) (a .room .now) (a .reading) (a .key .now) (j .result) (j .ensures) z
+    let y = c .before in
+    let d = y .before .before in
+    let a = d .before .before .before .before .args in (
+      slot-in-room (a .settings) (a .room .now) (a .reading) (a .key .now) (d .judge .result) (d .judge .ensures) (y .if1 .left),
+      proper-found (a .settings) (a .room .now) (a .reading) (a .key .now) (d .judge .result) (d .judge .ensures) (y .if1 .left) .cache-high,
+    )
 
 snapshot-of-requires : tie.Need-snapshot-of-requires
 snapshot-of-requires c κs = search needs
+
+join-ticks-requires : tie.Need-join-ticks-requires
+join-ticks-requires c κs =
+    let y = c .before .before .before .before in
+    let d = y .before .before in
+    let a = d .before .before .before .before .args in
+    proper-found (a .settings) (a .room .now) (a .reading) (a .key .now) (d .judge .result) (d .judge .ensures) (y .if1 .left) .bucket-high
 
 get-change-requires : tie.Need-get-change-requires
 get-change-requires c κs = search needs
 
 apply-requires : tie.Need-apply-requires
 apply-requires c κs =
-    let a = c .before .before .before .before .before .before .before .before .before .before .before .before .args in
-    let j = c .before .before .before .before .before .before .before .before .judge in
-    let z = c .before .before .before .before .before .before .if1 .left in
-    get-applies (a .settings) (a .room .now) (a .reading) (a .key .now)
-    (not-early (a .settings) (a .room .now) (a .reading) (a .key .now) (j .result) (j .ensures) z) (j .result .slot)
-    (slot-found (a .settings) (a .room .now) (a .reading) (a .key .now) (j .result) (j .ensures) z)
-    (c .before .before .before .before .ask .result .caching) (c .get-change .result) (c .get-change .ensures)
+    let y = c .before in
+    let d = y .before .before .before in
+    let m = d .before .before in
+    let n = m .before .before in
+    let a = n .before .before .before .before .args in
+    subst (λ (ticks : ℕ). Applies (a .room .now) (n .judge .result .slot .at) ticks (a .reading) (c .get-change .result)) (sym (y .join-ticks .ensures))
+    (get-applies (a .settings) (a .room .now) (a .reading) (a .key .now)
+    (not-early (a .settings) (a .room .now) (a .reading) (a .key .now) (n .judge .result) (n .judge .ensures) (m .if1 .left)) (n .judge .result .slot)
+    (slot-found (a .settings) (a .room .now) (a .reading) (a .key .now) (n .judge .result) (n .judge .ensures) (m .if1 .left))
+    (d .ask .result .caching) (c .get-change .result) (c .get-change .ensures))
 
 same-length-2 : tie.Need-same-length-2
 same-length-2 c = search needs
 
 returns-2 : tie.Need-returns-2
 returns-2 c =
-    let a = c .before .before .before .before .before .before .before .before .before .before .before .before .before .before .before .args in
-    let j = c .before .before .before .before .before .before .before .before .before .before .before .judge in
-    let z = c .before .before .before .before .before .before .before .before .before .if1 .left in
+    let y = c .before .before in
+    let d = y .before in
+    let m = d .before in
+    let n = m .before .before in
+    let o = n .before in
+    let p = o .before .before in
+    let q = p .before .before in
+    let a = q .before .before .before .before .args in
     get-done (a .settings) (a .room .now) (a .reading) (a .key .now)
-    (not-early (a .settings) (a .room .now) (a .reading) (a .key .now) (j .result) (j .ensures) z) (j .result .slot)
-    (slot-found (a .settings) (a .room .now) (a .reading) (a .key .now) (j .result) (j .ensures) z)
-    (c .before .before .before .before .before .before .before .ask .result)
-    (c .before .before .before .before .before .before .before .ask .ensures)
-    (c .before .before .before .before .before .snapshot-of .result) (c .before .before .before .get-change .result) (c .before .before .apply .last .0)
-    (c .before .before .before .before .before .snapshot-of .ensures) (c .before .before .before .get-change .ensures) (c .before .before .apply .ensures)
+    (not-early (a .settings) (a .room .now) (a .reading) (a .key .now) (q .judge .result) (q .judge .ensures) (p .if1 .left)) (q .judge .result .slot)
+    (slot-found (a .settings) (a .room .now) (a .reading) (a .key .now) (q .judge .result) (q .judge .ensures) (p .if1 .left))
+    (o .ask .result) (o .ask .ensures) (n .snapshot-of .result) (d .get-change .result) (y .apply .last .0) (n .snapshot-of .ensures)
+    (d .get-change .ensures)
+    (y .apply .ensures ∙
+    ap (λ (ticks : ℕ). applied (a .room .now) (q .judge .result .slot .at) (a .key .now) ticks (a .reading) (d .get-change .result)) (m .join-ticks .ensures))
 
 pub get-spec : {M : Type 1} → statement M
 get-spec =
@@ -64,6 +84,7 @@ get-spec =
     returns
     ask-requires
     snapshot-of-requires
+    join-ticks-requires
     get-change-requires
     apply-requires
     same-length-2

@@ -1,5 +1,11 @@
--- Refusals 1 to 7, then 11; then the change is carried out.
-use Rattle.suppressed_verdicts.specs.Laws.{not-early, slot-found, room-found, in-room, factor-early, factor-full, factor-applies, factor-done}
+-- Refusals 1 to 7; then the factor is asked by the slot as a first look leaves it.
+-- Assumes nothing.
+use mathlib.Core.Path.{sym, ap₂, _∙_}
+use Prim.Native.Nat.{ℕ}
+use Rattle.opened.specs.declared.Slot.{Slot}
+use Rattle.opened.specs.Slot.{firstLook}
+use Rattle.opened.specs.Look.{look-leaves, look-else}
+use Rattle.suppressed_verdicts.specs.Laws.{not-early, slot-found, proper-found, factor-early}
 use borrow.Author.Needs.{needs}
 use Rattle.suppressed_reads.proofs.get_suppression_factor.Statement.{statement}
 use Rattle.suppressed_reads.proofs.get_suppression_factor.Tie as tie
@@ -12,80 +18,62 @@ same-length c = search needs
 
 returns : tie.Need-returns
 returns c =
-    let a = c .before .before .before .before .before .before .args in
-    let j = c .before .before .judge in
-    factor-early (a .settings) (a .room .now) (a .reading) (a .key .now) (j .result) (j .ensures) (c .if1 .taken)
+    let j = c .before .before in
+    let a = j .before .before .before .before .args in
+    factor-early (a .settings) (a .room .now) (a .reading) (a .key .now) (j .judge .result) (j .judge .ensures) (c .if1 .taken)
 
-place-requires : tie.Need-place-requires
-place-requires c κs =
-    let a = c .before .before .before .before .before .before .before .args in
-    let j = c .before .before .before .judge in
-    let z = c .before .if1 .left in
-    room-found (a .settings) (a .room .now) (a .reading) (a .key .now) (j .result) (j .ensures) z
+look-ticks-requires : tie.Need-look-ticks-requires
+look-ticks-requires c κs =
+    let j = c .before .before in
+    let a = j .before .before .before .before .args in
+    proper-found (a .settings) (a .room .now) (a .reading) (a .key .now) (j .judge .result) (j .judge .ensures) (c .if1 .left) .window-high
 
-lacks-slot-requires : tie.Need-lacks-slot-requires
-lacks-slot-requires c κs =
-    let a = c .before .before .before .before .before .before .before .before .before .args in
-    let j = c .before .before .before .before .before .judge in
-    let z = c .before .before .before .if1 .left in
-    room-found (a .settings) (a .room .now) (a .reading) (a .key .now) (j .result) (j .ensures) z
+leaves-expired-requires : tie.Need-leaves-expired-requires
+leaves-expired-requires c κs = search needs
+
+all-stay-requires : tie.Need-all-stay-requires
+all-stay-requires c κs = search needs
+
+factor-by-requires : tie.Need-factor-by-requires
+factor-by-requires c κs =
+    let v = c .before .before .before in
+    let y = v .before in
+    let u = y .before in
+    let j = u .before .before in
+    let a = j .before .before .before .before .args in
+    let x = j .judge .result .slot in (
+      not-early (a .settings) (a .room .now) (a .reading) (a .key .now) (j .judge .result) (j .judge .ensures) (u .if1 .left),
+      c .before .all-stay .ensures ∙
+          look-leaves (y .look-ticks .result) (a .reading) x (sym (v .leaves-expired .ensures) ∙ c .before .before .if2 .taken) ∙
+          ap₂ (λ (look : ℕ) (slot : Slot). firstLook look (a .reading) slot) (y .look-ticks .ensures)
+          (slot-found (a .settings) (a .room .now) (a .reading) (a .key .now) (j .judge .result) (j .judge .ensures) (u .if1 .left)),
+    )
 
 same-length-2 : tie.Need-same-length-2
 same-length-2 c = search needs
 
 returns-2 : tie.Need-returns-2
-returns-2 c =
-    let a = c .before .before .before .before .before .before .before .before .before .before .before .args in
-    let j = c .before .before .before .before .before .before .before .judge in
-    let z = c .before .before .before .before .before .if1 .left in
-    let p = c .before .before .before .place in
-    let f = c .before .lacks-slot in
-    factor-full (a .settings) (a .room .now) (a .reading) (a .key .now)
-    (not-early (a .settings) (a .room .now) (a .reading) (a .key .now) (j .result) (j .ensures) z) (j .result .slot)
-    (slot-found (a .settings) (a .room .now) (a .reading) (a .key .now) (j .result) (j .ensures) z) (p .result) (p .ensures) (f .result) (f .ensures)
-    (c .if2 .taken)
+returns-2 c = c .before .before .factor-by .ensures
 
-ask-requires : tie.Need-ask-requires
-ask-requires c κs =
-    let a = c .before .before .before .before .before .before .before .before .before .before .before .before .args in
-    let j = c .before .before .before .before .before .before .before .before .judge in
-    let z = c .before .before .before .before .before .before .if1 .left in
-    in-room (a .settings) (a .room .now) (a .reading) (a .key .now) (j .result) (j .ensures) z
-
-factor-change-requires : tie.Need-factor-change-requires
-factor-change-requires c κs = search needs
-
-apply-requires : tie.Need-apply-requires
-apply-requires c κs =
-    let a = c .before .before .before .before .before .before .before .before .before .before .before .before .before .before .before .before .args in
-    let j = c .before .before .before .before .before .before .before .before .before .before .before .before .judge in
-    let z = c .before .before .before .before .before .before .before .before .before .before .if1 .left in
-    let p = c .before .before .before .before .before .before .before .before .place in
-    let f = c .before .before .before .before .before .before .lacks-slot in
-    factor-applies (a .settings) (a .room .now) (a .reading) (a .key .now)
-    (not-early (a .settings) (a .room .now) (a .reading) (a .key .now) (j .result) (j .ensures) z) (j .result .slot)
-    (slot-found (a .settings) (a .room .now) (a .reading) (a .key .now) (j .result) (j .ensures) z) (p .result) (p .ensures) (f .result) (f .ensures)
-    (c .before .before .before .before .before .if2 .left) (c .before .before .before .ask .result .caching) (c .factor-change .result)
-    (c .factor-change .ensures)
+factor-by-requires-2 : tie.Need-factor-by-requires-2
+factor-by-requires-2 c κs =
+    let v = c .before .before in
+    let y = v .before in
+    let u = y .before in
+    let j = u .before .before in
+    let a = j .before .before .before .before .args in
+    let x = j .judge .result .slot in (
+      not-early (a .settings) (a .room .now) (a .reading) (a .key .now) (j .judge .result) (j .judge .ensures) (u .if1 .left),
+      look-else (y .look-ticks .result) (a .reading) x (sym (v .leaves-expired .ensures) ∙ c .before .if2 .left) ∙
+          ap₂ (λ (look : ℕ) (slot : Slot). firstLook look (a .reading) slot) (y .look-ticks .ensures)
+          (slot-found (a .settings) (a .room .now) (a .reading) (a .key .now) (j .judge .result) (j .judge .ensures) (u .if1 .left)),
+    )
 
 same-length-3 : tie.Need-same-length-3
 same-length-3 c = search needs
 
 returns-3 : tie.Need-returns-3
-returns-3 c =
-    let a = c .before .before .before .before .before .before .before .before .before .before .before .before .before .before .before .before
-    .before .before .before .args in
-    let j = c .before .before .before .before .before .before .before .before .before .before .before .before .before .before .before .judge in
-    let z = c .before .before .before .before .before .before .before .before .before .before .before .before .before .if1 .left in
-    let p = c .before .before .before .before .before .before .before .before .before .before .before .place in
-    let f = c .before .before .before .before .before .before .before .before .before .lacks-slot in
-    factor-done (a .settings) (a .room .now) (a .reading) (a .key .now)
-    (not-early (a .settings) (a .room .now) (a .reading) (a .key .now) (j .result) (j .ensures) z) (j .result .slot)
-    (slot-found (a .settings) (a .room .now) (a .reading) (a .key .now) (j .result) (j .ensures) z) (p .result) (p .ensures) (f .result) (f .ensures)
-    (c .before .before .before .before .before .before .before .before .if2 .left)
-    (c .before .before .before .before .before .before .ask .result) (c .before .before .before .before .before .before .ask .ensures)
-    (c .before .before .before .factor-change .result) (c .before .before .apply .last .0)
-    (c .before .before .before .factor-change .ensures) (c .before .before .apply .ensures)
+returns-3 c = c .before .before .factor-by2 .ensures
 
 pub get-suppression-factor-spec : {M : Type 1} → statement M
 get-suppression-factor-spec =
@@ -94,12 +82,12 @@ get-suppression-factor-spec =
     judge-requires
     same-length
     returns
-    place-requires
-    lacks-slot-requires
+    look-ticks-requires
+    leaves-expired-requires
+    all-stay-requires
+    factor-by-requires
     same-length-2
     returns-2
-    ask-requires
-    factor-change-requires
-    apply-requires
+    factor-by-requires-2
     same-length-3
     returns-3)

@@ -10,8 +10,11 @@ nothing-requires c κs = search needs
 nothing-requires-2 : tie.Need-nothing-requires-2
 nothing-requires-2 c κs = search needs
 
+nothing-requires-3 : tie.Need-nothing-requires-3
+nothing-requires-3 c κs = search needs
+
 returns : tie.Need-returns
 returns c = cc
 
 pub no-pass-spec : {M : Type 1} → statement M
-no-pass-spec = tie.close (tie.spec nothing-requires nothing-requires-2 returns)
+no-pass-spec = tie.close (tie.spec nothing-requires nothing-requires-2 nothing-requires-3 returns)

@@ -43,16 +43,21 @@ gone-requires c κs = let a = c .before .before .before .before .before .before 
 nth-or-none-requires-2 : tie.Need-nth-or-none-requires-2
 nth-or-none-requires-2 c κs = search needs
 
+nth-or-none-requires-3 : tie.Need-nth-or-none-requires-3
+nth-or-none-requires-3 c κs = search needs
+
 returns-2 : tie.Need-returns-2
-returns-2 c = let a = c .before .before .before .before .before .before .before .before .args in
-    let s = c .before .before .before .before .before .before .is-sound in
-    let n = c .before .before .before .before .len in
-    let d = c .before .before .before .less in
-    let m = c .before .before .nth-or-none in
-    let e = c .before .gone in
+returns-2 c = let p = c .before in
+    let a = p .before .before .before .before .before .before .before .before .args in
+    let s = p .before .before .before .before .before .before .is-sound in
+    let n = p .before .before .before .before .len in
+    let d = p .before .before .before .less in
+    let m = p .before .before .nth-or-none in
+    let e = p .before .gone in
     pass-is (a .r) (a .b .now) (a .last) (a .reading) (a .window)
-    (sym (s .ensures) ∙ not-false (s .result) (c .before .before .before .before .before .if1 .left)) (e .result) (e .ensures)
-    (n .result) (d .result) (c .nth-or-none2 .result) (m .result) (n .ensures) (d .ensures) (c .nth-or-none2 .ensures) (m .ensures)
+    (sym (s .ensures) ∙ not-false (s .result) (p .before .before .before .before .before .if1 .left)) (e .result) (e .ensures)
+    (n .result) (d .result) (p .nth-or-none2 .result) (m .result) (c .nth-or-none3 .result) (n .ensures) (d .ensures) (p .nth-or-none2 .ensures) (m .ensures)
+    (c .nth-or-none3 .ensures)
 
 pub pass-fit-spec : {M : Type 1} → statement M
 pass-fit-spec =
@@ -66,4 +71,5 @@ pass-fit-spec =
     nth-or-none-requires
     gone-requires
     nth-or-none-requires-2
+    nth-or-none-requires-3
     returns-2)
