@@ -108,6 +108,10 @@ pub fn decide(
             declined: count,
             caching: full_at(reading),
         },
-        Reach::Between => draw_by(ask_by(settings, w, x, soft, hard, reading), count, draw),
+        Reach::Between => draw_by(
+            ask_by(settings, w, opened::rebuilt(x), soft, hard, reading),
+            count,
+            draw,
+        ),
     }
 }

@@ -144,7 +144,7 @@ pub fn open_at(w: &[u64], at: usize, reading: u64, window: u64) -> Slot
 }
 
 // The slot with all its buckets.
-pub fn all_stay(x: Slot) -> Slot
+fn all_stay(x: Slot) -> Slot
     ensures { λ y. ⌜ y ≡ allStay x ⌝ }
 {
     let pass = x.pass;
@@ -174,8 +174,40 @@ pub fn all_stay(x: Slot) -> Slot
     }
 }
 
+// The slot, built anew of its parts: where only a call that is seldom made takes it as a whole, its parts are copied there and nowhere else.
+pub fn rebuilt(x: Slot) -> Slot
+    ensures { λ y. ⌜ y ≡ x ⌝ }
+{
+    let pass = x.pass;
+    let oldest = pass.oldest;
+    let newest = pass.newest;
+    let eldest = pass.eldest;
+    let pass = Pass {
+        sound: pass.sound,
+        buckets: pass.buckets,
+        expired: pass.expired,
+        live_total: pass.live_total,
+        live_declined: pass.live_declined,
+        oldest,
+        newest,
+        eldest,
+    };
+    Slot {
+        at: x.at,
+        used: x.used,
+        series: x.series,
+        cached: x.cached,
+        limit: x.limit,
+        total: x.total,
+        declined: x.declined,
+        factor: x.factor,
+        factor_time: x.factor_time,
+        pass,
+    }
+}
+
 // Whether a first look leaves buckets that are expired: the oldest bucket's age is not over `look`.
-pub fn leaves_expired(look: u64, reading: u64, x: Slot) -> bool
+fn leaves_expired(look: u64, reading: u64, x: Slot) -> bool
     ensures { λ r. ⌜ r ≡ leavesExpired look reading x ⌝ }
 {
     let pass = x.pass;

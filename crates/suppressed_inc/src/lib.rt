@@ -9,7 +9,6 @@ ghost use Rattle.plan.specs.Plan.{lacksAt};
 ghost use Rattle.suppressed_refusals.specs.Refusals.{incLate};
 ghost use Rattle.rules.specs.declared.RoomKind.the-variants.{Suppressed};
 ghost use Rattle.suppressed_verdicts.specs.Calls.{inc};
-ghost use Rattle.suppressed_verdicts.specs.Standing.{Looked};
 ghost use Rattle.suppressed_verdicts.specs.Opened.{limitAt};
 use answers::RateLimitDecision;
 use common::RateLimit;
@@ -47,35 +46,7 @@ fn late(
     suppressed_refusals::inc_late(settings, x, lacks, ring, reading, rate, count, draw)
 }
 
-// Counts for a key that was judged, by its slot as a first look leaves it.
-fn count_by(
-    settings: Settings,
-    room: &mut [u64],
-    x: Slot,
-    reading: u64,
-    key: &[u8],
-    rate: RateLimit,
-    count: u64,
-    draw: u64,
-) -> RateLimitDecision
-    requires { ⌜ Looked settings (now room) reading (now key) x ⌝ }
-    ensures { λ r. ⌜ Told (inc settings (now (room .entry)) reading (now (key .entry)) rate count draw) r (now (room .exit)) ⌝ }
-{
-    let at = plan::place(room, x);
-    let late = late(settings, room, x, at, reading, rate, count, draw);
-    if late != 0 {
-        return RateLimitDecision::Refused(late);
-    }
-    let limit = limit_for(settings, x, rate);
-    let forecast = forecast_opened::forecast(x, count);
-    let outcome = forecast_opened::decide(settings, room, x, limit, forecast, reading, count, draw);
-    let caching = outcome.caching;
-    let change = suppressed_edits::inc_change(x, limit, count, outcome.declined, caching);
-    change::apply(room, at, key, settings.join_ticks(), reading, change);
-    outcome.decision
-}
-
-// Counts, and decides by the forecast and the draw. Where the first look leaves the slot as it is, which in milliseconds it always does, no slot is copied.
+// Counts, and decides by the forecast and the draw.
 pub fn inc(
     settings: Settings,
     room: &mut [u64],
@@ -92,14 +63,22 @@ pub fn inc(
         return RateLimitDecision::Refused(fault);
     }
     let window = settings.window_ticks();
-    let x = opened::open_at(room, judge::address(room, key), reading, window);
-    let misfit = judge::misfit(RoomKind::Suppressed, settings, room, reading, key, x);
+    let found = opened::open_at(room, judge::address(room, key), reading, window);
+    let misfit = judge::misfit(RoomKind::Suppressed, settings, room, reading, key, found);
     if misfit != 0 {
         return RateLimitDecision::Refused(misfit);
     }
-    if opened::leaves_expired(settings.look_ticks(), reading, x) {
-        let x = opened::all_stay(x);
-        return count_by(settings, room, x, reading, key, rate, count, draw);
+    let x = opened::first_look(settings.look_ticks(), reading, found);
+    let at = plan::place(room, x);
+    let late = late(settings, room, x, at, reading, rate, count, draw);
+    if late != 0 {
+        return RateLimitDecision::Refused(late);
     }
-    count_by(settings, room, x, reading, key, rate, count, draw)
+    let limit = limit_for(settings, x, rate);
+    let forecast = forecast_opened::forecast(x, count);
+    let outcome = forecast_opened::decide(settings, room, x, limit, forecast, reading, count, draw);
+    let caching = outcome.caching;
+    let change = suppressed_edits::inc_change(x, limit, count, outcome.declined, caching);
+    change::apply(room, at, key, settings.join_ticks(), reading, change);
+    outcome.decision
 }

@@ -4,7 +4,6 @@ ghost use Rattle.judge.specs.Verdict.{Told};
 ghost use Rattle.rules.specs.declared.RoomKind.the-variants.{Suppressed};
 ghost use Rattle.suppressed_verdicts.specs.Calls.{get, getFactor};
 ghost use Rattle.suppressed_verdicts.specs.Opened.{snapshotAt};
-ghost use Rattle.suppressed_verdicts.specs.Standing.{Looked};
 use answers::FactorAnswer;
 use answers::SnapshotAnswer;
 use answers::SuppressedRateLimitSnapshot;
@@ -52,17 +51,21 @@ pub fn get(settings: Settings, room: &mut [u64], reading: u64, key: &[u8]) -> Sn
     SnapshotAnswer::Snapshot(snapshot)
 }
 
-// The factor of a key that was judged, by its slot as a first look leaves it.
-fn factor_by(
+// A key's factor, which is cached.
+pub fn get_suppression_factor(
     settings: Settings,
     room: &mut [u64],
-    x: Slot,
     reading: u64,
     key: &[u8],
 ) -> FactorAnswer
-    requires { ⌜ Looked settings (now room) reading (now key) x ⌝ }
     ensures { λ r. ⌜ Told (getFactor settings (now (room .entry)) reading (now (key .entry))) r (now (room .exit)) ⌝ }
 {
+    let judged = judge::judge(RoomKind::Suppressed, settings, room, reading, key);
+    let code = judged.code;
+    if code != 0 {
+        return FactorAnswer::Refused(code);
+    }
+    let x = opened::first_look(settings.look_ticks(), reading, judged.slot);
     let at = plan::place(room, x);
     if plan::lacks_slot(room, at, x) {
         return FactorAnswer::Refused(11);
@@ -78,26 +81,4 @@ fn factor_by(
         suppressed_edits::factor_change(x, caching, reading),
     );
     FactorAnswer::Factor(asked.factor)
-}
-
-// A key's factor, which is cached. Where the first look leaves the slot as it is, no slot is copied.
-pub fn get_suppression_factor(
-    settings: Settings,
-    room: &mut [u64],
-    reading: u64,
-    key: &[u8],
-) -> FactorAnswer
-    ensures { λ r. ⌜ Told (getFactor settings (now (room .entry)) reading (now (key .entry))) r (now (room .exit)) ⌝ }
-{
-    let judged = judge::judge(RoomKind::Suppressed, settings, room, reading, key);
-    let code = judged.code;
-    let x = judged.slot;
-    if code != 0 {
-        return FactorAnswer::Refused(code);
-    }
-    if opened::leaves_expired(settings.look_ticks(), reading, x) {
-        let x = opened::all_stay(x);
-        return factor_by(settings, room, x, reading, key);
-    }
-    factor_by(settings, room, x, reading, key)
 }

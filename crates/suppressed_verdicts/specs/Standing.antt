@@ -24,7 +24,7 @@ use Rattle.room.specs.Room.{slotsOf, ringOf, lastOf, bodyOf, vacant}
 use Rattle.rules.specs.declared.RoomKind.the-variants as kind
 use Rattle.opened.specs.declared.Slot.{Slot}
 use Rattle.judge.specs.Held.{heldIn}
-use Rattle.judge.specs.Judge.{early, Passed, slotIn, lookedIn}
+use Rattle.judge.specs.Judge.{Passed, slotIn, lookedIn}
 use Rattle.opened.specs.Look.{look-none, look-at, look-series, look-cached}
 use Rattle.opened.specs.Slot.{hasSlot, noSlot, pickPass, opened}
 use Rattle.opened.specs.Sound.{addressed}
@@ -98,10 +98,6 @@ module _ (s : Settings) (w : List ℕ) (t : ℕ) (key : List ℕ) (q : Passed ki
       go : Dec (addressed w key < slotsOf w) → x .pass ≡ unsound
       go (yes l) = lone-pass s w t (x .at) x (there l) e
       go (no n) = ap (λ (y : Slot). y .pass) (nowhere n)
-
--- what code that counts by a slot asks for: the call passes refusals 1 to 7, and the slot is as a first look leaves it
-abbrev pub Looked : Settings → List ℕ → ℕ → List ℕ → Slot → Type 0
-Looked s w t key x = (early kind.Suppressed s w t key ≡ 0) × (x ≡ lookedIn s w t key)
 
 -- ---- what is known of it, with the expired buckets out or not
 

@@ -1,6 +1,7 @@
 -- Each arm is its case of the definition; a constant is its bits.
+use mathlib.Core.Path.{sym, subst}
 use lib.Ieee.{ofBits}
-use Rattle.factor_opened.specs.Opened.{workedAt, askedAt}
+use Rattle.factor_opened.specs.Opened.{InRoom, workedAt, askedAt}
 use Rattle.forecast_opened.specs.Forecast.{outcomeAt}
 use borrow.Author.Needs.{needs}
 use Rattle.forecast_opened.proofs.decide.Statement.{statement}
@@ -33,8 +34,13 @@ full-at-requires-2 c κs = search needs
 enum-told-4 : tie.Need-enum-told-4
 enum-told-4 c = search needs
 
+rebuilt-requires : tie.Need-rebuilt-requires
+rebuilt-requires c κs = search needs
+
 ask-by-requires : tie.Need-ask-by-requires
-ask-by-requires c κs = search needs
+ask-by-requires c κs =
+    let a = c .before .before .before .before .before .before .before in
+    (subst (InRoom (a .args .w .now)) (sym (c .rebuilt .ensures)) (a .pre .0), a .pre .1)
 
 draw-by-requires : tie.Need-draw-by-requires
 draw-by-requires c κs = search needs
@@ -66,12 +72,13 @@ returns-3 c =
 returns-4 : tie.Need-returns-4
 unfolding outcomeAt askedAt workedAt
 returns-4 c =
-    let k = c .before .before .before .before in
+    let k = c .before .before .before .before .before in
     rw (
       ← k .before .before .soft-limit .ensures,
       ← k .before .cut-limit .ensures,
       ← k .reach-of .ensures,
-      c .before .before .enum-told4 .given .1,
+      c .before .before .before .enum-told4 .given .1,
+      ← c .before .before .rebuilt .ensures,
       ← c .before .ask-by .ensures,
     ) (c .draw-by .ensures)
 
@@ -88,6 +95,7 @@ decide-spec =
     enum-told-3
     full-at-requires-2
     enum-told-4
+    rebuilt-requires
     ask-by-requires
     draw-by-requires
     returns

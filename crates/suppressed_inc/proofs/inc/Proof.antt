@@ -1,13 +1,15 @@
--- Refusals 1 to 7; then it is counted by the slot as a first look leaves it.
+-- Refusals 1 to 7, then 8 to 12; then the change is carried out.
 -- Assumes nothing.
-use mathlib.Core.Path.{sym, ap₂, _∙_}
+use mathlib.Core.Path.{refl, sym, ap, ap₂, subst, _∙_}
 use Prim.Native.Nat.{ℕ}
+use Rattle.room.specs.Room.{ringOf}
 use Rattle.rules.specs.declared.RoomKind.the-variants.{Suppressed}
 use Rattle.opened.specs.declared.Slot.{Slot}
 use Rattle.opened.specs.Slot.{noSlot, slotOf, firstLook}
-use Rattle.opened.specs.Look.{look-leaves, look-else}
 use Rattle.judge.specs.Laws.{refused-is, fault-early, no-fault}
-use Rattle.suppressed_verdicts.specs.Laws.{inc-early}
+use Rattle.change.specs.Words.{Applies, applied}
+use Rattle.plan.specs.Plan.{lacksAt}
+use Rattle.suppressed_verdicts.specs.Laws.{in-room, inc-early, inc-late, inc-total, inc-applies, inc-done}
 use borrow.Author.Needs.{needs}
 use Rattle.suppressed_inc.proofs.inc.Statement.{statement}
 use Rattle.suppressed_inc.proofs.inc.Tie as tie
@@ -81,61 +83,182 @@ look-ticks-requires c κs =
     let a = s .args in
     no-fault Suppressed (a .settings) (a .room .now) (a .reading) (a .key .now) (sym (f .fault .ensures) ∙ i .if1 .left) .1 .window-high
 
-leaves-expired-requires : tie.Need-leaves-expired-requires
-leaves-expired-requires c κs = search needs
+first-look-requires : tie.Need-first-look-requires
+first-look-requires c κs = search needs
 
-all-stay-requires : tie.Need-all-stay-requires
-all-stay-requires c κs = search needs
-
-count-by-requires : tie.Need-count-by-requires
-count-by-requires c κs =
-    let v = c .before .before .before in
-    let y = v .before in
-    let u = y .before in
-    let m = u .before in
-    let o = m .before .before in
-    let d = o .before in
-    let n = d .before .before in
-    let s = n .before .before .before .before .before .before in
+place-requires : tie.Need-place-requires
+place-requires c κs =
+    let i = c .before .before .before .before .before .before .before .before .before .before in
+    let f = i .before in
+    let s = f .before .before .before .before in
     let a = s .args in
-    let x = o .open-at .result in
-    let look = y .look-ticks .result in (
-      sym (m .misfit .ensures) ∙ u .if2 .left,
-      c .before .all-stay .ensures ∙ look-leaves look (a .reading) x (sym (v .leaves-expired .ensures) ∙ c .before .before .if3 .taken) ∙
-          ap₂ (λ (n : ℕ) (y : Slot). firstLook n (a .reading) y) (y .look-ticks .ensures)
-          (o .open-at .ensures ∙ ap₂ (λ (W i : ℕ). slotOf W (a .room .now) (a .reading) i) (n .window-ticks .ensures) (d .address .ensures)),
-    )
+    no-fault Suppressed (a .settings) (a .room .now) (a .reading) (a .key .now) (sym (f .fault .ensures) ∙ i .if1 .left) .0
+
+late-requires : tie.Need-late-requires
+late-requires c κs =
+    let i = c .before .before .before .before .before .before .before .before .before .before .before .before in
+    let f = i .before in
+    let s = f .before .before .before .before in
+    let a = s .args in
+    let q = no-fault Suppressed (a .settings) (a .room .now) (a .reading) (a .key .now) (sym (f .fault .ensures) ∙ i .if1 .left) in
+    (q .0, q .1 .bucket-high)
 
 same-length-3 : tie.Need-same-length-3
 same-length-3 c = search needs
 
 returns-3 : tie.Need-returns-3
-returns-3 c = c .before .before .count-by .ensures
-
-count-by-requires-2 : tie.Need-count-by-requires-2
-count-by-requires-2 c κs =
-    let v = c .before .before in
-    let y = v .before in
-    let u = y .before in
+returns-3 c =
+    let l = c .before in
+    let p = l .before .before in
+    let y = p .before .before in
+    let v = y .before in
+    let u = v .before in
     let m = u .before in
     let o = m .before .before in
     let d = o .before in
     let n = d .before .before in
-    let s = n .before .before .before .before .before .before in
+    let i = n .before in
+    let f = i .before in
+    let s = f .before .before .before .before in
     let a = s .args in
-    let x = o .open-at .result in
-    let look = y .look-ticks .result in (
-      sym (m .misfit .ensures) ∙ u .if2 .left,
-      look-else look (a .reading) x (sym (v .leaves-expired .ensures) ∙ c .before .if3 .left) ∙
-          ap₂ (λ (n : ℕ) (y : Slot). firstLook n (a .reading) y) (y .look-ticks .ensures)
-          (o .open-at .ensures ∙ ap₂ (λ (W i : ℕ). slotOf W (a .room .now) (a .reading) i) (n .window-ticks .ensures) (d .address .ensures)),
+    let x = y .first-look .result in
+    let k = y .first-look .ensures ∙
+    ap₂ (λ (n : ℕ) (y : Slot). firstLook n (a .reading) y) (v .look-ticks .ensures)
+    (o .open-at .ensures ∙ ap₂ (λ (W i : ℕ). slotOf W (a .room .now) (a .reading) i) (n .window-ticks .ensures) (d .address .ensures)) in
+    let e = sym (m .misfit .ensures) ∙ u .if2 .left in
+    inc-late (a .settings) (a .room .now) (a .reading) (a .key .now) e x k (p .place .result) (p .place .ensures)
+    (lacksAt (a .room .now) (p .place .result) x) refl (a .rate) (a .count) (a .draw) (ringOf (a .room .now)) (l .late .result) refl (l .late .ensures)
+    (c .if3 .taken)
+
+limit-for-requires : tie.Need-limit-for-requires
+limit-for-requires c κs = search needs
+
+forecast-requires : tie.Need-forecast-requires
+forecast-requires c κs =
+    let z = c .before in
+    let l = z .before in
+    let p = l .before .before in
+    let y = p .before .before in
+    let v = y .before in
+    let u = v .before in
+    let m = u .before in
+    let o = m .before .before in
+    let d = o .before in
+    let n = d .before .before in
+    let i = n .before in
+    let f = i .before in
+    let s = f .before .before .before .before in
+    let a = s .args in
+    let x = y .first-look .result in
+    let k = y .first-look .ensures ∙
+    ap₂ (λ (n : ℕ) (y : Slot). firstLook n (a .reading) y) (v .look-ticks .ensures)
+    (o .open-at .ensures ∙ ap₂ (λ (W i : ℕ). slotOf W (a .room .now) (a .reading) i) (n .window-ticks .ensures) (d .address .ensures)) in
+    let e = sym (m .misfit .ensures) ∙ u .if2 .left in
+    inc-total (a .settings) (a .room .now) (a .reading) (a .key .now) e x k (p .place .result) (p .place .ensures)
+    (lacksAt (a .room .now) (p .place .result) x) refl (a .rate) (a .count) (a .draw) (ringOf (a .room .now)) (l .late .result) refl (l .late .ensures)
+    (z .if3 .left)
+
+decide-requires : tie.Need-decide-requires
+decide-requires c κs =
+    let y = c .before .before .before .before .before .before .before .before in
+    let v = y .before in
+    let u = v .before in
+    let m = u .before in
+    let o = m .before .before in
+    let d = o .before in
+    let n = d .before .before in
+    let i = n .before in
+    let f = i .before in
+    let s = f .before .before .before .before in
+    let a = s .args in
+    let x = y .first-look .result in
+    let k = y .first-look .ensures ∙
+    ap₂ (λ (n : ℕ) (y : Slot). firstLook n (a .reading) y) (v .look-ticks .ensures)
+    (o .open-at .ensures ∙ ap₂ (λ (W i : ℕ). slotOf W (a .room .now) (a .reading) i) (n .window-ticks .ensures) (d .address .ensures)) in
+    let e = sym (m .misfit .ensures) ∙ u .if2 .left in (
+      in-room (a .settings) (a .room .now) (a .reading) (a .key .now) e x k,
+      no-fault Suppressed (a .settings) (a .room .now) (a .reading) (a .key .now) (sym (f .fault .ensures) ∙ i .if1 .left) .1 .cache-high,
     )
+
+inc-change-requires : tie.Need-inc-change-requires
+inc-change-requires c κs = search needs
+
+join-ticks-requires : tie.Need-join-ticks-requires
+join-ticks-requires c κs =
+    let h = c .before .before .before .before .before .before .before .before .before .before in
+    let i = h .before .before .before .before .before .before .before .before .before .before in
+    let f = i .before in
+    let s = f .before .before .before .before in
+    let a = s .args in
+    no-fault Suppressed (a .settings) (a .room .now) (a .reading) (a .key .now) (sym (f .fault .ensures) ∙ i .if1 .left) .1 .bucket-high
+
+apply-requires : tie.Need-apply-requires
+apply-requires c κs =
+    let h = c .before .before in
+    let g = h .before in
+    let r = g .before .before in
+    let q = r .before in
+    let z = q .before in
+    let l = z .before in
+    let p = l .before .before in
+    let y = p .before .before in
+    let v = y .before in
+    let u = v .before in
+    let m = u .before in
+    let o = m .before .before in
+    let d = o .before in
+    let n = d .before .before in
+    let i = n .before in
+    let f = i .before in
+    let s = f .before .before .before .before in
+    let a = s .args in
+    let x = y .first-look .result in
+    let k = y .first-look .ensures ∙
+    ap₂ (λ (n : ℕ) (y : Slot). firstLook n (a .reading) y) (v .look-ticks .ensures)
+    (o .open-at .ensures ∙ ap₂ (λ (W i : ℕ). slotOf W (a .room .now) (a .reading) i) (n .window-ticks .ensures) (d .address .ensures)) in
+    let e = sym (m .misfit .ensures) ∙ u .if2 .left in
+    subst (λ (b : ℕ). Applies (a .room .now) (p .place .result) b (a .reading) (h .inc-change .result)) (sym (c .join-ticks .ensures))
+    (inc-applies (a .settings) (a .room .now) (a .reading) (a .key .now) e x k (p .place .result) (p .place .ensures)
+    (lacksAt (a .room .now) (p .place .result) x) refl (a .rate) (a .count) (a .draw) (ringOf (a .room .now)) (l .late .result) refl (l .late .ensures)
+    (z .if3 .left) (g .decide .result) (q .limit-for .result) (r .forecast .result) (q .limit-for .ensures) (r .forecast .ensures) (g .decide .ensures)
+    (h .inc-change .result) (h .inc-change .ensures))
 
 same-length-4 : tie.Need-same-length-4
 same-length-4 c = search needs
 
 returns-4 : tie.Need-returns-4
-returns-4 c = c .before .before .count-by2 .ensures
+returns-4 c =
+    let w = c .before .before in
+    let b = w .before in
+    let h = b .before .before in
+    let g = h .before in
+    let r = g .before .before in
+    let q = r .before in
+    let z = q .before in
+    let l = z .before in
+    let p = l .before .before in
+    let y = p .before .before in
+    let v = y .before in
+    let u = v .before in
+    let m = u .before in
+    let o = m .before .before in
+    let d = o .before in
+    let n = d .before .before in
+    let i = n .before in
+    let f = i .before in
+    let s = f .before .before .before .before in
+    let a = s .args in
+    let x = y .first-look .result in
+    let k = y .first-look .ensures ∙
+    ap₂ (λ (n : ℕ) (y : Slot). firstLook n (a .reading) y) (v .look-ticks .ensures)
+    (o .open-at .ensures ∙ ap₂ (λ (W i : ℕ). slotOf W (a .room .now) (a .reading) i) (n .window-ticks .ensures) (d .address .ensures)) in
+    let e = sym (m .misfit .ensures) ∙ u .if2 .left in
+    inc-done (a .settings) (a .room .now) (a .reading) (a .key .now) e x k (p .place .result) (p .place .ensures)
+    (lacksAt (a .room .now) (p .place .result) x) refl (a .rate) (a .count) (a .draw) (ringOf (a .room .now)) (l .late .result) refl (l .late .ensures)
+    (z .if3 .left) (g .decide .result) (q .limit-for .result) (r .forecast .result) (q .limit-for .ensures) (r .forecast .ensures) (g .decide .ensures)
+    (h .inc-change .result) (w .apply .last .0) (h .inc-change .ensures)
+    (w .apply .ensures ∙
+    ap (λ (n : ℕ). applied (a .room .now) (p .place .result) (a .key .now) n (a .reading) (h .inc-change .result)) (b .join-ticks .ensures))
 
 pub inc-spec : {M : Type 1} → statement M
 inc-spec =
@@ -151,11 +274,16 @@ inc-spec =
     same-length-2
     returns-2
     look-ticks-requires
-    leaves-expired-requires
-    all-stay-requires
-    count-by-requires
+    first-look-requires
+    place-requires
+    late-requires
     same-length-3
     returns-3
-    count-by-requires-2
+    limit-for-requires
+    forecast-requires
+    decide-requires
+    inc-change-requires
+    join-ticks-requires
+    apply-requires
     same-length-4
     returns-4)

@@ -1,11 +1,10 @@
--- Refusals 1 to 7; then the factor is asked by the slot as a first look leaves it.
--- Assumes nothing.
-use mathlib.Core.Path.{sym, ap₂, _∙_}
+-- Refusals 1 to 7, then 11; then the change is carried out.
+use mathlib.Core.Path.{sym, ap, ap₂, subst, _∙_}
 use Prim.Native.Nat.{ℕ}
 use Rattle.opened.specs.declared.Slot.{Slot}
 use Rattle.opened.specs.Slot.{firstLook}
-use Rattle.opened.specs.Look.{look-leaves, look-else}
-use Rattle.suppressed_verdicts.specs.Laws.{not-early, slot-found, proper-found, factor-early}
+use Rattle.change.specs.Words.{Applies, applied}
+use Rattle.suppressed_verdicts.specs.Laws.{not-early, slot-found, room-found, proper-found, in-room, factor-early, factor-full, factor-applies, factor-done}
 use borrow.Author.Needs.{needs}
 use Rattle.suppressed_reads.proofs.get_suppression_factor.Statement.{statement}
 use Rattle.suppressed_reads.proofs.get_suppression_factor.Tie as tie
@@ -18,62 +17,120 @@ same-length c = search needs
 
 returns : tie.Need-returns
 returns c =
-    let j = c .before .before in
-    let a = j .before .before .before .before .args in
-    factor-early (a .settings) (a .room .now) (a .reading) (a .key .now) (j .judge .result) (j .judge .ensures) (c .if1 .taken)
+    let y = c .before in
+    let a = y .before .before .before .before .args in
+    factor-early (a .settings) (a .room .now) (a .reading) (a .key .now) (y .judge .result) (y .judge .ensures) (c .if1 .taken)
 
 look-ticks-requires : tie.Need-look-ticks-requires
 look-ticks-requires c κs =
-    let j = c .before .before in
-    let a = j .before .before .before .before .args in
-    proper-found (a .settings) (a .room .now) (a .reading) (a .key .now) (j .judge .result) (j .judge .ensures) (c .if1 .left) .window-high
+    let y = c .before in
+    let a = y .before .before .before .before .args in
+    proper-found (a .settings) (a .room .now) (a .reading) (a .key .now) (y .judge .result) (y .judge .ensures) (c .if1 .left) .window-high
 
-leaves-expired-requires : tie.Need-leaves-expired-requires
-leaves-expired-requires c κs = search needs
+first-look-requires : tie.Need-first-look-requires
+first-look-requires c κs = search needs
 
-all-stay-requires : tie.Need-all-stay-requires
-all-stay-requires c κs = search needs
+place-requires : tie.Need-place-requires
+place-requires c κs =
+    let y = c .before .before .before in
+    let d = y .before in
+    let a = d .before .before .before .before .args in
+    room-found (a .settings) (a .room .now) (a .reading) (a .key .now) (d .judge .result) (d .judge .ensures) (y .if1 .left)
 
-factor-by-requires : tie.Need-factor-by-requires
-factor-by-requires c κs =
-    let v = c .before .before .before in
-    let y = v .before in
-    let u = y .before in
-    let j = u .before .before in
-    let a = j .before .before .before .before .args in
-    let x = j .judge .result .slot in (
-      not-early (a .settings) (a .room .now) (a .reading) (a .key .now) (j .judge .result) (j .judge .ensures) (u .if1 .left),
-      c .before .all-stay .ensures ∙
-          look-leaves (y .look-ticks .result) (a .reading) x (sym (v .leaves-expired .ensures) ∙ c .before .before .if2 .taken) ∙
-          ap₂ (λ (look : ℕ) (slot : Slot). firstLook look (a .reading) slot) (y .look-ticks .ensures)
-          (slot-found (a .settings) (a .room .now) (a .reading) (a .key .now) (j .judge .result) (j .judge .ensures) (u .if1 .left)),
-    )
+lacks-slot-requires : tie.Need-lacks-slot-requires
+lacks-slot-requires c κs =
+    let y = c .before .before .before .before .before in
+    let d = y .before in
+    let a = d .before .before .before .before .args in
+    room-found (a .settings) (a .room .now) (a .reading) (a .key .now) (d .judge .result) (d .judge .ensures) (y .if1 .left)
 
 same-length-2 : tie.Need-same-length-2
 same-length-2 c = search needs
 
 returns-2 : tie.Need-returns-2
-returns-2 c = c .before .before .factor-by .ensures
+returns-2 c =
+    let y = c .before in
+    let d = y .before .before in
+    let m = d .before .before in
+    let n = m .before in
+    let o = n .before in
+    let p = o .before in
+    let a = p .before .before .before .before .args in
+    factor-full (a .settings) (a .room .now) (a .reading) (a .key .now)
+    (not-early (a .settings) (a .room .now) (a .reading) (a .key .now) (p .judge .result) (p .judge .ensures) (o .if1 .left)) (m .first-look .result)
+    (m .first-look .ensures ∙ ap₂ (λ (look : ℕ) (slot : Slot). firstLook look (a .reading) slot) (n .look-ticks .ensures)
+    (slot-found (a .settings) (a .room .now) (a .reading) (a .key .now) (p .judge .result) (p .judge .ensures) (o .if1 .left)))
+    (d .place .result) (d .place .ensures) (y .lacks-slot .result) (y .lacks-slot .ensures) (c .if2 .taken)
 
-factor-by-requires-2 : tie.Need-factor-by-requires-2
-factor-by-requires-2 c κs =
-    let v = c .before .before in
-    let y = v .before in
-    let u = y .before in
-    let j = u .before .before in
-    let a = j .before .before .before .before .args in
-    let x = j .judge .result .slot in (
-      not-early (a .settings) (a .room .now) (a .reading) (a .key .now) (j .judge .result) (j .judge .ensures) (u .if1 .left),
-      look-else (y .look-ticks .result) (a .reading) x (sym (v .leaves-expired .ensures) ∙ c .before .if2 .left) ∙
-          ap₂ (λ (look : ℕ) (slot : Slot). firstLook look (a .reading) slot) (y .look-ticks .ensures)
-          (slot-found (a .settings) (a .room .now) (a .reading) (a .key .now) (j .judge .result) (j .judge .ensures) (u .if1 .left)),
+ask-requires : tie.Need-ask-requires
+ask-requires c κs =
+    let y = c .before .before .before .before .before .before in
+    let d = y .before in
+    let m = d .before in
+    let n = m .before in
+    let a = n .before .before .before .before .args in (
+      in-room (a .settings) (a .room .now) (a .reading) (a .key .now)
+          (not-early (a .settings) (a .room .now) (a .reading) (a .key .now) (n .judge .result) (n .judge .ensures) (m .if1 .left)) (y .first-look .result)
+          (y .first-look .ensures ∙ ap₂ (λ (look : ℕ) (slot : Slot). firstLook look (a .reading) slot) (d .look-ticks .ensures)
+          (slot-found (a .settings) (a .room .now) (a .reading) (a .key .now) (n .judge .result) (n .judge .ensures) (m .if1 .left))),
+      proper-found (a .settings) (a .room .now) (a .reading) (a .key .now) (n .judge .result) (n .judge .ensures) (m .if1 .left) .cache-high,
     )
+
+join-ticks-requires : tie.Need-join-ticks-requires
+join-ticks-requires c κs =
+    let y = c .before .before .before .before .before .before .before .before .before .before in
+    let d = y .before in
+    let a = d .before .before .before .before .args in
+    proper-found (a .settings) (a .room .now) (a .reading) (a .key .now) (d .judge .result) (d .judge .ensures) (y .if1 .left) .bucket-high
+
+factor-change-requires : tie.Need-factor-change-requires
+factor-change-requires c κs = search needs
+
+apply-requires : tie.Need-apply-requires
+apply-requires c κs =
+    let y = c .before in
+    let d = y .before .before in
+    let m = d .before .before in
+    let n = m .before in
+    let o = n .before .before in
+    let p = o .before .before in
+    let q = p .before in
+    let r = q .before in
+    let u = r .before in
+    let a = u .before .before .before .before .args in
+    subst (λ (ticks : ℕ). Applies (a .room .now) (o .place .result) ticks (a .reading) (c .factor-change .result)) (sym (y .join-ticks .ensures))
+    (factor-applies (a .settings) (a .room .now) (a .reading) (a .key .now)
+    (not-early (a .settings) (a .room .now) (a .reading) (a .key .now) (u .judge .result) (u .judge .ensures) (r .if1 .left)) (p .first-look .result)
+    (p .first-look .ensures ∙ ap₂ (λ (look : ℕ) (slot : Slot). firstLook look (a .reading) slot) (q .look-ticks .ensures)
+    (slot-found (a .settings) (a .room .now) (a .reading) (a .key .now) (u .judge .result) (u .judge .ensures) (r .if1 .left)))
+    (o .place .result) (o .place .ensures) (n .lacks-slot .result) (n .lacks-slot .ensures)
+    (m .if2 .left) (d .ask .result .caching) (c .factor-change .result) (c .factor-change .ensures))
 
 same-length-3 : tie.Need-same-length-3
 same-length-3 c = search needs
 
 returns-3 : tie.Need-returns-3
-returns-3 c = c .before .before .factor-by2 .ensures
+returns-3 c =
+    let y = c .before .before in
+    let d = y .before in
+    let m = d .before in
+    let n = m .before .before in
+    let o = n .before .before in
+    let p = o .before in
+    let q = p .before .before in
+    let r = q .before .before in
+    let u = r .before in
+    let v = u .before in
+    let g = v .before in
+    let a = g .before .before .before .before .args in
+    factor-done (a .settings) (a .room .now) (a .reading) (a .key .now)
+    (not-early (a .settings) (a .room .now) (a .reading) (a .key .now) (g .judge .result) (g .judge .ensures) (v .if1 .left)) (r .first-look .result)
+    (r .first-look .ensures ∙ ap₂ (λ (look : ℕ) (slot : Slot). firstLook look (a .reading) slot) (u .look-ticks .ensures)
+    (slot-found (a .settings) (a .room .now) (a .reading) (a .key .now) (g .judge .result) (g .judge .ensures) (v .if1 .left)))
+    (q .place .result) (q .place .ensures) (p .lacks-slot .result) (p .lacks-slot .ensures)
+    (o .if2 .left) (n .ask .result) (n .ask .ensures) (d .factor-change .result) (y .apply .last .0) (d .factor-change .ensures)
+    (y .apply .ensures ∙
+    ap (λ (ticks : ℕ). applied (a .room .now) (q .place .result) (a .key .now) ticks (a .reading) (d .factor-change .result)) (m .join-ticks .ensures))
 
 pub get-suppression-factor-spec : {M : Type 1} → statement M
 get-suppression-factor-spec =
@@ -83,11 +140,14 @@ get-suppression-factor-spec =
     same-length
     returns
     look-ticks-requires
-    leaves-expired-requires
-    all-stay-requires
-    factor-by-requires
+    first-look-requires
+    place-requires
+    lacks-slot-requires
     same-length-2
     returns-2
-    factor-by-requires-2
+    ask-requires
+    join-ticks-requires
+    factor-change-requires
+    apply-requires
     same-length-3
     returns-3)
