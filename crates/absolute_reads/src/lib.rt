@@ -16,7 +16,14 @@ use settings::Settings;
 pub fn get(settings: Settings, room: &mut [u64], reading: u64, key: &[u8]) -> TotalAnswer
     ensures { λ r. ⌜ Told (Calls.get settings (now (room .entry)) reading (now (key .entry))) r (now (room .exit)) ⌝ }
 {
-    let j = judge::judge(RoomKind::Absolute, settings, room, reading, key);
+    let j = judge::judge(
+        RoomKind::Absolute,
+        settings,
+        room,
+        reading,
+        key,
+        judge::NO_LOOK,
+    );
     let code = j.code;
     if code != 0 {
         return TotalAnswer::Refused(code);
@@ -37,17 +44,23 @@ pub fn is_allowed(
 ) -> RateLimitDecision
     ensures { λ r. ⌜ Told (Calls.isAllowed settings (now (room .entry)) reading (now (key .entry))) r (now (room .exit)) ⌝ }
 {
-    let j = judge::judge(RoomKind::Absolute, settings, room, reading, key);
+    let j = judge::judge(
+        RoomKind::Absolute,
+        settings,
+        room,
+        reading,
+        key,
+        judge::FIRST_LOOK,
+    );
     let code = j.code;
     if code != 0 {
         return RateLimitDecision::Refused(code);
     }
     let x = j.slot;
     let limit = common::cut_limit(x.limit);
-    let looked = opened::first_look(settings.look_ticks(), reading, x);
-    let answer = decided(settings, reading, allows(limit, looked), looked);
+    let answer = decided(settings, reading, allows(limit, x), x);
     let again = evicts(limit, x);
     let join = settings.join_ticks();
-    change::apply(room, x.at, key, join, reading, ask_change(again, looked));
+    change::apply(room, x.at, key, join, reading, ask_change(again, x));
     answer
 }

@@ -4,6 +4,7 @@ ghost use Prim.Native.Nat.{_≤_};
 ghost use Rattle.settings.specs.Settings.{windowIn};
 ghost use Rattle.settings.specs.Clock.{ticksIn};
 ghost use Rattle.rules.specs.Absolute.{below};
+ghost use Rattle.opened.specs.Slot.{firstLook};
 ghost use Rattle.absolute_test.specs.Test.{goneIf, totalIf, evicts, allowedAt, rejectedAt, decidedAt};
 use answers::RateLimitDecision;
 use opened::Slot;
@@ -52,6 +53,16 @@ pub fn allows(limit: u64, x: Slot) -> bool
         return true;
     }
     is_below(limit, total_if(evicts(limit, x), x))
+}
+
+// Whether the slot is allowed as a first look leaves it; no look is taken where the stored total is below the limit.
+pub fn allows_first(limit: u64, look: u64, reading: u64, x: Slot) -> bool
+    ensures { λ r. ⌜ r ≡ allowedAt limit (firstLook look reading x) ⌝ }
+{
+    if is_below(limit, x.total) {
+        return true;
+    }
+    allows(limit, opened::first_look(look, reading, x))
 }
 
 // A rejection, with the wait for the oldest bucket that is left and its count; the wait is in milliseconds.

@@ -39,7 +39,7 @@ use Rattle.absolute_test.specs.Test.{goneIf, totalIf, allowedAt}
 
 -- ---- an increment fits where it meets neither 10 nor 12
 
-pub fits-after : (r b t c k : ℕ) (x : Slot) (xs : List Bucket) → x .pass .buckets ≡ length xs → x .pass .newest ≡ newest xs →
+pub fits-after : (r b t c k : ℕ) (x : Slot) (xs : List Bucket) → x .pass .buckets ≡ length xs → x .pass .«newest_time» ≡ newest xs .time →
     passes c (counts (drop k xs)) ≡ false → fullAfter r b t k x ≡ false → Fits r b t c 0 (drop k xs)
 unfolding passes ringFull
 fits-after r b t c k x xs n e o f =

@@ -29,6 +29,8 @@ use Rattle.rules.specs.Both.{limitIn, overdueIn, lookedOf, passes, ringFull}
 use Rattle.rules.specs.Absolute.{below, testsAgain, tested, wholeLimit, allowed, pickDecision, rejection, decided, takesOut, outFor, foundFor, incTurns}
 use Rattle.room.specs.Room.{slotsOf, ringOf, useOf}
 use Rattle.change.specs.Words.{applied}
+use Rattle.sweep.specs.declared.tally.Mark.{Mark}
+use Rattle.sweep.specs.Sweep.{mark}
 use Rattle.opened.specs.declared.Slot.{Slot}
 use Rattle.judge.specs.Held.{heldIn, noneFree, held-here, held-none}
 use Rattle.judge.specs.Judge.{Passed, slotIn, lookedIn}
@@ -164,8 +166,10 @@ module _ (s : Settings) (w : List ℕ) (t : ℕ) (key : List ℕ) (p : Passed Ab
           (decision.Rejected (s .«window_size») 0 0)
 
       oldest : (ys : List Bucket) → getD ys 0 noBucket ≡ getD (heldIn w key .buckets) (gone (heldIn w key) + 0) noBucket →
-          lookedIn s w t key .pass .oldest ≡ getD ys 0 noBucket
-      oldest ys g = looks .oldest-is ∙ ap (λ (i : ℕ). getD (heldIn w key .buckets) i noBucket) (sym (add-zero (gone (heldIn w key)))) ∙ sym g
+          lookedIn s w t key .pass .oldest ≡ mark (getD ys 0 noBucket)
+      oldest ys g =
+          looks .oldest-is ∙ ap (λ (i : ℕ). mark (getD (heldIn w key .buckets) i noBucket)) (sym (add-zero (gone (heldIn w key)))) ∙
+          ap (λ (y : Bucket). mark y) (sym g)
 
       go : (ys : List Bucket) → length ys ≡ length (heldIn w key .buckets) - gone (heldIn w key) →
           getD ys 0 noBucket ≡ getD (heldIn w key .buckets) (gone (heldIn w key) + 0) noBucket →
@@ -173,7 +177,7 @@ module _ (s : Settings) (w : List ℕ) (t : ℕ) (key : List ℕ) (p : Passed Ab
       go [] l g = ap by (le-ltb (lookedIn s w t key .pass .expired) (lookedIn s w t key .pass .buckets) (omega (arith, looks .gone-is, looks .length-is, l)))
       go (z ∷ ys) l g =
           ap by (lt-ltb (lookedIn s w t key .pass .expired) (lookedIn s w t key .pass .buckets) (omega (arith, looks .gone-is, looks .length-is, l))) ∙
-          ap (λ (q : Bucket). decision.Rejected (s .«window_size») (windowInMilliseconds (windowIn s) - ageInMilliseconds (ticksIn s) t (q .time)) (q .count))
+          ap (λ (q : Mark). decision.Rejected (s .«window_size») (windowInMilliseconds (windowIn s) - ageInMilliseconds (ticksIn s) t (q .time)) (q .count))
           (oldest (z ∷ ys) g)
 
   pub decided-is : decidedIn s t (slotIn s w t key) ≡ decided s t (heldIn w key)

@@ -1,14 +1,14 @@
 -- That what the code gives is the call's verdict: j is what judging gave, u the change that was carried out, v the words after.
 -- Assumes nothing.
-use mathlib.Core.Path.{_≡_, refl, sym, ap, subst, _∙_}
-use mathlib.Core.Bool.{Bool}
+use mathlib.Core.Path.{_≡_, refl, sym, ap, ap₂, subst, _∙_}
+use mathlib.Core.Bool.{Bool, true, false, not}
 use mathlib.Core.List.{List, []}
 use Prim.Native.Nat.{ℕ, _≤_}
-use Rattle.common.specs.Limits.{absoluteWord}
+use Rattle.common.specs.Limits.{absoluteWord, cutWord}
 use Rattle.common.specs.Ranges.{mostWindow, mostBucket, rateOk}
 use Rattle.common.specs.Refusals.{first}
 use Rattle.settings.specs.Settings.{windowIn, bucketIn}
-use Rattle.settings.specs.Clock.{joinTicks}
+use Rattle.settings.specs.Clock.{ticksIn, lookTicks, joinTicks}
 use Rattle.settings.specs.declared.Settings.{Settings}
 use Rattle.answers.specs.declared.TotalAnswer.the-variants as total
 use Rattle.answers.specs.declared.RateLimitDecision.{RateLimitDecision}
@@ -17,37 +17,37 @@ use Rattle.common.specs.declared.units.RateLimit.{RateLimit}
 use Rattle.room.specs.Room.{Room, ringOf}
 use Rattle.change.specs.declared.Change.{Change}
 use Rattle.change.specs.Words.{Applies, applied}
+use Rattle.rules.specs.Absolute.{below}
 use Rattle.rules.specs.declared.RoomKind.the-variants.{Absolute}
 use Rattle.judge.specs.declared.Judged.{Judged}
 use Rattle.opened.specs.declared.Slot.{Slot}
-use Rattle.judge.specs.Judge.{early, judged, Passed, slotIn}
+use Rattle.opened.specs.Slot.{pickSlot}
+use Rattle.opened.specs.Look.{look-at, look-total, look-limit}
+use Rattle.judge.specs.Judge.{early, judged, judgedFirst, Passed, slotIn, lookedIn}
 use Rattle.judge.specs.Laws.{code-is, slot-is, passed}
 use Rattle.judge.specs.Verdict.{Told, told-as, verdict, call, call-early, call-own, call-done}
 use Rattle.plan.specs.Plan.{placeOf, lacksAt}
+use Rattle.absolute_test.specs.Test.{evicts, allowedAt, decidedAt}
 use Rattle.absolute_opened.specs.Opened.{getChange, askChange, incChange, incRefusals}
 use Rattle.absolute_verdicts.specs.Calls as Calls
 use Rattle.absolute_verdicts.specs.Opened.{lookIn, mayIn, againIn, decidedIn, outIn, incOwn, incMakes, get, isAllowed, inc}
 use Rattle.absolute_verdicts.specs.Seen.{get-opened, ask-opened, inc-opened}
 use Rattle.absolute_verdicts.specs.Laws.{get-applies, ask-applies, inc-applies, may-unknown}
 
--- judging did not refuse
+-- judging did not refuse; a first look is not yet taken
 pub record Goes (s : Settings) (w : List ℕ) (t : ℕ) (key : List ℕ) (j : Judged) : Type 0 where
   pub is : j ≡ judged Absolute s w t key
   pub none : j .code ≡ 0
 
 module _ (s : Settings) (w : List ℕ) (t : ℕ) (key : List ℕ) (j : Judged) where
   refuses : j ≡ judged Absolute s w t key → j .code ≡ early Absolute s w t key
-  refuses e = ap (λ (y : Judged). y .code) e ∙ code-is Absolute s w t key
+  refuses e = ap (λ (y : Judged). y .code) e ∙ code-is Absolute s w t key (slotIn s w t key)
 
   -- ---- refused by judging
 
   pub get-refused : j ≡ judged Absolute s w t key → (j .code ≡ 0 → ⊥) → Told (Calls.get s w t key) (total.Refused (j .code)) w
   unfolding Calls.get
   get-refused e z = call-early total.Refused Absolute s w t key [] _ (j .code) (refuses e) z
-
-  pub ask-refused : j ≡ judged Absolute s w t key → (j .code ≡ 0 → ⊥) → Told (Calls.isAllowed s w t key) (decision.Refused (j .code)) w
-  unfolding Calls.isAllowed
-  ask-refused e z = call-early decision.Refused Absolute s w t key [] _ (j .code) (refuses e) z
 
   -- ---- not refused by judging
 
@@ -97,21 +97,66 @@ module _ (s : Settings) (w : List ℕ) (t : ℕ) (key : List ℕ) (j : Judged) w
         told-as (get-opened s w t key)
         (goes-done total.Refused (λ (y : Slot). []) (λ (y : Slot). total.Total (y .pass .«live_total»)) (λ (y : Slot). y .at) getChange refl u e v f)
 
-    -- again says whether the test was made again, may whether it is allowed
-    pub ask-fits : (again : Bool) → again ≡ againIn (j .slot) → (u : Change) → u ≡ askChange again (lookIn s t (j .slot)) →
-        Applies w (j .slot .at) (joinTicks s) t u
-    ask-fits again g u e =
-        goes-applies (λ (y : Slot). y .at) (λ (y : Slot). askChange (againIn y) (lookIn s t y)) u (e ∙ ap (λ (z : Bool). askChange z (lookIn s t (j .slot))) g)
-        (ask-applies s w t key goes-passed (againIn (slotIn s w t key)))
+-- ---- judged as a first look leaves it; again says whether the test was made again
 
-    pub ask-done : (again : Bool) → again ≡ againIn (j .slot) → (u : Change) → u ≡ askChange again (lookIn s t (j .slot)) → (v : List ℕ) →
-        v ≡ applied w (j .slot .at) key (joinTicks s) t u →
-        (d : RateLimitDecision) → d ≡ decidedIn s t (j .slot) → Told (Calls.isAllowed s w t key) d v
+module _ (s : Settings) (w : List ℕ) (t : ℕ) (key : List ℕ) (j : Judged) (is : j ≡ judgedFirst Absolute s w t key) where
+  first-code : j .code ≡ early Absolute s w t key
+  first-code = ap (λ (y : Judged). y .code) is ∙ code-is Absolute s w t key (lookedIn s w t key)
+
+  pub ask-refused : (j .code ≡ 0 → ⊥) → Told (Calls.isAllowed s w t key) (decision.Refused (j .code)) w
+  unfolding Calls.isAllowed
+  ask-refused z = call-early decision.Refused Absolute s w t key [] _ (j .code) first-code z
+
+  module _ (none : j .code ≡ 0) where
+    first-early : early Absolute s w t key ≡ 0
+    first-early = sym first-code ∙ none
+
+    first-passed : Passed Absolute s w t key
+    first-passed = passed Absolute s w t key first-early
+
+    first-slot : j .slot ≡ lookedIn s w t key
+    first-slot = ap (λ (y : Judged). y .slot) is ∙ slot-is Absolute s w t key first-early
+
+    pub ask-window : windowIn s ≤ mostWindow
+    ask-window = first-passed .settings .window-high
+
+    pub ask-bucket : bucketIn s ≤ mostBucket
+    ask-bucket = first-passed .settings .bucket-high
+
+    -- it stands where the key's slot does, and its words are the same
+    first-at : j .slot .at ≡ slotIn s w t key .at
+    first-at = ap (λ (y : Slot). y .at) first-slot ∙ look-at (lookTicks s) t (slotIn s w t key)
+
+    first-again : againIn (j .slot) ≡ againIn (slotIn s w t key)
+    unfolding evicts
+    first-again =
+        ap againIn first-slot ∙
+        ap₂ (λ (limit n : ℕ). not (below (cutWord limit) n)) (look-limit (lookTicks s) t (slotIn s w t key)) (look-total (lookTicks s) t (slotIn s w t key))
+
+    first-decided : decidedAt (ticksIn s) (s .«window_size») t (allowedAt (cutWord (j .slot .limit)) (j .slot)) (j .slot) ≡ decidedIn s t (slotIn s w t key)
+    first-decided =
+        ap (λ (y : Slot). decidedAt (ticksIn s) (s .«window_size») t (allowedAt (cutWord (y .limit)) y) y) first-slot ∙
+        ap (λ (limit : ℕ). decidedAt (ticksIn s) (s .«window_size») t (allowedAt (cutWord limit) (lookedIn s w t key)) (lookedIn s w t key))
+        (look-limit (lookTicks s) t (slotIn s w t key))
+
+    pub ask-fits : (again : Bool) (u : Change) → u ≡ askChange again (j .slot) → Applies w (j .slot .at) (joinTicks s) t u
+    ask-fits again u e =
+        subst (λ (n : ℕ). Applies w n (joinTicks s) t u) (sym first-at)
+        (subst (Applies w (slotIn s w t key .at) (joinTicks s) t) (sym (e ∙ ap (askChange again) first-slot)) (ask-applies s w t key first-passed again))
+
+    pub ask-done : (again : Bool) → again ≡ againIn (j .slot) → (u : Change) → u ≡ askChange again (j .slot) → (v : List ℕ) →
+        v ≡ applied w (j .slot .at) key (joinTicks s) t u → (d : RateLimitDecision) →
+        d ≡ decidedAt (ticksIn s) (s .«window_size») t (allowedAt (cutWord (j .slot .limit)) (j .slot)) (j .slot) → Told (Calls.isAllowed s w t key) d v
     unfolding isAllowed first
     ask-done again g u e v f d q =
         told-as (ask-opened s w t key)
-        (rw q (goes-done decision.Refused (λ (y : Slot). []) (decidedIn s t) (λ (y : Slot). y .at) (λ (y : Slot). askChange (againIn y) (lookIn s t y)) refl u
-        (e ∙ ap (λ (z : Bool). askChange z (lookIn s t (j .slot))) g) v f))
+        (call-done decision.Refused Absolute s w t key [] _ d v first-early refl
+        (record {
+          answer = q ∙ first-decided;
+          words =
+              f ∙ ap (λ (n : ℕ). applied w n key (joinTicks s) t u) first-at ∙
+              ap (applied w (slotIn s w t key .at) key (joinTicks s) t) (e ∙ ap₂ askChange (g ∙ first-again) first-slot);
+        }))
 
 -- ---- an increment: at is its place, may whether it is allowed, out whether the expired buckets are taken out
 
@@ -147,12 +192,28 @@ module _ (s : Settings) (w : List ℕ) (t : ℕ) (key : List ℕ) (rate : RateLi
         told-as (inc-opened s w t key rate c)
         (call-own decision.Refused Absolute s w t key (incOwn s w t rate c (slotIn s w t key)) _ n (goes-early s w t key j (f .goes)) own-slot z)
 
+    -- the slot as a first look leaves it, which only a rejection asks for
+    abbrev looked : Slot
+    looked = pickSlot may (j .slot) (lookIn s t (j .slot))
+
     abbrev Made : Change → Type 0
-    Made u = u ≡ incChange (absoluteWord (rate .0) (windowIn s)) c may out (j .slot) (lookIn s t (j .slot))
+    Made u = u ≡ incChange (absoluteWord (rate .0) (windowIn s)) c may out (j .slot) looked
+
+    unless-made : (z : Bool) → incChange (absoluteWord (rate .0) (windowIn s)) c z out (j .slot) (pickSlot z (j .slot) (lookIn s t (j .slot))) ≡
+        incChange (absoluteWord (rate .0) (windowIn s)) c z out (j .slot) (lookIn s t (j .slot))
+    unfolding incChange
+    unless-made true = refl
+    unless-made false = refl
+
+    unless-decided : (z : Bool) → decidedAt (ticksIn s) (s .«window_size») t z (pickSlot z (j .slot) (lookIn s t (j .slot))) ≡
+        decidedAt (ticksIn s) (s .«window_size») t z (lookIn s t (j .slot))
+    unfolding decidedAt
+    unless-decided true = refl
+    unless-decided false = refl
 
     makes-is : (u : Change) → Made u → u ≡ incMakes s w t rate c (j .slot)
     makes-is u e =
-        e ∙ ap (λ (y : Bool). incChange (absoluteWord (rate .0) (windowIn s)) c y out (j .slot) (lookIn s t (j .slot))) (f .may-is) ∙
+        e ∙ unless-made may ∙ ap (λ (y : Bool). incChange (absoluteWord (rate .0) (windowIn s)) c y out (j .slot) (lookIn s t (j .slot))) (f .may-is) ∙
         ap (λ (y : Bool). incChange (absoluteWord (rate .0) (windowIn s)) c (mayIn s t (j .slot)) y (j .slot) (lookIn s t (j .slot))) (f .out-is)
 
     pub inc-fits : n ≡ 0 → (u : Change) → Made u → Applies w at (joinTicks s) t u
@@ -165,10 +226,11 @@ module _ (s : Settings) (w : List ℕ) (t : ℕ) (key : List ℕ) (rate : RateLi
         (sym own-slot ∙ z)))
 
     pub inc-done : n ≡ 0 → (u : Change) → Made u → (v : List ℕ) → v ≡ applied w at key (joinTicks s) t u →
-        (d : RateLimitDecision) → d ≡ decidedIn s t (j .slot) → Told (Calls.inc s w t key rate c) d v
+        (d : RateLimitDecision) → d ≡ decidedAt (ticksIn s) (s .«window_size») t may looked → Told (Calls.inc s w t key rate c) d v
     unfolding inc
     inc-done z u e v i d q =
         told-as (inc-opened s w t key rate c)
-        (rw q (goes-done s w t key j (f .goes) decision.Refused (incOwn s w t rate c) (decidedIn s t) (placeOf w) (incMakes s w t rate c) (sym own-is ∙ z) u
+        (rw (q ∙ unless-decided may ∙ ap (λ (y : Bool). decidedAt (ticksIn s) (s .«window_size») t y (lookIn s t (j .slot))) (f .may-is))
+        (goes-done s w t key j (f .goes) decision.Refused (incOwn s w t rate c) (decidedIn s t) (placeOf w) (incMakes s w t rate c) (sym own-is ∙ z) u
         (makes-is u e) v
         (i ∙ ap (λ (y : ℕ). applied w y key (joinTicks s) t u) (f .place-is))))

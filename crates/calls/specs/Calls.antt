@@ -29,7 +29,7 @@ calls turned kind s w t key own does = call turned kind s w t key (own (slotIn s
 
 module _ (kind : RoomKind) (s : Settings) (w : List ℕ) (t : ℕ) (key : List ℕ) (j : Judged) (e : j ≡ judged kind s w t key) where
   judged-code : j .code ≡ early kind s w t key
-  judged-code = ap (λ (y : Judged). y .code) e ∙ code-is kind s w t key
+  judged-code = ap (λ (y : Judged). y .code) e ∙ code-is kind s w t key (slotIn s w t key)
 
   -- where it is not refused early
   pub judged-passed : j .code ≡ 0 → Passed kind s w t key

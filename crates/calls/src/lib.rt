@@ -32,7 +32,7 @@ pub fn delete(
 ) -> DeleteAnswer
     ensures { λ r. ⌜ Told (delete kind settings (now (room .entry)) reading (now (key .entry))) r (now (room .exit)) ⌝ }
 {
-    let j = judge::judge(kind, settings, room, reading, key);
+    let j = judge::judge(kind, settings, room, reading, key, judge::NO_LOOK);
     let code = j.code;
     if code != 0 {
         return DeleteAnswer::Refused(code);
@@ -53,7 +53,7 @@ pub fn set_rate_limit(
 ) -> OldRateAnswer
     ensures { λ r. ⌜ Told (setRateLimit kind settings (now (room .entry)) reading (now (key .entry)) rate) r (now (room .exit)) ⌝ }
 {
-    let j = judge::judge(kind, settings, room, reading, key);
+    let j = judge::judge(kind, settings, room, reading, key, judge::NO_LOOK);
     let code = j.code;
     if code != 0 {
         return OldRateAnswer::Refused(code);
@@ -81,7 +81,7 @@ pub fn set(
 ) -> SetAnswer
     ensures { λ r. ⌜ Told (set kind settings (now (room .entry)) reading (now (key .entry)) rate comparator count mode) r (now (room .exit)) ⌝ }
 {
-    let j = judge::judge(kind, settings, room, reading, key);
+    let j = judge::judge(kind, settings, room, reading, key, judge::NO_LOOK);
     let code = j.code;
     if code != 0 {
         return SetAnswer::Refused(code);

@@ -22,7 +22,8 @@ fn slot_passes(kind: RoomKind, settings: Settings, w: &[u64], i: usize, reading:
     if !room::key_fits(w, i) {
         return false;
     }
-    let x = opened::open_at(w, i, reading, settings.window_ticks());
+    let window = settings.window_ticks();
+    let x = opened::open_at(w, i, reading, window, window);
     opened::slot_right(kind, settings, w[layout::LAST], u, x)
 }
 

@@ -20,10 +20,10 @@ use Rattle.rules.specs.declared.RoomKind.{RoomKind}
 use Rattle.judge.specs.declared.Judged.{Judged}
 use Rattle.opened.specs.Sound.{hasSeries, rightUse, soundSeries, soundSlot, addressed, soundAt}
 use Rattle.opened.specs.Slot.{opened, slotOf}
-use Rattle.judge.specs.Judge.{misfits, early, judged, Passed}
+use Rattle.judge.specs.Judge.{misfits, early, judgedWith, judged, Passed}
 use Rattle.judge.specs.Laws.{passed}
 use Rattle.judge.specs.Held.{heldIn}
-use Rattle.opened.specs.Right.{addressed-at}
+use Rattle.opened.specs.Right.{slot-addressed}
 use Rattle.ring.specs.declared.Bucket.{Bucket}
 use Rattle.ring.specs.Ring.{noBucket, buckets}
 use Rattle.ring.specs.Order.{Fine}
@@ -70,7 +70,7 @@ module _ (kind : RoomKind) (s : Settings) (w key : List ℕ) where
         and-true (soundBuckets (ringOf w) (bodyOf w at) (lastOf w)) _ f .0
 
     slot-at : slotOf (windowTicks s) w (lastOf w) (addressed w key) .at ≡ addressed w key
-    slot-at = addressed-at w key s _ (record { room = p .room; reading = lastOf w; is = refl })
+    slot-at = slot-addressed (windowTicks s) (lastOf w) w key
 
     slot-count : (x y : Bool) → ltb (addressed w key) (slotsOf w) ≡ x → hasSeries (useOf w (addressed w key)) ≡ y →
         slotOf (windowTicks s) w (lastOf w) (addressed w key) .pass .buckets ≡ length (bucketsOf w key)
@@ -82,18 +82,18 @@ module _ (kind : RoomKind) (s : Settings) (w key : List ℕ) where
   -- ---- what is found
 
   judged-at : (b : Bool) → eqb (refusal kind s w key) 0 ≡ b → judged kind s w (lastOf w) key .slot .at ≡ cond b (addressed w key) 0
-  unfolding judged
+  unfolding judgedWith
   judged-at true e = rw (number, e) (slot-at (passed kind s w (lastOf w) key (number ∙ eqb-true _ _ e)))
   judged-at false e = rw (number, e)
 
   judged-count : (b : Bool) → eqb (refusal kind s w key) 0 ≡ b → judged kind s w (lastOf w) key .slot .pass .buckets ≡ length (cond b (bucketsOf w key) [])
-  unfolding judged
+  unfolding judgedWith
   judged-count true e = rw (number, e) (slot-count (passed kind s w (lastOf w) key (number ∙ eqb-true _ _ e)) _ _ refl refl)
   judged-count false e = rw (number, e)
 
   pub found-is : (t : ℕ) → t ≡ lastOf w → (j : Judged) → j ≡ judged kind s w t key →
       record { code = j .code; slot = j .slot .at; count = j .slot .pass .buckets } ≡ found kind s w key
-  unfolding judged found shown
+  unfolding judgedWith found shown
   found-is t q j e =
       let f : j ≡ judged kind s w (lastOf w) key = e ∙ ap (λ (n : ℕ). judged kind s w n key) q in
       found-path

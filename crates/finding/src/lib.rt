@@ -29,7 +29,14 @@ fn last_reading(room: &[u64]) -> u64
 pub fn find_series(kind: RoomKind, settings: Settings, room: &[u64], key: &[u8]) -> Found
     ensures { λ x. ⌜ x ≡ found kind settings (now (room .entry)) (now (key .entry)) ⌝ }
 {
-    let judged = judge::judge(kind, settings, room, last_reading(room), key);
+    let judged = judge::judge(
+        kind,
+        settings,
+        room,
+        last_reading(room),
+        key,
+        judge::NO_LOOK,
+    );
     let slot = judged.slot;
     let pass = slot.pass;
     Found {

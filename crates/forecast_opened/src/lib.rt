@@ -73,6 +73,14 @@ fn draw_by(a: Asked, count: u64, draw: u64) -> Outcome
     }
 }
 
+// The settings, built anew of their parts: they are copied only where a factor is asked for, as the slot is.
+fn again(settings: Settings) -> Settings
+    ensures { λ r. ⌜ r ≡ settings ⌝ }
+{
+    let clock = settings.clock_mode;
+    settings.clock_mode(clock)
+}
+
 // The decision of a count whose forecast and limit are given, on a slot of the room `w`.
 pub fn decide(
     settings: Settings,
@@ -109,7 +117,7 @@ pub fn decide(
             caching: full_at(reading),
         },
         Reach::Between => draw_by(
-            ask_by(settings, w, opened::rebuilt(x), soft, hard, reading),
+            ask_by(again(settings), w, opened::rebuilt(x), soft, hard, reading),
             count,
             draw,
         ),

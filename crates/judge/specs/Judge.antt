@@ -1,7 +1,7 @@
 -- Refusals 1 to 7, which every call with a key has, in document 01's order; and what a call that passes them knows.
 -- Assumes nothing.
 use mathlib.Core.Path.{_≡_}
-use mathlib.Core.Bool.{Bool, true, not, _&&_, cond}
+use mathlib.Core.Bool.{Bool, true, false, not, _&&_, cond}
 use mathlib.Core.List.{List, [], _∷_, _++_}
 use Prim.Native.Nat.{ℕ, _≤_}
 use lib.ListN.{length}
@@ -44,12 +44,29 @@ slotIn s w t key = slotOf (windowTicks s) w t (addressed w key)
 abbrev pub lookedIn : Settings → List ℕ → ℕ → List ℕ → Slot
 lookedIn s w t key = firstLook (lookTicks s) t (slotIn s w t key)
 
--- the first of 1 to 7, and where there is none the slot
-unfoldable pub judged : RoomKind → Settings → List ℕ → ℕ → List ℕ → Judged
-judged kind s w t key = record {
-  code = early kind s w t key;
-  slot = pickSlot (eqb (early kind s w t key) 0) (slotIn s w t key) (noSlot 0);
-}
+-- how old the oldest bucket may be that stays, with what is expired
+abbrev pub lookBy : Bool → Settings → ℕ
+lookBy true s = lookTicks s
+lookBy false s = windowTicks s
+
+-- by whether a first look is taken
+abbrev pub slotBy : Bool → Settings → List ℕ → ℕ → List ℕ → Slot
+slotBy true s w t key = lookedIn s w t key
+slotBy false s w t key = slotIn s w t key
+
+-- the first of 1 to 7, and where there is none a slot
+unfoldable pub judgedWith : RoomKind → Settings → List ℕ → ℕ → List ℕ → Slot → Judged
+judgedWith kind s w t key x = record { code = early kind s w t key; slot = pickSlot (eqb (early kind s w t key) 0) x (noSlot 0) }
+
+-- the key's own, by whether a first look is taken
+abbrev pub judgedBy : Bool → RoomKind → Settings → List ℕ → ℕ → List ℕ → Judged
+judgedBy first kind s w t key = judgedWith kind s w t key (slotBy first s w t key)
+
+abbrev pub judged : RoomKind → Settings → List ℕ → ℕ → List ℕ → Judged
+judged = judgedBy false
+
+abbrev pub judgedFirst : RoomKind → Settings → List ℕ → ℕ → List ℕ → Judged
+judgedFirst = judgedBy true
 
 -- what holds of a call that passes
 pub record Passed (kind : RoomKind) (s : Settings) (w : List ℕ) (t : ℕ) (key : List ℕ) : Type 0 where

@@ -1,6 +1,6 @@
 -- What the code has tested, turned into what `judged` says; and what callers know of a call that passes, or does not.
 -- Assumes nothing.
-use mathlib.Core.Path.{_≡_, refl, sym, ap, _∙_}
+use mathlib.Core.Path.{_≡_, refl, sym, ap, ap₂, _∙_}
 use mathlib.Core.Bool.{Bool, true, false}
 use mathlib.Core.List.{List, [], _∷_, _++_, append-assoc}
 use Prim.Native.Nat.{ℕ, _≤_, _<_}
@@ -11,15 +11,16 @@ use borrow.Author.Tests.{eq-eqb, ne-eqb, eqb-true, eqb-false, lt-ltb, le-ltb, lt
 use Rattle.base.specs.Decides.{and-true}
 use Rattle.common.specs.Refusals.{first, Positive, first-found, first-none, all-false}
 use Rattle.settings.specs.Settings.{faults, Proper, proper, unrefused}
-use Rattle.settings.specs.Clock.{windowTicks}
+use Rattle.settings.specs.Clock.{windowTicks, lookTicks}
 use Rattle.settings.specs.declared.Settings.{Settings}
 use Rattle.room.specs.Room.{Room, sized, lastOf}
 use Rattle.room.specs.Laws.{room-sized, sized-room}
 use Rattle.rules.specs.declared.RoomKind.{RoomKind}
 use Rattle.opened.specs.declared.Slot.{Slot}
 use Rattle.opened.specs.Sound.{addressed, soundAt}
-use Rattle.opened.specs.Slot.{noSlot, slotOf}
-use Rattle.judge.specs.Judge.{misfits, refusals, early, faultOf, judged, Passed}
+use Rattle.opened.specs.Slot.{noSlot, slotOf, firstLook}
+use Rattle.opened.specs.Look.{plain-slot}
+use Rattle.judge.specs.Judge.{misfits, refusals, early, faultOf, judgedWith, lookBy, slotIn, lookedIn, slotBy, Passed}
 
 pub faults-positive : (s : Settings) → Positive (faults s)
 unfolding faults
@@ -39,22 +40,38 @@ five-none n p q = omega (arith, p, q)
 
 module _ (kind : RoomKind) (s : Settings) (w : List ℕ) (t : ℕ) (key : List ℕ) where
   -- ---- the answer
-  pub refused-is : (n : ℕ) → early kind s w t key ≡ n → (n ≡ 0 → ⊥) → record { code = n; slot = noSlot 0 } ≡ judged kind s w t key
-  unfolding judged
-  refused-is n e z = sym (rw (e, ne-eqb n 0 z))
+  pub refused-is : (x : Slot) (n : ℕ) → early kind s w t key ≡ n → (n ≡ 0 → ⊥) → record { code = n; slot = noSlot 0 } ≡ judgedWith kind s w t key x
+  unfolding judgedWith
+  refused-is x n e z = sym (rw (e, ne-eqb n 0 z))
 
-  pub passed-is : (x : Slot) → early kind s w t key ≡ 0 → x ≡ slotOf (windowTicks s) w t (addressed w key) →
-      record { code = 0; slot = x } ≡ judged kind s w t key
-  unfolding judged
-  passed-is x e p = sym (rw (e, ← p))
+  pub passed-is : {x : Slot} (y : Slot) → early kind s w t key ≡ 0 → y ≡ x → record { code = 0; slot = y } ≡ judgedWith kind s w t key x
+  unfolding judgedWith
+  passed-is y e p = sym (rw (e, ← p))
 
-  pub code-is : judged kind s w t key .code ≡ early kind s w t key
-  unfolding judged
-  code-is = refl
+  pub code-is : (x : Slot) → judgedWith kind s w t key x .code ≡ early kind s w t key
+  unfolding judgedWith
+  code-is x = refl
 
-  pub slot-is : early kind s w t key ≡ 0 → judged kind s w t key .slot ≡ slotOf (windowTicks s) w t (addressed w key)
-  unfolding judged
+  pub slot-is : {x : Slot} → early kind s w t key ≡ 0 → judgedWith kind s w t key x .slot ≡ x
+  unfolding judgedWith
   slot-is e = rw (eq-eqb _ 0 e)
+
+  -- ---- the slot, opened with a look
+  pub opened-is : (look W at : ℕ) (x : Slot) → x ≡ firstLook look t (slotOf W w t at) → W ≡ windowTicks s → at ≡ addressed w key →
+      x ≡ firstLook look t (slotIn s w t key)
+  opened-is look W at x e p q = e ∙ ap₂ (λ (W at : ℕ). firstLook look t (slotOf W w t at)) p q
+
+  pub looked-is : (look W at : ℕ) (x : Slot) → x ≡ firstLook look t (slotOf W w t at) → look ≡ lookTicks s → W ≡ windowTicks s → at ≡ addressed w key →
+      x ≡ lookedIn s w t key
+  looked-is look W at x e l p q = opened-is look W at x e p q ∙ ap (λ (look : ℕ). firstLook look t (slotIn s w t key)) l
+
+  pub plain-is : (W at : ℕ) (x : Slot) → x ≡ firstLook W t (slotOf W w t at) → W ≡ windowTicks s → at ≡ addressed w key → x ≡ slotIn s w t key
+  plain-is W at x e p q = e ∙ plain-slot W w t at ∙ ap₂ (λ (W at : ℕ). slotOf W w t at) p q
+
+  -- by whether a first look is taken
+  pub slot-by : (first : Bool) → firstLook (lookBy first s) t (slotIn s w t key) ≡ slotBy first s w t key
+  slot-by true = refl
+  slot-by false = plain-slot (windowTicks s) w t (addressed w key)
 
   -- ---- its number
   pub early-fault : (n : ℕ) → n ≡ first (faults s) → (n ≡ 0 → ⊥) → early kind s w t key ≡ n

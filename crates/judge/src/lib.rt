@@ -1,17 +1,22 @@
 // What every call with a key judges before it does anything: refusals 1 to 7, and the key's slot opened into a value.
 ghost use mathlib.Core.Path.{_≡_};
-ghost use Prim.Native.Nat.{_<_};
-ghost use Rattle.settings.specs.Settings.{Proper};
+ghost use Prim.Native.Nat.{_<_, _≤_};
+ghost use Rattle.settings.specs.Settings.{Proper, windowIn};
 ghost use Rattle.room.specs.Room.{Room};
 ghost use Rattle.opened.specs.Sound.{addressed, soundAt};
 ghost use Rattle.opened.specs.Slot.{noSlot, opened};
 ghost use Rattle.opened.specs.Right.{Addresses};
-ghost use Rattle.judge.specs.Judge.{faultOf, early, slotIn, judged};
+ghost use Rattle.judge.specs.Judge.{faultOf, early, lookBy, judgedBy};
 use opened::Slot;
 use rules::RoomKind;
 use settings::Settings;
 
 const LONGEST_KEY: usize = layout::LONGEST_KEY as usize;
+
+// Whether a call takes a first look, before it asks what is expired.
+pub const FIRST_LOOK: bool = true;
+
+pub const NO_LOOK: bool = false;
 
 // The first of refusals 1 to 7, or 0 with the slot.
 pub struct Judged {
@@ -75,7 +80,7 @@ pub fn misfit(
     key: &[u8],
     x: Slot,
 ) -> u64
-    requires { ⌜ Room (now w) × Proper settings × (x ≡ slotIn settings (now w) reading (now key)) ⌝ }
+    requires { ⌜ Addresses (now w) (now key) settings x × Proper settings ⌝ }
     ensures { λ n. ⌜ n ≡ early kind settings (now (w .entry)) reading (now (key .entry)) ⌝ }
 {
     if !sound_at(kind, settings, w, key, x) {
@@ -90,16 +95,34 @@ pub fn misfit(
     0
 }
 
-// All at once. An increment takes these steps itself, so that its slot is not copied.
-pub fn judge(kind: RoomKind, settings: Settings, w: &[u64], reading: u64, key: &[u8]) -> Judged
-    ensures { λ x. ⌜ x ≡ judged kind settings (now (w .entry)) reading (now (key .entry)) ⌝ }
+fn look_of(settings: Settings, first: bool) -> u64
+    requires { ⌜ windowIn settings ≤ 33554432 ⌝ }
+    ensures { λ n. ⌜ n ≡ lookBy first settings ⌝ }
+{
+    if first {
+        return settings.look_ticks();
+    }
+    settings.window_ticks()
+}
+
+// All at once: the key's slot, as a first look leaves it or not. An increment takes these steps itself, so that its slot is not copied.
+pub fn judge(
+    kind: RoomKind,
+    settings: Settings,
+    w: &[u64],
+    reading: u64,
+    key: &[u8],
+    first: bool,
+) -> Judged
+    ensures { λ x. ⌜ x ≡ judgedBy first kind settings (now (w .entry)) reading (now (key .entry)) ⌝ }
 {
     let n = fault(settings, w);
     if n != 0 {
         return refused(n);
     }
     let window = settings.window_ticks();
-    let x = opened::open_at(w, address(w, key), reading, window);
+    let look = look_of(settings, first);
+    let x = opened::open_at(w, address(w, key), reading, window, look);
     let m = misfit(kind, settings, w, reading, key, x);
     if m != 0 {
         return refused(m);

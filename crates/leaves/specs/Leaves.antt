@@ -32,7 +32,7 @@ use Rattle.opened.specs.declared.Slot.{Slot}
 use Rattle.judge.specs.Judge.{early, Passed, slotIn, lookedIn}
 use Rattle.opened.specs.Slot.{hasSlot}
 use Rattle.judge.specs.Laws.{passed}
-use Rattle.opened.specs.Right.{addressed-at}
+use Rattle.opened.specs.Right.{slot-addressed}
 use Rattle.opened.specs.Sound.{addressed}
 use Rattle.change.specs.declared.Change.the-variants.{Keep, Update, Take}
 use Rattle.edit.specs.declared.Edit.{Edit}
@@ -121,7 +121,7 @@ module _ (s : Settings) (w : List ℕ) (t : ℕ) (key : List ℕ) (q : Passed ki
   -- its slot has the key
   key-has : hasSlot x ≡ true → keyAt w (x .at) ≡ keyOf key
   key-has h =
-      let a : x .at ≡ addressed w key = u .at-is ∙ addressed-at w key s (slotIn s w t key) (record { room = q .room; reading = t; is = refl }) in
+      let a : x .at ≡ addressed w key = u .at-is ∙ slot-addressed (windowTicks s) t w key in
       ap (keyAt w) a ∙ addressed-has w key (omega (arith, u .stood .used-in h))
 
   pub stays-lone : x .series ≡ false → staysAt x ≡ x .cached

@@ -24,7 +24,8 @@ use Rattle.rules.specs.declared.RoomKind.{RoomKind}
 use Rattle.opened.specs.declared.Slot.{Slot}
 use Rattle.opened.specs.Sound.{limitOf, hasSeries, hasCached, rightUse, declinedRight, soundSeries, soundCached, soundSlot, addressed, soundAt}
 use Rattle.rules.specs.Both.{divisor}
-use Rattle.opened.specs.Slot.{noSlot, pickPass, opened, pickSlot, slotOf}
+use Rattle.opened.specs.Slot.{noSlot, pickPass, opened, pickSlot, slotOf, firstLook}
+use Rattle.opened.specs.Look.{by-look, look-at}
 
 unfoldable pub seriesRight : RoomKind → Settings → Slot → Bool
 seriesRight kind s x =
@@ -36,11 +37,17 @@ cachedRight last x = not (x .cached) || (factorWordOk (x .factor) && leb (x .«f
 unfoldable pub slotRight : RoomKind → Settings → ℕ → ℕ → Slot → Bool
 slotRight kind s last u x = rightUse kind u && (seriesRight kind s x && cachedRight last x)
 
--- x is the slot that a key addresses
+-- x is the slot that a key addresses, as some look leaves it
 pub record Addresses (w key : List ℕ) (s : Settings) (x : Slot) : Type 0 where
   pub room : Room w
   pub reading : ℕ
-  pub is : x ≡ slotOf (windowTicks s) w reading (addressed w key)
+  pub look : ℕ
+  pub is : x ≡ firstLook look reading (slotOf (windowTicks s) w reading (addressed w key))
+
+-- a look changes nothing that is judged
+look-right : (kind : RoomKind) (s : Settings) (last u look t : ℕ) (x : Slot) → slotRight kind s last u (firstLook look t x) ≡ slotRight kind s last u x
+unfolding slotRight seriesRight cachedRight
+look-right kind s last u look t x = by-look look t x (λ (y : Slot). slotRight kind s last u y ≡ slotRight kind s last u x) refl refl
 
 -- ---- the words' soundness
 
@@ -103,8 +110,13 @@ addressed-le w key = go (ltb 32 (length key))
     go true = omega arith
     go false = find-le w (keyOf key)
 
+pub slot-addressed : (W t : ℕ) (w key : List ℕ) → slotOf W w t (addressed w key) .at ≡ addressed w key
+slot-addressed W t w key = slot-at W t w (addressed w key) (addressed-le w key)
+
 pub addressed-at : (w key : List ℕ) (s : Settings) (x : Slot) → Addresses w key s x → x .at ≡ addressed w key
-addressed-at w key s x a = ap (λ (y : Slot). y .at) (a .is) ∙ slot-at (windowTicks s) (a .reading) w (addressed w key) (addressed-le w key)
+addressed-at w key s x a =
+    ap (λ (y : Slot). y .at) (a .is) ∙ look-at (a .look) (a .reading) (slotOf (windowTicks s) w (a .reading) (addressed w key)) ∙
+    slot-addressed (windowTicks s) (a .reading) w key
 
 -- its key is the one that was looked for
 pub addressed-key : (w key : List ℕ) → Bytes key → addressed w key < slotsOf w → keySound w (addressed w key) ≡ true
@@ -128,10 +140,10 @@ sound-some kind s w key x y z a h e =
     let at = addressed w key in
     let p : x .at ≡ at = addressed-at w key s x a in
     let l : at < slotsOf w = omega arith in
-    let q : x ≡ opened (windowTicks s) (ringOf w) (lastOf w) (a .reading) at (useOf w at) (bodyOf w at) =
-    a .is ∙ slot-here (windowTicks s) (a .reading) w at l in
     e ∙
     ap (λ (n : ℕ). slotRight kind s (lastOf w) (useOf w n) x) p ∙
-    ap (slotRight kind s (lastOf w) (useOf w at)) q ∙
+    ap (slotRight kind s (lastOf w) (useOf w at)) (a .is) ∙
+    look-right kind s (lastOf w) (useOf w at) (a .look) (a .reading) (slotOf (windowTicks s) w (a .reading) at) ∙
+    ap (slotRight kind s (lastOf w) (useOf w at)) (slot-here (windowTicks s) (a .reading) w at l) ∙
     right-is kind s (windowTicks s) (a .reading) w at (addressed-key w key z l) ∙
     sym (rw (lt-ltb at (slotsOf w) l))

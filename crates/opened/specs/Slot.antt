@@ -1,11 +1,10 @@
 -- A key's slot opened into a value, which calls decide on: what it holds, its words, and what the pass over its buckets finds at reading t.
 -- Assumes nothing.
-use mathlib.Core.Bool.{Bool, true, false, not, _||_, cond}
+use mathlib.Core.Bool.{Bool, true, false, _||_, cond}
 use mathlib.Core.List.{List}
 use Prim.Native.Nat.{ℕ}
-use lib.Dec.{ltb, eqb}
-use Rattle.rules.specs.Buckets.{older}
-use Rattle.sweep.specs.Sweep.{passOf, unsound}
+use lib.Dec.{ltb}
+use Rattle.sweep.specs.Sweep.{passOf, unsound, leaves, allIn}
 use Rattle.sweep.specs.declared.tally.Pass.{Pass}
 use Rattle.ring.specs.Ring.{totalOf, declinedOf}
 use Rattle.room.specs.Room.{slotsOf, ringOf, lastOf, useOf, bodyOf}
@@ -78,20 +77,11 @@ passing p x = record {
 
 -- nothing is expired
 abbrev pub allStay : Slot → Slot
-allStay x = passing (record {
-  sound = x .pass .sound;
-  buckets = x .pass .buckets;
-  expired = 0;
-  «live_total» = x .total;
-  «live_declined» = x .declined;
-  oldest = x .pass .eldest;
-  newest = x .pass .newest;
-  eldest = x .pass .eldest;
-}) x
+allStay x = passing (allIn (x .total) (x .declined) (x .pass)) x
 
 -- a first look leaves what is expired unless the oldest bucket's age is over look
 abbrev pub leavesExpired : ℕ → ℕ → Slot → Bool
-leavesExpired look t x = not (eqb (x .pass .expired) 0 || older look t (x .pass .eldest))
+leavesExpired look t x = leaves look t (x .pass)
 
 unfoldable pub firstLook : ℕ → ℕ → Slot → Slot
 firstLook look t x = cond (leavesExpired look t x) (allStay x) x

@@ -2,16 +2,16 @@
 ghost use mathlib.Core.Path.{_≡_};
 ghost use Prim.Native.Nat.{_≤_};
 ghost use lib.ListN.{length};
-ghost use Rattle.sweep.specs.Sweep.{passOf, unsound};
+ghost use Rattle.sweep.specs.Sweep.{passOf, lookedPass};
 ghost use Rattle.layout.specs.Layout.{fixedWords};
 ghost use Rattle.room.specs.Room.{Room};
 ghost use Rattle.opened.specs.Sound.{hasSeries, hasCached, rightUse, declinedRight};
 ghost use Rattle.rules.specs.Both.{divisor};
-ghost use Rattle.opened.specs.Slot.{noSlot, pickPass, opened, slotOf, hasSlot, allStay, leavesExpired, firstLook};
+ghost use Rattle.opened.specs.Slot.{noSlot, pickPass, opened, pickSlot, slotOf, hasSlot, passing, allStay, leavesExpired, firstLook};
 ghost use Rattle.opened.specs.Right.{seriesRight, cachedRight, slotRight};
-use ring::Bucket;
 use rules::RoomKind;
 use settings::Settings;
+use sweep::Mark;
 use sweep::Pass;
 
 // A key's slot: where it is (the number of slots where there is none), its use, what it holds, and its words.
@@ -28,27 +28,6 @@ pub struct Slot {
     pub pass: Pass,
 }
 
-// A pass that found nothing.
-fn no_pass() -> Pass
-    ensures { λ x. ⌜ x ≡ unsound ⌝ }
-{
-    let none = Bucket {
-        count: 0,
-        declined: 0,
-        time: 0,
-    };
-    Pass {
-        sound: false,
-        buckets: 0,
-        expired: 0,
-        live_total: 0,
-        live_declined: 0,
-        oldest: none,
-        newest: none,
-        eldest: none,
-    }
-}
-
 pub fn no_slot(at: usize) -> Slot
     ensures { λ x. ⌜ x ≡ noSlot at ⌝ }
 {
@@ -62,7 +41,7 @@ pub fn no_slot(at: usize) -> Slot
         declined: 0,
         factor: 0,
         factor_time: 0,
-        pass: no_pass(),
+        pass: sweep::no_pass(),
     }
 }
 
@@ -96,22 +75,39 @@ fn has_cached(u: u64) -> bool
     u == layout::BOTH
 }
 
-fn series_pass(b: &[u64], r: usize, last: u64, reading: u64, window: u64, series: bool) -> Pass
-    ensures { λ x. ⌜ x ≡ pickPass series (passOf r (now (b .entry)) last reading window) ⌝ }
+fn series_pass(
+    b: &[u64],
+    r: usize,
+    last: u64,
+    reading: u64,
+    window: u64,
+    look: u64,
+    series: bool,
+) -> Pass
+    ensures { λ x. ⌜ x ≡ pickPass series (lookedPass look reading (now (b .entry)) (passOf r (now (b .entry)) last reading window)) ⌝ }
 {
     if !series {
-        return no_pass();
+        return sweep::no_pass();
     }
-    sweep::pass(b, r, last, reading, window)
+    sweep::pass(b, r, last, reading, window, look)
 }
 
 // The body of slot `at`, of use `u`, opened: the one pass over its buckets is made here.
-fn open_body(b: &[u64], r: usize, last: u64, reading: u64, window: u64, at: usize, u: u64) -> Slot
+fn open_body(
+    b: &[u64],
+    r: usize,
+    last: u64,
+    reading: u64,
+    window: u64,
+    look: u64,
+    at: usize,
+    u: u64,
+) -> Slot
     requires { ⌜ fixedWords ≤ length (now b) ⌝ }
-    ensures { λ x. ⌜ x ≡ opened window r last reading at u (now (b .entry)) ⌝ }
+    ensures { λ x. ⌜ x ≡ firstLook look reading (opened window r last reading at u (now (b .entry))) ⌝ }
 {
     let series = has_series(u);
-    let pass = series_pass(b, r, last, reading, window, series);
+    let pass = series_pass(b, r, last, reading, window, look, series);
     Slot {
         at,
         used: u,
@@ -126,10 +122,10 @@ fn open_body(b: &[u64], r: usize, last: u64, reading: u64, window: u64, at: usiz
     }
 }
 
-// Slot `at`, or none where there are fewer. `window` is in ticks.
-pub fn open_at(w: &[u64], at: usize, reading: u64, window: u64) -> Slot
+// Slot `at`, or none where there are fewer, as a look leaves it; a look at `window` itself leaves nothing that is expired. Both are in ticks.
+pub fn open_at(w: &[u64], at: usize, reading: u64, window: u64, look: u64) -> Slot
     requires { ⌜ Room (now w) ⌝ }
-    ensures { λ x. ⌜ x ≡ slotOf window (now (w .entry)) reading at ⌝ }
+    ensures { λ x. ⌜ x ≡ firstLook look reading (slotOf window (now (w .entry)) reading at) ⌝ }
 {
     let slots = w[layout::SLOTS] as usize;
     let r = w[layout::RING] as usize;
@@ -140,7 +136,35 @@ pub fn open_at(w: &[u64], at: usize, reading: u64, window: u64) -> Slot
     let u = room::use_of(w, at);
     let a = room::start(w, at);
     let e = a + (layout::FIXED + layout::CELL * r);
-    open_body(&w[a..e], r, last, reading, window, at, u)
+    open_body(&w[a..e], r, last, reading, window, look, at, u)
+}
+
+// The slot with another pass over its buckets.
+fn with_pass(x: Slot, pass: Pass) -> Slot
+    ensures { λ y. ⌜ y ≡ passing pass x ⌝ }
+{
+    Slot {
+        at: x.at,
+        used: x.used,
+        series: x.series,
+        cached: x.cached,
+        limit: x.limit,
+        total: x.total,
+        declined: x.declined,
+        factor: x.factor,
+        factor_time: x.factor_time,
+        pass,
+    }
+}
+
+// The same, built anew.
+fn again(x: Mark) -> Mark
+    ensures { λ y. ⌜ y ≡ x ⌝ }
+{
+    Mark {
+        count: x.count,
+        time: x.time,
+    }
 }
 
 // The slot with all its buckets.
@@ -149,29 +173,17 @@ fn all_stay(x: Slot) -> Slot
 {
     let pass = x.pass;
     let eldest = pass.eldest;
-    let newest = pass.newest;
     let pass = Pass {
         sound: pass.sound,
         buckets: pass.buckets,
         expired: 0,
         live_total: x.total,
         live_declined: x.declined,
+        newest_time: pass.newest_time,
         oldest: eldest,
-        newest,
         eldest,
     };
-    Slot {
-        at: x.at,
-        used: x.used,
-        series: x.series,
-        cached: x.cached,
-        limit: x.limit,
-        total: x.total,
-        declined: x.declined,
-        factor: x.factor,
-        factor_time: x.factor_time,
-        pass,
-    }
+    with_pass(x, pass)
 }
 
 // The slot, built anew of its parts: where only a call that is seldom made takes it as a whole, its parts are copied there and nowhere else.
@@ -179,31 +191,17 @@ pub fn rebuilt(x: Slot) -> Slot
     ensures { λ y. ⌜ y ≡ x ⌝ }
 {
     let pass = x.pass;
-    let oldest = pass.oldest;
-    let newest = pass.newest;
-    let eldest = pass.eldest;
     let pass = Pass {
         sound: pass.sound,
         buckets: pass.buckets,
         expired: pass.expired,
         live_total: pass.live_total,
         live_declined: pass.live_declined,
-        oldest,
-        newest,
-        eldest,
+        newest_time: pass.newest_time,
+        oldest: again(pass.oldest),
+        eldest: again(pass.eldest),
     };
-    Slot {
-        at: x.at,
-        used: x.used,
-        series: x.series,
-        cached: x.cached,
-        limit: x.limit,
-        total: x.total,
-        declined: x.declined,
-        factor: x.factor,
-        factor_time: x.factor_time,
-        pass,
-    }
+    with_pass(x, pass)
 }
 
 // Whether a first look leaves buckets that are expired: the oldest bucket's age is not over `look`.
@@ -227,6 +225,16 @@ pub fn first_look(look: u64, reading: u64, x: Slot) -> Slot
         return all_stay(x);
     }
     x
+}
+
+// The slot as a first look leaves it, unless a call goes on without one.
+pub fn looked_unless(without: bool, look: u64, reading: u64, x: Slot) -> Slot
+    ensures { λ y. ⌜ y ≡ pickSlot without x (firstLook look reading x) ⌝ }
+{
+    if without {
+        return x;
+    }
+    first_look(look, reading, x)
 }
 
 pub fn divisor(kind: RoomKind, factor: f64) -> f64

@@ -3,7 +3,7 @@
 use mathlib.Core.Path.{_≡_, refl, sym, ap, subst, _∙_}
 use mathlib.Core.Bool.{Bool, true, false, _&&_, _||_, cond, not}
 use mathlib.Core.List.{List, [], _∷_}
-use Prim.Native.Nat.{ℕ, _<_}
+use Prim.Native.Nat.{ℕ, _-_, _<_}
 use native.Mathlib.Omega.{arith}
 use lib.Dec.{ltb, eqb}
 use lib.ListN.{length, getD}
@@ -18,20 +18,27 @@ use Rattle.rules.specs.Ages.{overdue-ticks, none-overdue}
 use Rattle.rules.specs.declared.RoomKind.{RoomKind}
 use Rattle.room.specs.Room.{ringOf, lastOf, bodyOf}
 use Rattle.opened.specs.declared.Slot.{Slot}
+use Rattle.sweep.specs.declared.tally.Mark.{Mark}
 use Rattle.sweep.specs.declared.tally.Pass.{Pass}
+use Rattle.sweep.specs.Sweep.{mark}
 use Rattle.sweep.specs.Measured.{Measured}
 use Rattle.opened.specs.Slot.{passing, allStay, firstLook}
 use Rattle.plan.specs.Known.{Known}
 
 -- of a slot whose pass is told: the oldest is overdue, or nothing is expired, or all stay
 module _ (s : Settings) (t : ℕ) (xs : List Bucket) (x : Slot) (e : x .pass .expired ≡ gone (windowTicks s) t xs)
-    (f : x .pass .eldest ≡ getD xs 0 noBucket) (P : Bool → Slot → Type 0) where
-  eldest-look : overdue s t xs ≡ ltb 0 (length xs) && older (lookTicks s) t (x .pass .eldest)
-  eldest-look = overdue-ticks s t xs ∙ ap (λ (y : Bucket). ltb 0 (length xs) && older (lookTicks s) t y) (sym f)
+    (f : x .pass .eldest ≡ mark (getD xs 0 noBucket)) (P : Bool → Slot → Type 0) where
+  -- whether the oldest of all is over the look
+  abbrev over : Bool
+  over = ltb (lookTicks s) (t - x .pass .eldest .time)
 
-  some-look : (x .pass .expired ≡ 0 → ⊥) → overdue s t xs ≡ older (lookTicks s) t (x .pass .eldest)
+  eldest-look : overdue s t xs ≡ ltb 0 (length xs) && over
+  unfolding older
+  eldest-look = overdue-ticks s t xs ∙ ap (λ (y : Mark). ltb 0 (length xs) && ltb (lookTicks s) (t - y .time)) (sym f)
+
+  some-look : (x .pass .expired ≡ 0 → ⊥) → overdue s t xs ≡ over
   unfolding ahead
-  some-look n = eldest-look ∙ ap (λ (z : Bool). z && older (lookTicks s) t (x .pass .eldest)) (lt-ltb 0 (length xs) (some xs e))
+  some-look n = eldest-look ∙ ap (λ (z : Bool). z && over) (lt-ltb 0 (length xs) (some xs e))
     where
       some : (ys : List Bucket) → x .pass .expired ≡ gone (windowTicks s) t ys → 0 < length ys
       some [] q = absurd (n q)
@@ -43,15 +50,15 @@ module _ (s : Settings) (t : ℕ) (xs : List Bucket) (x : Slot) (e : x .pass .ex
   unfolding firstLook
   by-overdue p q r = go (eqb (x .pass .expired) 0) refl
     where
-      late : (x .pass .expired ≡ 0 → ⊥) → (z : Bool) → older (lookTicks s) t (x .pass .eldest) ≡ z → P (overdue s t xs) (cond (not z) (allStay x) x)
+      late : (x .pass .expired ≡ 0 → ⊥) → (z : Bool) → over ≡ z → P (overdue s t xs) (cond (not z) (allStay x) x)
       late n true h = let o = some-look n ∙ h in subst (λ (b : Bool). P b x) (sym o) (p o)
       late n false h = let o = some-look n ∙ h in subst (λ (b : Bool). P b (allStay x)) (sym o) (r (λ k. n (e ∙ k)) o)
 
-      go : (z : Bool) → eqb (x .pass .expired) 0 ≡ z → P (overdue s t xs) (cond (not (z || older (lookTicks s) t (x .pass .eldest))) (allStay x) x)
+      go : (z : Bool) → eqb (x .pass .expired) 0 ≡ z → P (overdue s t xs) (cond (not (z || over)) (allStay x) x)
       go true h =
           let k : gone (windowTicks s) t xs ≡ 0 = sym e ∙ eqb-true (x .pass .expired) 0 h in
           subst (λ (b : Bool). P b x) (sym (none-overdue s t xs k)) (q k)
-      go false h = late (eqb-false (x .pass .expired) 0 h) (older (lookTicks s) t (x .pass .eldest)) refl
+      go false h = late (eqb-false (x .pass .expired) 0 h) over refl
 
 -- ---- so of a series
 

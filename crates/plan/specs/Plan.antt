@@ -23,7 +23,7 @@ lacksAt w at x = not (hasSlot x) && leb (slotsOf w) at
 -- ---- an increment, once the oldest k buckets are out; b is the bucket size, r the ring
 
 unfoldable pub joinsAfter : ℕ → ℕ → ℕ → Slot → Bool
-joinsAfter b t k x = ltb k (x .pass .buckets) && leb (t - x .pass .newest .time) b
+joinsAfter b t k x = ltb k (x .pass .buckets) && leb (t - x .pass .«newest_time») b
 
 unfoldable pub fullAfter : ℕ → ℕ → ℕ → ℕ → Slot → Bool
 fullAfter r b t k x = not (joinsAfter b t k x) && leb r (x .pass .buckets - k)

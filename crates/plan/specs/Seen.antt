@@ -12,7 +12,7 @@ use Rattle.settings.specs.Clock.{windowTicks, lookTicks}
 use Rattle.settings.specs.declared.Settings.{Settings}
 use Rattle.rules.specs.Buckets.{ahead, gone, goneIf, outIf, newest, joins}
 use Rattle.rules.specs.Laws.{newest-drop}
-use Rattle.sweep.specs.Sweep.{passOf, unsound}
+use Rattle.sweep.specs.Sweep.{mark, passOf, unsound}
 use Rattle.sweep.specs.declared.tally.Pass.{Pass}
 use Rattle.ring.specs.declared.Bucket.{Bucket}
 use Rattle.ring.specs.Ring.{noBucket, sumOf, counts, declineds, buckets}
@@ -44,9 +44,9 @@ pub record Seen (W t : ℕ) (out : Bool) (h : Held) (x : Slot) : Type 0 where
   pub gone-is : x .pass .expired ≡ goneIf out W t (h .buckets)
   pub live-is : x .pass .«live_total» ≡ counts (outIf out W t (h .buckets))
   pub declined-is : x .pass .«live_declined» ≡ declineds (outIf out W t (h .buckets))
-  pub oldest-is : x .pass .oldest ≡ getD (h .buckets) (goneIf out W t (h .buckets)) noBucket
-  pub newest-is : x .pass .newest ≡ newest (h .buckets)
-  pub eldest-is : x .pass .eldest ≡ getD (h .buckets) 0 noBucket
+  pub oldest-is : x .pass .oldest ≡ mark (getD (h .buckets) (goneIf out W t (h .buckets)) noBucket)
+  pub newest-is : x .pass .«newest_time» ≡ newest (h .buckets) .time
+  pub eldest-is : x .pass .eldest ≡ mark (getD (h .buckets) 0 noBucket)
 
 -- ---- a slot that is there, and none
 
@@ -67,7 +67,7 @@ pass-of-none W t x y factor since e c p f m = record {
   live-is = ap (λ (q : Pass). q .«live_total») p;
   declined-is = ap (λ (q : Pass). q .«live_declined») p;
   oldest-is = ap (λ (q : Pass). q .oldest) p;
-  newest-is = ap (λ (q : Pass). q .newest) p;
+  newest-is = ap (λ (q : Pass). q .«newest_time») p;
   eldest-is = ap (λ (q : Pass). q .eldest) p;
 }
 
@@ -112,7 +112,7 @@ module _ (kind : RoomKind) (s : Settings) (w : List ℕ) (t at : ℕ) (x : Slot)
         gone-is = m .expired-are;
         live-is = m .total ∙ ap (λ (i : ℕ). counts (drop i xs)) (m .expired-are);
         declined-is = m .declined ∙ ap (λ (i : ℕ). declineds (drop i xs)) (m .expired-are);
-        oldest-is = m .oldest-is ∙ ap (λ (i : ℕ). getD xs i noBucket) (m .expired-are);
+        oldest-is = m .oldest-is ∙ ap (λ (i : ℕ). mark (getD xs i noBucket)) (m .expired-are);
         newest-is = m .newest-is;
         eldest-is = m .eldest-is;
       }
@@ -155,7 +155,8 @@ seen kind s w t key p = go (ltb (addressed w key) (slotsOf w)) refl
 module _ (s : Settings) (t : ℕ) (h : Held) (x : Slot) (o : Seen (windowTicks s) t true h x) where
   -- with another pass, that leaves all
   seen-but : (p : Pass) → p .buckets ≡ x .pass .buckets → p .expired ≡ 0 → p .«live_total» ≡ counts (h .buckets) → p .«live_declined» ≡ declineds (h .buckets) →
-      p .oldest ≡ getD (h .buckets) 0 noBucket → p .newest ≡ x .pass .newest → p .eldest ≡ x .pass .eldest → Seen (windowTicks s) t false h (passing p x)
+      p .oldest ≡ mark (getD (h .buckets) 0 noBucket) → p .«newest_time» ≡ x .pass .«newest_time» → p .eldest ≡ x .pass .eldest →
+      Seen (windowTicks s) t false h (passing p x)
   seen-but p n e total declined oldest new first = record {
     absent = o .absent;
     series-is = o .series-is;
@@ -178,7 +179,7 @@ module _ (s : Settings) (t : ℕ) (h : Held) (x : Slot) (o : Seen (windowTicks s
   seen-none z =
       let xs = h .buckets in
       seen-but (x .pass) refl (o .gone-is ∙ z) (o .live-is ∙ ap (λ (k : ℕ). counts (drop k xs)) z) (o .declined-is ∙ ap (λ (k : ℕ). declineds (drop k xs)) z)
-      (o .oldest-is ∙ ap (λ (k : ℕ). getD xs k noBucket) z) refl refl
+      (o .oldest-is ∙ ap (λ (k : ℕ). mark (getD xs k noBucket)) z) refl refl
 
   -- a key whose buckets go has a series
   seen-all : (gone (windowTicks s) t (h .buckets) ≡ 0 → ⊥) → Seen (windowTicks s) t false h (allStay x)
@@ -211,26 +212,26 @@ held-there kind s w t key p e = go (ltb (addressed w key) (slotsOf w)) refl
 
 -- ---- so the tests of an increment say the same
 
-joins-after : (b t k : ℕ) (x : Slot) (xs : List Bucket) → x .pass .buckets ≡ length xs → x .pass .newest ≡ newest xs →
+joins-after : (b t k : ℕ) (x : Slot) (xs : List Bucket) → x .pass .buckets ≡ length xs → x .pass .«newest_time» ≡ newest xs .time →
     joinsAfter b t k x ≡ joins b t (drop k xs)
 unfolding joinsAfter joins
 joins-after b t k x xs n e = go (ltb k (length xs)) refl
   where
     go : (y : Bool) → ltb k (length xs) ≡ y →
-        ltb k (x .pass .buckets) && leb (t - x .pass .newest .time) b ≡ ltb 0 (length (drop k xs)) && leb (t - newest (drop k xs) .time) b
+        ltb k (x .pass .buckets) && leb (t - x .pass .«newest_time») b ≡ ltb 0 (length (drop k xs)) && leb (t - newest (drop k xs) .time) b
     go true h =
         let l : k < length xs = ltb-true k (length xs) h in
         let p : ltb k (x .pass .buckets) ≡ true = ap (ltb k) n ∙ h in
         let q : ltb 0 (length (drop k xs)) ≡ true = lt-ltb 0 (length (drop k xs)) (omega (arith, length-drop k xs)) in
-        let f : x .pass .newest ≡ newest (drop k xs) = e ∙ sym (newest-drop k xs l) in
-        rw (p, q) (ap (λ (y : Bucket). leb (t - y .time) b) f)
+        let f : x .pass .«newest_time» ≡ newest (drop k xs) .time = e ∙ ap (λ (y : Bucket). y .time) (sym (newest-drop k xs l)) in
+        rw (p, q) (ap (λ (n : ℕ). leb (t - n) b) f)
     go false h =
         let l : length xs ≤ k = ltb-false k (length xs) h in
         let p : ltb k (x .pass .buckets) ≡ false = ap (ltb k) n ∙ h in
         let q : ltb 0 (length (drop k xs)) ≡ false = le-ltb 0 (length (drop k xs)) (omega (arith, length-drop k xs)) in
         rw (p, q)
 
-pub full-after : (r b t k : ℕ) (x : Slot) (xs : List Bucket) → x .pass .buckets ≡ length xs → x .pass .newest ≡ newest xs →
+pub full-after : (r b t k : ℕ) (x : Slot) (xs : List Bucket) → x .pass .buckets ≡ length xs → x .pass .«newest_time» ≡ newest xs .time →
     fullAfter r b t k x ≡ ringFull r b t (drop k xs)
 unfolding fullAfter ringFull
 full-after r b t k x xs n e =

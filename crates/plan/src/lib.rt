@@ -52,11 +52,10 @@ fn joins_after(size: u64, reading: u64, gone: usize, x: Slot) -> bool
 {
     let pass = x.pass;
     let buckets = pass.buckets;
-    let newest = pass.newest;
     if buckets <= gone {
         return false;
     }
-    ring::less(reading, newest.time) <= size
+    ring::less(reading, pass.newest_time) <= size
 }
 
 // The difference, or 0.

@@ -4,7 +4,7 @@
 use mathlib.Core.Path.{_≡_, refl, sym, ap, ap₂, _∙_}
 use mathlib.Core.Bool.{Bool, false}
 use mathlib.Core.List.{List, [], _∷_, _++_}
-use Prim.Native.Nat.{ℕ, _+_, _-_, _*_, _≤_, _<_}
+use Prim.Native.Nat.{ℕ, _+_, _-_, _≤_, _<_}
 use native.Mathlib.Numerals.{add-one}
 use native.Mathlib.Omega.{arith}
 use lib.ListN.{length, getD, take, drop, drop-of-length-le, length-take, length-drop}
@@ -14,7 +14,7 @@ use Rattle.layout.specs.Layout.{fixedWords, sizeOf}
 use Rattle.ring.specs.declared.Bucket.{Bucket}
 use Rattle.ring.specs.Ring.{bucket, noBucket, lenOf, headOf, wrap, cellOf, bucketAt, buckets, Shape}
 use Rattle.ring.specs.View.{bucket-path, view-turn, view-end}
-use Rattle.ring.specs.Wrap.{wrap-lo, wrap-hi, wrap-wrap}
+use Rattle.ring.specs.Wrap.{wrap-lo, wrap-hi, wrap-lt, wrap-wrap}
 use Rattle.quick.specs.declared.Acc.{Acc}
 use Rattle.quick.specs.Quick.{fullTurn, turnOf, runOf, rows, cells}
 
@@ -115,14 +115,18 @@ module _ (r : ℕ) (b : List ℕ) (s : Shape r b) where
   pub next-place : (k j : ℕ) → k < lenOf b → j ≡ wrap r (headOf b + k) → wrap r (j + 1) ≡ wrap r (headOf b + (k + 1))
   next-place k j h e = ap (λ (i : ℕ). wrap r (i + 1)) e ∙ wrap-wrap r (headOf b) k 1 (s .head) (omega (arith, s .len))
 
-  pub walk-turn : (k j : ℕ) (a a′ o : Acc) → k < lenOf b → j ≡ wrap r (headOf b + k) →
-      a′ ≡ fullTurn a (bucket (getD b (fixedWords + j) 0) (getD b (fixedWords + j + r) 0) (getD b (fixedWords + j + r + r) 0)) →
-      runOf false a (drop k (buckets r b)) ≡ o → runOf false a′ (drop (k + 1) (buckets r b)) ≡ o
-  unfolding runOf bucketAt
-  walk-turn k j a a′ o h e f i =
-      let x = bucketAt r b (fixedWords + j) in
-      ap (λ (y : Acc). runOf false y (drop (k + 1) (buckets r b))) f ∙
-      sym (ap (runOf false a) (view-turn r b k x h (ap (λ (n : ℕ). bucketAt r b (fixedWords + n)) e))) ∙ i
+  pub next-inside : (j x : ℕ) → j < r → x ≡ wrap r (j + 1) → x < r
+  next-inside j x h e = omega (arith, e, wrap-lt r (j + 1) (omega arith))
+
+  -- so what stands there is bucket k
+  pub at-place : (k j : ℕ) (x : Bucket) → j ≡ wrap r (headOf b + k) → x ≡ bucketAt r b (fixedWords + j) → x ≡ bucketAt r b (cellOf r b k)
+  at-place k j x e y = y ∙ ap (λ (n : ℕ). bucketAt r b (fixedWords + n)) e
+
+  pub walk-turn : (k j : ℕ) (a a′ o : Acc) (x : Bucket) → k < lenOf b → j ≡ wrap r (headOf b + k) → x ≡ bucketAt r b (fixedWords + j) →
+      a′ ≡ fullTurn a x → runOf false a (drop k (buckets r b)) ≡ o → runOf false a′ (drop (k + 1) (buckets r b)) ≡ o
+  unfolding runOf
+  walk-turn k j a a′ o x h e y f i =
+      ap (λ (y : Acc). runOf false y (drop (k + 1) (buckets r b))) f ∙ sym (ap (runOf false a) (view-turn r b k x h (at-place k j x e y))) ∙ i
 
   pub walk-end : (k : ℕ) (a o : Acc) → lenOf b ≤ k → runOf false a (drop k (buckets r b)) ≡ o → a ≡ o
   unfolding runOf

@@ -133,9 +133,9 @@ fn both_parts(plain: bool, b: &[u64], r: usize, a: Acc) -> Acc
 }
 
 // The place after `j`.
-fn next(r: usize, j: usize) -> usize
+pub fn next(r: usize, j: usize) -> usize
     requires { ⌜ j < r ⌝ }
-    ensures { λ x. ⌜ (x ≡ wrap r (j + 1)) × (x < r) ⌝ }
+    ensures { λ x. ⌜ x ≡ wrap r (j + 1) ⌝ }
 {
     if j + 1 < r { j + 1 } else { 0 }
 }
@@ -150,8 +150,8 @@ fn walk(b: &[u64], r: usize, a0: Acc) -> Acc
     let mut j = b[layout::HEAD] as usize;
     let mut k = 0;
     while k < n {
-        let w = layout::FIXED + j;
-        a = full_turn(a, b[w], b[w + r], b[w + r + r]);
+        let x = ring::at(b, r, j);
+        a = full_turn(a, x.count, x.declined, x.time);
         j = next(r, j);
         k += 1;
     }

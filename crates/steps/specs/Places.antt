@@ -9,7 +9,7 @@ use native.Mathlib.Omega.{arith}
 use lib.Dec.{eqb}
 use lib.ListN.{length}
 use borrow.Author.Tests.{le-ltb, eqb-true}
-use Rattle.settings.specs.Clock.{lookTicks, joinTicks}
+use Rattle.settings.specs.Clock.{windowTicks, lookTicks, joinTicks}
 use Rattle.common.specs.declared.comparator.RateLimitComparator.{RateLimitComparator}
 use Rattle.answers.specs.declared.HistoryUpdateMode.{HistoryUpdateMode}
 use Rattle.answers.specs.declared.HistoryUpdateMode.the-variants as mode
@@ -29,7 +29,7 @@ use Rattle.opened.specs.declared.Slot.{Slot}
 use Rattle.judge.specs.Judge.{Passed, slotIn, lookedIn}
 use Rattle.opened.specs.Look.{by-look, look-at, look-series, look-cached}
 use Rattle.opened.specs.Slot.{hasSlot, allStay, firstLook}
-use Rattle.opened.specs.Right.{addressed-at}
+use Rattle.opened.specs.Right.{slot-addressed}
 use Rattle.opened.specs.Sound.{hasSeries, rightUse, addressed}
 use Rattle.plan.specs.Known.{Found, found, series-is, cached-is, use-right}
 use Rattle.plan.specs.Plan.{keeping, evicting, opening, relimited, placeOf}
@@ -129,7 +129,7 @@ module _ (k : RoomKind) (s : Settings) (w : List ℕ) (t : ℕ) (key : List ℕ)
 
   at-find : x .at ≡ find w (keyOf key)
   unfolding addressed
-  at-find = addressed-at w key s x (record { room = p .room; reading = t; is = refl }) ∙ rw (le-ltb 32 (length key) (p .short))
+  at-find = slot-addressed (windowTicks s) t w key ∙ rw (le-ltb 32 (length key) (p .short))
 
   -- a slot in use that has the key is the one that is opened
   found-find : find w (keyOf key) < slotsOf w → Found k s w t (find w (keyOf key)) x

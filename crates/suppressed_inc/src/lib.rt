@@ -63,12 +63,12 @@ pub fn inc(
         return RateLimitDecision::Refused(fault);
     }
     let window = settings.window_ticks();
-    let found = opened::open_at(room, judge::address(room, key), reading, window);
-    let misfit = judge::misfit(RoomKind::Suppressed, settings, room, reading, key, found);
+    let look = settings.look_ticks();
+    let x = opened::open_at(room, judge::address(room, key), reading, window, look);
+    let misfit = judge::misfit(RoomKind::Suppressed, settings, room, reading, key, x);
     if misfit != 0 {
         return RateLimitDecision::Refused(misfit);
     }
-    let x = opened::first_look(settings.look_ticks(), reading, found);
     let at = plan::place(room, x);
     let late = late(settings, room, x, at, reading, rate, count, draw);
     if late != 0 {

@@ -31,7 +31,14 @@ fn snapshot_of(x: Slot, factor: f64) -> SuppressedRateLimitSnapshot
 pub fn get(settings: Settings, room: &mut [u64], reading: u64, key: &[u8]) -> SnapshotAnswer
     ensures { λ r. ⌜ Told (get settings (now (room .entry)) reading (now (key .entry))) r (now (room .exit)) ⌝ }
 {
-    let judged = judge::judge(RoomKind::Suppressed, settings, room, reading, key);
+    let judged = judge::judge(
+        RoomKind::Suppressed,
+        settings,
+        room,
+        reading,
+        key,
+        judge::NO_LOOK,
+    );
     let code = judged.code;
     let x = judged.slot;
     if code != 0 {
@@ -60,12 +67,19 @@ pub fn get_suppression_factor(
 ) -> FactorAnswer
     ensures { λ r. ⌜ Told (getFactor settings (now (room .entry)) reading (now (key .entry))) r (now (room .exit)) ⌝ }
 {
-    let judged = judge::judge(RoomKind::Suppressed, settings, room, reading, key);
+    let judged = judge::judge(
+        RoomKind::Suppressed,
+        settings,
+        room,
+        reading,
+        key,
+        judge::FIRST_LOOK,
+    );
     let code = judged.code;
     if code != 0 {
         return FactorAnswer::Refused(code);
     }
-    let x = opened::first_look(settings.look_ticks(), reading, judged.slot);
+    let x = judged.slot;
     let at = plan::place(room, x);
     if plan::lacks_slot(room, at, x) {
         return FactorAnswer::Refused(11);

@@ -25,7 +25,7 @@ use Rattle.judge.specs.declared.Judged.{Judged}
 use Rattle.rules.specs.declared.RoomKind.the-variants as kind
 use Rattle.opened.specs.declared.Slot.{Slot}
 use Rattle.judge.specs.Held.{heldIn}
-use Rattle.judge.specs.Judge.{early, judged, Passed, slotIn, lookedIn}
+use Rattle.judge.specs.Judge.{early, judgedWith, Passed, slotIn, lookedIn}
 use Rattle.opened.specs.Slot.{hasSlot}
 use Rattle.judge.specs.Laws.{code-is, slot-is, passed}
 use Rattle.judge.specs.Verdict.{Told, call-early, call-own, call-done}
@@ -288,14 +288,14 @@ module _ (s : Settings) (w : List ℕ) (t : ℕ) (key : List ℕ) (e : early kin
 
 -- ---- the calls, from what the judging function has found
 
-module _ (s : Settings) (w : List ℕ) (t : ℕ) (key : List ℕ) (j : Judged) (h : j ≡ judged kind.Suppressed s w t key) where
+module _ (s : Settings) (w : List ℕ) (t : ℕ) (key : List ℕ) (x : Slot) (j : Judged) (h : j ≡ judgedWith kind.Suppressed s w t key x) where
   early-is : j .code ≡ early kind.Suppressed s w t key
-  early-is = ap (λ (y : Judged). y .code) h ∙ code-is kind.Suppressed s w t key
+  early-is = ap (λ (y : Judged). y .code) h ∙ code-is kind.Suppressed s w t key x
 
   pub not-early : j .code ≡ 0 → early kind.Suppressed s w t key ≡ 0
   not-early z = sym early-is ∙ z
 
-  pub slot-found : j .code ≡ 0 → j .slot ≡ slotIn s w t key
+  pub slot-found : j .code ≡ 0 → j .slot ≡ x
   slot-found z = ap (λ (y : Judged). y .slot) h ∙ slot-is kind.Suppressed s w t key (not-early z)
 
   pub room-found : j .code ≡ 0 → Room w
@@ -305,9 +305,9 @@ module _ (s : Settings) (w : List ℕ) (t : ℕ) (key : List ℕ) (j : Judged) (
   proper-found z = passed kind.Suppressed s w t key (not-early z) .settings
 
   -- where the last second is asked for
-  pub slot-in-room : j .code ≡ 0 → InRoom w (j .slot)
-  slot-in-room z =
-      let there = stood-slot s w t key (passed kind.Suppressed s w t key (not-early z)) (j .slot) (slot-found z) in
+  pub slot-in-room : x ≡ slotIn s w t key → j .code ≡ 0 → InRoom w (j .slot)
+  slot-in-room e z =
+      let there = stood-slot s w t key (passed kind.Suppressed s w t key (not-early z)) (j .slot) (slot-found z ∙ e) in
       record {
         room = room-found z;
         inside = λ y. there .known y .inside;

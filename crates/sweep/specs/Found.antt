@@ -18,7 +18,7 @@ use Rattle.sweep.specs.declared.tally.Tally.{Tally}
 use Rattle.sweep.specs.declared.tally.Gone.{Gone}
 use Rattle.sweep.specs.declared.tally.Pass.{Pass}
 use Rattle.rules.specs.Buckets.{older, recent, ahead}
-use Rattle.sweep.specs.Sweep.{goodOf, stepOf, endedOf, swept, begun, sweepOf, fewer, goneFrom, goneNone, goneOf, found, unsound}
+use Rattle.sweep.specs.Sweep.{goodOf, stepOf, endedOf, swept, begun, sweepOf, fewer, goneFrom, goneNone, goneOf, mark, found, unsound}
 use Rattle.sweep.specs.Sweep.{pick, passOf}
 
 -- ---- where times do not fall, the buckets over w are the oldest ones
@@ -169,7 +169,7 @@ module _ (r : ℕ) (b : List ℕ) (last t w : ℕ) where
   unfolding passOf
   pass-not n = sym (ap (λ (f : Bool). pick f (found (lenOf b) (buckets r b) t w) unsound) n)
 
-  sound-is : soundBuckets r b last ≡ true → found (lenOf b) (buckets r b) t w ≡ passOf r b last t w
+  pub sound-is : soundBuckets r b last ≡ true → found (lenOf b) (buckets r b) t w ≡ passOf r b last t w
   unfolding passOf
   sound-is e = sym (ap (λ (f : Bool). pick f (found (lenOf b) (buckets r b) t w) unsound) e)
 
@@ -182,9 +182,9 @@ module _ (r : ℕ) (b : List ℕ) (last t w : ℕ) where
         expired = g .buckets;
         «live_total» = g .total;
         «live_declined» = g .declined;
-        oldest = o;
-        newest = m;
-        eldest = f;
+        «newest_time» = m .time;
+        oldest = mark o;
+        eldest = mark f;
       }) (passOf r b last t w)
   pass-is e g q n d o m f a z u v first =
       let k = sound-true r b last e in
@@ -201,9 +201,9 @@ module _ (r : ℕ) (b : List ℕ) (last t w : ℕ) where
         expired = ex i;
         «live_total» = to i;
         «live_declined» = de i;
-        oldest = old i;
-        newest = new i;
-        eldest = first i;
+        «newest_time» = new i .time;
+        oldest = mark (old i);
+        eldest = mark (first i);
       }) ∙ sound-is e
 
 -- words that do not fit

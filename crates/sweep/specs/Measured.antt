@@ -13,7 +13,7 @@ use Rattle.ring.specs.View.{view-length}
 use Rattle.ring.specs.Sound.{soundBuckets, Sound, sound-true}
 use Rattle.sweep.specs.declared.tally.Pass.{Pass}
 use Rattle.rules.specs.Buckets.{older, ahead, evicted, live, newest}
-use Rattle.sweep.specs.Sweep.{found, unsound, pick, passOf}
+use Rattle.sweep.specs.Sweep.{mark, found, unsound, pick, passOf}
 use Rattle.sweep.specs.Found.{ahead-le, recent-drop}
 
 -- k of the oldest go: of a pass those that are over the window, of a first look the same ones or none
@@ -24,9 +24,9 @@ pub record Measured (r : ℕ) (b : List ℕ) (last k : ℕ) (x : Pass) : Type 0 
   pub some : x .expired ≤ lenOf b
   pub total : x .«live_total» ≡ counts (drop (x .expired) (buckets r b))
   pub declined : x .«live_declined» ≡ declineds (drop (x .expired) (buckets r b))
-  pub oldest-is : x .oldest ≡ getD (buckets r b) (x .expired) noBucket
-  pub newest-is : x .newest ≡ newest (buckets r b)
-  pub eldest-is : x .eldest ≡ getD (buckets r b) 0 noBucket
+  pub oldest-is : x .oldest ≡ mark (getD (buckets r b) (x .expired) noBucket)
+  pub newest-is : x .«newest_time» ≡ newest (buckets r b) .time
+  pub eldest-is : x .eldest ≡ mark (getD (buckets r b) 0 noBucket)
 
 -- the pass says whether the buckets are sound
 pub pass-judges : (r : ℕ) (b : List ℕ) (last t w : ℕ) (x : Pass) → x ≡ passOf r b last t w → x .sound ≡ soundBuckets r b last
@@ -52,8 +52,8 @@ pass-measures r b last t w x e s =
       some = omega (arith, k, ahead-le w t xs, view-length r b);
       total = ap (λ (y : Pass). y .«live_total») f ∙ ap (λ (i : ℕ). counts (drop i xs)) (sym k);
       declined = ap (λ (y : Pass). y .«live_declined») f ∙ ap (λ (i : ℕ). declineds (drop i xs)) (sym k);
-      oldest-is = ap (λ (y : Pass). y .oldest) f ∙ ap (λ (i : ℕ). getD xs i noBucket) (sym k);
-      newest-is = ap (λ (y : Pass). y .newest) f ∙ ap (λ (n : ℕ). getD xs (n - 1) noBucket) (sym (view-length r b));
+      oldest-is = ap (λ (y : Pass). y .oldest) f ∙ ap (λ (i : ℕ). mark (getD xs i noBucket)) (sym k);
+      newest-is = ap (λ (y : Pass). y .«newest_time») f ∙ ap (λ (n : ℕ). getD xs (n - 1) noBucket .time) (sym (view-length r b));
       eldest-is = ap (λ (y : Pass). y .eldest) f;
     }
 

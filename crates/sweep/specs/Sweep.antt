@@ -1,17 +1,19 @@
 -- The sweep over a key's buckets, bucket by bucket, and what a pass finds. Every sum is what a total has left, so nothing wraps
 -- whatever the words.
 -- Assumes nothing.
-use mathlib.Core.Bool.{Bool, true, false, _&&_, cond}
+use mathlib.Core.Bool.{Bool, true, false, not, _&&_, _||_, cond}
 use mathlib.Core.List.{List, [], _∷_}
 use Prim.Native.Nat.{ℕ, _+_, _-_}
 use lib.ListN.{getD, drop}
-use lib.Dec.{leb, eqb}
+use lib.Dec.{leb, ltb, eqb}
 use Rattle.ring.specs.declared.Bucket.{Bucket}
 use Rattle.ring.specs.Ring.{noBucket, counts, declineds, totalOf, declinedOf, lenOf, buckets}
 use Rattle.ring.specs.Sound.{soundBuckets}
 use Rattle.sweep.specs.declared.tally.Tally.{Tally}
 use Rattle.sweep.specs.declared.tally.Gone.{Gone}
+use Rattle.sweep.specs.declared.tally.Mark.{Mark}
 use Rattle.sweep.specs.declared.tally.Pass.{Pass}
+use Rattle.settings.specs.Clock.{age}
 use Rattle.rules.specs.Buckets.{older, ahead}
 
 -- whether the next bucket keeps the pass sound
@@ -50,6 +52,13 @@ goneNone total declined = record { buckets = 0; total = total; declined = declin
 abbrev pub goneOf : ℕ → List ℕ → ℕ → ℕ → Gone
 goneOf r b t w = goneFrom w t (goneNone (totalOf b) (declinedOf b)) (buckets r b)
 
+-- of a look: nothing, unless the oldest bucket's age is over look
+abbrev pub goneAt : ℕ → ℕ → List ℕ → ℕ → ℕ → Gone
+goneAt look r b t w = cond (ltb look (t - getD (buckets r b) 0 noBucket .time)) (goneOf r b t w) (goneNone (totalOf b) (declinedOf b))
+
+abbrev pub mark : Bucket → Mark
+mark x = record { count = x .count; time = x .time }
+
 -- what is found where the buckets are sound, and where not
 abbrev pub found : ℕ → List Bucket → ℕ → ℕ → Pass
 found n xs t w = record {
@@ -58,9 +67,9 @@ found n xs t w = record {
   expired = ahead w t xs;
   «live_total» = counts (drop (ahead w t xs) xs);
   «live_declined» = declineds (drop (ahead w t xs) xs);
-  oldest = getD xs (ahead w t xs) noBucket;
-  newest = getD xs (n - 1) noBucket;
-  eldest = getD xs 0 noBucket;
+  «newest_time» = getD xs (n - 1) noBucket .time;
+  oldest = mark (getD xs (ahead w t xs) noBucket);
+  eldest = mark (getD xs 0 noBucket);
 }
 
 abbrev pub unsound : Pass
@@ -70,9 +79,9 @@ unsound = record {
   expired = 0;
   «live_total» = 0;
   «live_declined» = 0;
-  oldest = noBucket;
-  newest = noBucket;
-  eldest = noBucket;
+  «newest_time» = 0;
+  oldest = mark noBucket;
+  eldest = mark noBucket;
 }
 
 abbrev pub pick : Bool → Pass → Pass → Pass
@@ -81,3 +90,29 @@ pick false x y = y
 
 unfoldable pub passOf : ℕ → List ℕ → ℕ → ℕ → ℕ → Pass
 passOf r b last t w = pick (soundBuckets r b last) (found (lenOf b) (buckets r b) t w) unsound
+
+-- ---- a look
+
+-- it leaves what is expired unless the oldest bucket's age is over look
+abbrev pub leaves : ℕ → ℕ → Pass → Bool
+leaves look t p = not (eqb (p .expired) 0 || ltb look (age t (p .eldest .time)))
+
+-- with all buckets, whose totals are given
+abbrev pub allIn : ℕ → ℕ → Pass → Pass
+allIn total declined p = record {
+  sound = p .sound;
+  buckets = p .buckets;
+  expired = 0;
+  «live_total» = total;
+  «live_declined» = declined;
+  «newest_time» = p .«newest_time»;
+  oldest = p .eldest;
+  eldest = p .eldest;
+}
+
+abbrev pub looked : ℕ → ℕ → ℕ → ℕ → Pass → Pass
+looked look t total declined p = cond (leaves look t p) (allIn total declined p) p
+
+-- of a body's words
+unfoldable pub lookedPass : ℕ → ℕ → List ℕ → Pass → Pass
+lookedPass look t b p = looked look t (totalOf b) (declinedOf b) p

@@ -2,15 +2,17 @@
 ghost use mathlib.Core.Path.{_≡_};
 ghost use Prim.Native.Nat.{_-_};
 ghost use lib.Dec.{ltb};
+ghost use lib.ListN.{getD};
 ghost use Rattle.ring.specs.Ring.{Shape, noBucket, buckets};
+ghost use Rattle.rules.specs.Buckets as Rules;
 ghost use Rattle.ring.specs.Sound.{soundBuckets, Sound};
-ghost use Rattle.rules.specs.Buckets.{newest};
-ghost use Rattle.sweep.specs.Sweep.{goodOf, stepOf, endedOf, sweepOf, goneOf, unsound, passOf};
+ghost use Rattle.sweep.specs.Sweep.{goodOf, stepOf, endedOf, sweepOf, goneOf, goneAt, unsound, passOf, lookedPass};
 use ring::Bucket;
 
 mod tally;
 
 use tally::Gone;
+pub use tally::Mark;
 pub use tally::Pass;
 use tally::Tally;
 
@@ -117,11 +119,12 @@ fn expire(b: &[u64], r: usize, reading: u64, window: u64) -> Gone
     ensures { λ y. ⌜ y ≡ goneOf r (now (b .entry)) reading window ⌝ }
 {
     let n = ring::len(b, r);
+    let mut j = b[layout::HEAD] as usize;
     let mut k = 0;
     let mut total = b[layout::TOTAL];
     let mut declined = b[layout::DECLINED];
     while k < n {
-        let x = ring::nth(b, r, k);
+        let x = ring::at(b, r, j);
         let t = x.time;
         if !older(window, reading, t) {
             return Gone {
@@ -132,6 +135,7 @@ fn expire(b: &[u64], r: usize, reading: u64, window: u64) -> Gone
         }
         total = ring::less(total, x.count);
         declined = ring::less(declined, x.declined);
+        j = quick::next(r, j);
         k += 1;
     }
     Gone {
@@ -141,13 +145,29 @@ fn expire(b: &[u64], r: usize, reading: u64, window: u64) -> Gone
     }
 }
 
-// What goes of sound buckets. Where the newest, of this time, is over `window` all are, since times do not fall: nothing is walked.
-// `last` is the reading that the buckets are sound at.
-fn gone(b: &[u64], r: usize, last: u64, time: u64, reading: u64, window: u64) -> Gone
-    requires { ⌜ Sound r (now b) last × (time ≡ newest (buckets r (now b)) .time) ⌝ }
-    ensures { λ y. ⌜ y ≡ goneOf r (now (b .entry)) reading window ⌝ }
+// What goes of sound buckets at a look: nothing where the age of the oldest, of time `oldest`, is not over `look`. Where the newest, of
+// time `newest`, is over `window` all are, since times do not fall: nothing is walked. `last` is the reading that the buckets are sound at.
+fn gone(
+    b: &[u64],
+    r: usize,
+    last: u64,
+    oldest: u64,
+    newest: u64,
+    reading: u64,
+    window: u64,
+    look: u64,
+) -> Gone
+    requires { ⌜ Sound r (now b) last × (oldest ≡ getD (buckets r (now b)) 0 noBucket .time) × (newest ≡ Rules.newest (buckets r (now b)) .time) ⌝ }
+    ensures { λ y. ⌜ y ≡ goneAt look r (now (b .entry)) reading window ⌝ }
 {
-    if older(window, reading, time) {
+    if !older(look, reading, oldest) {
+        return Gone {
+            buckets: 0,
+            total: b[layout::TOTAL],
+            declined: b[layout::DECLINED],
+        };
+    }
+    if older(window, reading, newest) {
         return Gone {
             buckets: ring::len(b, r),
             total: 0,
@@ -157,37 +177,27 @@ fn gone(b: &[u64], r: usize, last: u64, time: u64, reading: u64, window: u64) ->
     expire(b, r, reading, window)
 }
 
-// Where there is no bucket.
-fn nothing() -> Bucket
-    ensures { λ x. ⌜ x ≡ noBucket ⌝ }
-{
-    Bucket {
-        count: 0,
-        declined: 0,
-        time: 0,
-    }
-}
-
-// Where the buckets are not sound.
-fn no_pass() -> Pass
+// Where the buckets are not sound, or there are none to look for.
+pub fn no_pass() -> Pass
     ensures { λ x. ⌜ x ≡ unsound ⌝ }
 {
+    let none = Mark { count: 0, time: 0 };
     Pass {
         sound: false,
         buckets: 0,
         expired: 0,
         live_total: 0,
         live_declined: 0,
-        oldest: nothing(),
-        newest: nothing(),
-        eldest: nothing(),
+        newest_time: 0,
+        oldest: none,
+        eldest: none,
     }
 }
 
 // The pass over words that fit.
-fn pass_fit(b: &[u64], r: usize, last: u64, reading: u64, window: u64) -> Pass
+fn pass_fit(b: &[u64], r: usize, last: u64, reading: u64, window: u64, look: u64) -> Pass
     requires { ⌜ Shape r (now b) ⌝ }
-    ensures { λ x. ⌜ x ≡ passOf r (now (b .entry)) last reading window ⌝ }
+    ensures { λ x. ⌜ x ≡ lookedPass look reading (now (b .entry)) (passOf r (now (b .entry)) last reading window) ⌝ }
 {
     if !is_sound(b, r, last) {
         return no_pass();
@@ -195,26 +205,35 @@ fn pass_fit(b: &[u64], r: usize, last: u64, reading: u64, window: u64) -> Pass
     let n = ring::len(b, r);
     let end = ring::less(n as u64, 1) as usize;
     let newest = ring::nth_or_none(b, r, end);
-    let g = gone(b, r, last, newest.time, reading, window);
+    let eldest = ring::nth_or_none(b, r, 0);
+    let g = gone(b, r, last, eldest.time, newest.time, reading, window, look);
     let expired = g.buckets;
+    let oldest = ring::nth_or_none(b, r, expired);
     Pass {
         sound: true,
         buckets: n,
         expired,
         live_total: g.total,
         live_declined: g.declined,
-        oldest: ring::nth_or_none(b, r, expired),
-        newest,
-        eldest: ring::nth_or_none(b, r, 0),
+        newest_time: newest.time,
+        oldest: Mark {
+            count: oldest.count,
+            time: oldest.time,
+        },
+        eldest: Mark {
+            count: eldest.count,
+            time: eldest.time,
+        },
     }
 }
 
-// Judges and measures a key's buckets in one pass, whatever the words. `window` is in ticks.
-pub fn pass(b: &[u64], r: usize, last: u64, reading: u64, window: u64) -> Pass
-    ensures { λ x. ⌜ x ≡ passOf r (now (b .entry)) last reading window ⌝ }
+// Judges and measures a key's buckets in one pass, whatever the words: those over `window` are expired, where the oldest of all is over
+// `look`. Both are in ticks.
+pub fn pass(b: &[u64], r: usize, last: u64, reading: u64, window: u64, look: u64) -> Pass
+    ensures { λ x. ⌜ x ≡ lookedPass look reading (now (b .entry)) (passOf r (now (b .entry)) last reading window) ⌝ }
 {
     if !ring::fit(b, r) {
         return no_pass();
     }
-    pass_fit(b, r, last, reading, window)
+    pass_fit(b, r, last, reading, window, look)
 }

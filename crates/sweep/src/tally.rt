@@ -1,5 +1,4 @@
 // What the pass over a key's buckets carries and finds.
-use ring::Bucket;
 
 // What a sweep has met so far: the last time, and what the totals (`left` of the counts, `spare` of the declined) have left.
 pub struct Tally {
@@ -15,6 +14,12 @@ pub struct Gone {
     pub declined: u64,
 }
 
+// Of a bucket what a rejection and a first look ask for.
+pub struct Mark {
+    pub count: u64,
+    pub time: u64,
+}
+
 // What a pass finds; `oldest` is the oldest that is live, `eldest` the oldest of all. Where the buckets are not sound, all is zero.
 pub struct Pass {
     pub sound: bool,
@@ -22,7 +27,7 @@ pub struct Pass {
     pub expired: usize,
     pub live_total: u64,
     pub live_declined: u64,
-    pub oldest: Bucket,
-    pub newest: Bucket,
-    pub eldest: Bucket,
+    pub newest_time: u64,
+    pub oldest: Mark,
+    pub eldest: Mark,
 }

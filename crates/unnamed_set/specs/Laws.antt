@@ -19,7 +19,7 @@ use Rattle.rules.specs.Both.{unrated}
 use Rattle.rules.specs.Held.{Held, lacksSlot}
 use Rattle.rules.specs.Sets.{stillFor, setTurns}
 use Rattle.judge.specs.declared.Judged.{Judged}
-use Rattle.judge.specs.Judge.{refusals, early, judged}
+use Rattle.judge.specs.Judge.{refusals, early, judged, slotIn}
 use Rattle.judge.specs.Laws.{code-is, refused-early, refused-own}
 use Rattle.sets_opened.specs.Sets.{setOwn}
 use Rattle.unnamed_set.specs.Unnamed.{badCall, blindTurns, refusal}
@@ -29,7 +29,7 @@ use Rattle.unnamed_set.specs.Unnamed.{badCall, blindTurns, refusal}
 module _ (kind : RoomKind) (s : Settings) (w : List ℕ) (t : ℕ) (key : List ℕ) (rate : RateLimit) (count : ℕ)
     (j : Judged) (e : j ≡ judged kind s w t key) where
   judged-code : j .code ≡ early kind s w t key
-  judged-code = ap (λ (y : Judged). y .code) e ∙ code-is kind s w t key
+  judged-code = ap (λ (y : Judged). y .code) e ∙ code-is kind s w t key (slotIn s w t key)
 
   pub refusal-early : (j .code ≡ 0 → ⊥) → j .code ≡ refusal kind s w t key rate count
   unfolding refusal

@@ -20,7 +20,7 @@ pub fn refusal(
 ) -> u64
     ensures { λ n. ⌜ n ≡ refusal kind settings (now (room .entry)) reading (now (key .entry)) rate count ⌝ }
 {
-    let j = judge::judge(kind, settings, room, reading, key);
+    let j = judge::judge(kind, settings, room, reading, key, judge::NO_LOOK);
     let code = j.code;
     if code != 0 {
         return code;

@@ -1,7 +1,6 @@
 -- The slot opened is the key's, what it planned can be carried out, and every refusal is settled before that.
 -- Assumes nothing.
 use mathlib.Core.Path.{refl, sym, ap, ap₂, subst, _∙_}
-use mathlib.Core.Bool.{Bool}
 use Prim.Native.Nat.{ℕ}
 use Rattle.common.specs.Limits.{absoluteWord}
 use Rattle.common.specs.Ranges.{rateOk}
@@ -10,10 +9,9 @@ use Rattle.room.specs.Room.{ringOf}
 use Rattle.settings.specs.Settings.{windowIn}
 use Rattle.settings.specs.Clock.{ticksIn}
 use Rattle.rules.specs.declared.RoomKind.the-variants.{Absolute}
-use Rattle.opened.specs.declared.Slot.{Slot}
-use Rattle.opened.specs.Slot.{noSlot, slotOf, firstLook}
+use Rattle.opened.specs.Slot.{noSlot, pickSlot, firstLook}
 use Rattle.judge.specs.declared.Judged.{Judged}
-use Rattle.judge.specs.Laws.{refused-is, passed-is, fault-early, no-fault}
+use Rattle.judge.specs.Laws.{refused-is, passed-is, fault-early, no-fault, opened-is, plain-is}
 use Rattle.change.specs.Words.{Applies, applied}
 use Rattle.plan.specs.Plan.{lacksAt}
 use Rattle.absolute_test.specs.Test.{allowedAt, decidedAt}
@@ -35,13 +33,14 @@ returns c =
     let a = y .before .before .before .before .args in
     let e = fault-early Absolute (a .settings) (a .room .now) (a .reading) (a .key .now) (y .fault .result) (y .fault .ensures) (c .if1 .taken) in
     inc-refused (a .settings) (a .room .now) (a .reading) (a .key .now) (a .rate) (a .count) (record { code = y .fault .result; slot = noSlot 0 })
-    (refused-is Absolute (a .settings) (a .room .now) (a .reading) (a .key .now) (y .fault .result) e (c .if1 .taken)) (c .if1 .taken)
+    (refused-is Absolute (a .settings) (a .room .now) (a .reading) (a .key .now) _ (y .fault .result) e (c .if1 .taken)) (c .if1 .taken)
 
 window-ticks-requires : tie.Need-window-ticks-requires
 window-ticks-requires c κs =
-    let y = c .before in
-    let a = y .before .before .before .before .args in
-    no-fault Absolute (a .settings) (a .room .now) (a .reading) (a .key .now) (sym (y .fault .ensures) ∙ c .if1 .left) .1 .window-high
+    let y = c in
+    let d = y .before in
+    let a = d .before .before .before .before .args in
+    no-fault Absolute (a .settings) (a .room .now) (a .reading) (a .key .now) (sym (d .fault .ensures) ∙ y .if1 .left) .1 .window-high
 
 address-requires : tie.Need-address-requires
 address-requires c κs =
@@ -59,17 +58,21 @@ open-at-requires c κs =
 
 misfit-requires : tie.Need-misfit-requires
 misfit-requires c κs =
-    let y = c .before in
+    let g = c .before in
+    let h = g .before in
+    let i = h .before .before in
+    let y = i .before in
     let d = y .before in
-    let m = d .before .before in
-    let n = m .before in
-    let o = n .before in
-    let a = o .before .before .before .before .args in
-    let none = no-fault Absolute (a .settings) (a .room .now) (a .reading) (a .key .now) (sym (o .fault .ensures) ∙ n .if1 .left) in (
-      none .0,
+    let a = d .before .before .before .before .args in
+    let none = no-fault Absolute (a .settings) (a .room .now) (a .reading) (a .key .now) (sym (d .fault .ensures) ∙ y .if1 .left) in (
+      record {
+        room = none .0;
+        reading = a .reading;
+        look = i .window-ticks .result;
+        is = opened-is Absolute (a .settings) (a .room .now) (a .reading) (a .key .now) _ _ _ (g .open-at .result) (g .open-at .ensures)
+            (i .window-ticks .ensures) (h .address .ensures);
+      },
       none .1,
-      y .open-at .ensures ∙ ap₂ (λ (ticks at : ℕ). slotOf ticks (a .room .now) (a .reading) at) (m .window-ticks .ensures)
-          (d .address .ensures),
     )
 
 same-length-2 : tie.Need-same-length-2
@@ -78,9 +81,10 @@ same-length-2 c = search needs
 returns-2 : tie.Need-returns-2
 returns-2 c =
     let y = c .before in
-    let a = y .before .before .before .before .before .before .before .before .before .before .before .args in
+    let a = c .before .before .before .before .before .before .before .before .before .before .before .before .args in
     inc-refused (a .settings) (a .room .now) (a .reading) (a .key .now) (a .rate) (a .count) (record { code = y .misfit .result; slot = noSlot 0 })
-    (refused-is Absolute (a .settings) (a .room .now) (a .reading) (a .key .now) (y .misfit .result) (sym (y .misfit .ensures)) (c .if2 .taken)) (c .if2 .taken)
+    (refused-is Absolute (a .settings) (a .room .now) (a .reading) (a .key .now) _ (y .misfit .result) (sym (y .misfit .ensures)) (c .if2 .taken))
+    (c .if2 .taken)
 
 place-requires : tie.Need-place-requires
 place-requires c κs =
@@ -99,29 +103,26 @@ look-ticks-requires c κs =
     let a = d .before .before .before .before .args in
     no-fault Absolute (a .settings) (a .room .now) (a .reading) (a .key .now) (sym (d .fault .ensures) ∙ y .if1 .left) .1 .window-high
 
-first-look-requires : tie.Need-first-look-requires
-first-look-requires c κs = search needs
-
-allows-requires : tie.Need-allows-requires
-allows-requires c κs = search needs
+allows-first-requires : tie.Need-allows-first-requires
+allows-first-requires c κs = search needs
 
 join-ticks-requires : tie.Need-join-ticks-requires
 join-ticks-requires c κs =
-    let y = c .before .before .before .before .before .before .before .before .before .before .before .before .before in
+    let y = c .before .before .before .before .before .before .before .before .before .before .before .before in
     let d = y .before in
     let a = d .before .before .before .before .args in
     no-fault Absolute (a .settings) (a .room .now) (a .reading) (a .key .now) (sym (d .fault .ensures) ∙ y .if1 .left) .1 .bucket-high
 
 clears-requires : tie.Need-clears-requires
 clears-requires c κs =
-    let y = c .before .before .before .before .before .before .before .before .before .before .before .before .before .before .before in
+    let y = c .before .before .before .before .before .before .before .before .before .before .before .before .before .before in
     let d = y .before in
     let a = d .before .before .before .before .args in
     no-fault Absolute (a .settings) (a .room .now) (a .reading) (a .key .now) (sym (d .fault .ensures) ∙ y .if1 .left) .0
 
 late-requires : tie.Need-late-requires
 late-requires c κs =
-    let y = c .before .before .before .before .before .before .before .before .before .before .before .before .before .before .before .before .before in
+    let y = c .before .before .before .before .before .before .before .before .before .before .before .before .before .before .before .before in
     let d = y .before in
     let a = d .before .before .before .before .args in
     no-fault Absolute (a .settings) (a .room .now) (a .reading) (a .key .now) (sym (d .fault .ensures) ∙ y .if1 .left) .0
@@ -135,8 +136,7 @@ returns-3 c =
     let d = y .before .before in
     let m = d .before .before in
     let n = m .before in
-    let o = n .before in
-    let p = o .before in
+    let p = n .before in
     let q = p .before in
     let r = q .before in
     let u = r .before .before in
@@ -147,26 +147,33 @@ returns-3 c =
     let a = i .before .before .before .before .before .before .args in
     let slot = g .open-at .result in
     let e = sym (v .misfit .ensures) ∙ u .if2 .left in
-    let slot-is = g .open-at .ensures ∙ ap₂ (λ (ticks at : ℕ). slotOf ticks (a .room .now) (a .reading) at) (i .window-ticks .ensures) (h .address .ensures) in
-    let looked = (o .first-look .ensures ∙ ap (λ (look : ℕ). firstLook look (a .reading) (g .open-at .result)) (p .look-ticks .ensures)) in
+    let slot-is = plain-is Absolute (a .settings) (a .room .now) (a .reading) (a .key .now) _ _ slot (g .open-at .ensures) (i .window-ticks .ensures)
+    (h .address .ensures) in
     let j : Judged = record { code = 0; slot = slot } in
-    let goes : Goes (a .settings) (a .room .now) (a .reading) (a .key .now) j = record
-    { is = passed-is Absolute (a .settings) (a .room .now) (a .reading) (a .key .now) slot e slot-is; none = refl } in
-    let may = n .allows .ensures ∙ ap₂ (λ (limit : ℕ) (x : Slot). allowedAt limit x) (q .cut-limit .ensures) looked in
+    let goes : Goes (a .settings) (a .room .now) (a .reading) (a .key .now) j = record {
+      is = passed-is Absolute (a .settings) (a .room .now) (a .reading)
+          (a .key .now) slot e slot-is;
+      none = refl;
+    } in
+    let may = n .allows-first .ensures ∙
+    ap₂ (λ (limit look : ℕ). allowedAt limit (firstLook look (a .reading) slot)) (q .cut-limit .ensures) (p .look-ticks .ensures) in
     let out = d .clears .ensures ∙
     ap₂ (λ (ticks limit : ℕ). clearsAt (ringOf (a .room .now)) ticks (a .reading) (a .count) limit slot) (m .join-ticks .ensures)
     (q .cut-limit .ensures) in
     let number = y .late .ensures ∙
-    ap (λ (ticks : ℕ). first (incRefusals (ringOf (a .room .now)) ticks (a .reading) (a .count) (rateOk (a .rate .0)) (n .allows .result)
+    ap (λ (ticks : ℕ). first (incRefusals (ringOf (a .room .now)) ticks (a .reading) (a .count) (rateOk (a .rate .0)) (n .allows-first .result)
     (lacksAt (a .room .now) (r .place .result) slot) (d .clears .result) slot)) (m .join-ticks .ensures) in
-    inc-late (a .settings) (a .room .now) (a .reading) (a .key .now) (a .rate) (a .count) j (r .place .result) (n .allows .result)
-    (d .clears .result) (y .late .result)
+    inc-late (a .settings) (a .room .now) (a .reading) (a .key .now) (a .rate) (a .count) j (r .place .result) (n .allows-first .result) (d .clears .result)
+    (y .late .result)
     (record { goes = goes; place-is = r .place .ensures; may-is = may; out-is = out; number-is = number }) (c .if3 .taken)
+
+looked-unless-requires : tie.Need-looked-unless-requires
+looked-unless-requires c κs = search needs
 
 decided-requires : tie.Need-decided-requires
 decided-requires c κs =
-    let e = c .before .before .before .before .before .before .before .before .before in
-    let y = e .before .before .before .before .before .before .before .before .before .before in
+    let z = c .before .before .before .before .before .before .before .before .before .before in
+    let y = z .before .before .before .before .before .before .before .before .before in
     let d = y .before in
     let a = d .before .before .before .before .args in
     no-fault Absolute (a .settings) (a .room .now) (a .reading) (a .key .now) (sym (d .fault .ensures) ∙ y .if1 .left) .1 .window-high
@@ -176,91 +183,102 @@ inc-change-requires c κs = search needs
 
 apply-requires : tie.Need-apply-requires
 apply-requires c κs =
-    let y = c .before in
+    let x = c .before in
+    let w = x .before .before in
+    let z = w .before in
+    let y = z .before in
     let d = y .before .before in
-    let m = d .before in
-    let n = m .before .before in
-    let o = n .before .before in
-    let p = o .before in
+    let m = d .before .before in
+    let n = m .before in
+    let p = n .before in
     let q = p .before in
     let r = q .before in
-    let u = r .before in
+    let u = r .before .before in
     let v = u .before in
     let g = v .before .before in
     let h = g .before in
     let i = h .before .before in
-    let k = i .before in
-    let f = k .before .before in
-    let a = f .before .before .before .before .before .before .args in
-    let slot = i .open-at .result in
-    let e = sym (h .misfit .ensures) ∙ g .if2 .left in
-    let slot-is = i .open-at .ensures ∙ ap₂ (λ (ticks at : ℕ). slotOf ticks (a .room .now) (a .reading) at) (f .window-ticks .ensures) (k .address .ensures) in
-    let looked = (q .first-look .ensures ∙ ap (λ (look : ℕ). firstLook look (a .reading) (i .open-at .result)) (r .look-ticks .ensures)) in
+    let a = i .before .before .before .before .before .before .args in
+    let slot = g .open-at .result in
+    let e = sym (v .misfit .ensures) ∙ u .if2 .left in
+    let slot-is = plain-is Absolute (a .settings) (a .room .now) (a .reading) (a .key .now) _ _ slot (g .open-at .ensures) (i .window-ticks .ensures)
+    (h .address .ensures) in
     let j : Judged = record { code = 0; slot = slot } in
-    let goes : Goes (a .settings) (a .room .now) (a .reading) (a .key .now) j = record
-    { is = passed-is Absolute (a .settings) (a .room .now) (a .reading) (a .key .now) slot e slot-is; none = refl } in
-    let may = p .allows .ensures ∙ ap₂ (λ (limit : ℕ) (x : Slot). allowedAt limit x) (u .cut-limit .ensures) looked in
-    let out = n .clears .ensures ∙
-    ap₂ (λ (ticks limit : ℕ). clearsAt (ringOf (a .room .now)) ticks (a .reading) (a .count) limit slot) (o .join-ticks .ensures)
-    (u .cut-limit .ensures) in
-    let number = m .late .ensures ∙
-    ap (λ (ticks : ℕ). first (incRefusals (ringOf (a .room .now)) ticks (a .reading) (a .count) (rateOk (a .rate .0)) (p .allows .result)
-    (lacksAt (a .room .now) (v .place .result) slot) (n .clears .result) slot)) (o .join-ticks .ensures) in
-    subst (λ (ticks : ℕ). Applies (a .room .now) (v .place .result) ticks (a .reading) (y .inc-change .result)) (sym (o .join-ticks .ensures))
-    (inc-fits (a .settings) (a .room .now) (a .reading) (a .key .now) (a .rate) (a .count) j (v .place .result) (p .allows .result)
-    (n .clears .result) (m .late .result)
-    (record { goes = goes; place-is = v .place .ensures; may-is = may; out-is = out; number-is = number }) (d .if3 .left)
-    (y .inc-change .result) (y .inc-change .ensures ∙
-    ap (incChange (absoluteWord (a .rate .0) (windowIn (a .settings))) (a .count) (p .allows .result) (n .clears .result) slot) looked))
+    let goes : Goes (a .settings) (a .room .now) (a .reading) (a .key .now) j = record {
+      is = passed-is Absolute (a .settings) (a .room .now) (a .reading)
+          (a .key .now) slot e slot-is;
+      none = refl;
+    } in
+    let may = n .allows-first .ensures ∙
+    ap₂ (λ (limit look : ℕ). allowedAt limit (firstLook look (a .reading) slot)) (q .cut-limit .ensures) (p .look-ticks .ensures) in
+    let out = d .clears .ensures ∙
+    ap₂ (λ (ticks limit : ℕ). clearsAt (ringOf (a .room .now)) ticks (a .reading) (a .count) limit slot) (m .join-ticks .ensures)
+    (q .cut-limit .ensures) in
+    let number = y .late .ensures ∙
+    ap (λ (ticks : ℕ). first (incRefusals (ringOf (a .room .now)) ticks (a .reading) (a .count) (rateOk (a .rate .0)) (n .allows-first .result)
+    (lacksAt (a .room .now) (r .place .result) slot) (d .clears .result) slot)) (m .join-ticks .ensures) in
+    let looked = w .looked-unless .ensures ∙
+    ap (λ (look : ℕ). pickSlot (n .allows-first .result) slot (firstLook look (a .reading) slot)) (p .look-ticks .ensures) in
+    subst (λ (ticks : ℕ). Applies (a .room .now) (r .place .result) ticks (a .reading) (x .inc-change .result)) (sym (m .join-ticks .ensures))
+    (inc-fits (a .settings) (a .room .now) (a .reading) (a .key .now) (a .rate) (a .count) j (r .place .result) (n .allows-first .result)
+    (d .clears .result) (y .late .result)
+    (record { goes = goes; place-is = r .place .ensures; may-is = may; out-is = out; number-is = number }) (z .if3 .left)
+    (x .inc-change .result) (x .inc-change .ensures ∙
+    ap (incChange (absoluteWord (a .rate .0) (windowIn (a .settings))) (a .count) (n .allows-first .result) (d .clears .result) slot) looked))
 
 same-length-4 : tie.Need-same-length-4
 same-length-4 c = search needs
 
 returns-4 : tie.Need-returns-4
 returns-4 c =
-    let y = c .before .before in
+    let b = c .before .before in
+    let x = b .before .before in
+    let k = x .before in
+    let w = k .before in
+    let z = w .before in
+    let y = z .before in
     let d = y .before .before in
-    let m = d .before in
+    let m = d .before .before in
     let n = m .before in
-    let o = n .before in
-    let p = o .before .before in
-    let q = p .before .before in
+    let p = n .before in
+    let q = p .before in
     let r = q .before in
-    let u = r .before in
+    let u = r .before .before in
     let v = u .before in
-    let g = v .before in
+    let g = v .before .before in
     let h = g .before in
     let i = h .before .before in
-    let k = i .before in
-    let f = k .before .before in
-    let l = f .before in
-    let b = l .before .before in
-    let a = b .before .before .before .before .before .before .args in
-    let slot = f .open-at .result in
-    let e = sym (k .misfit .ensures) ∙ i .if2 .left in
-    let slot-is = f .open-at .ensures ∙ ap₂ (λ (ticks at : ℕ). slotOf ticks (a .room .now) (a .reading) at) (b .window-ticks .ensures) (l .address .ensures) in
-    let looked = (u .first-look .ensures ∙ ap (λ (look : ℕ). firstLook look (a .reading) (f .open-at .result)) (v .look-ticks .ensures)) in
+    let a = i .before .before .before .before .before .before .args in
+    let slot = g .open-at .result in
+    let e = sym (v .misfit .ensures) ∙ u .if2 .left in
+    let slot-is = plain-is Absolute (a .settings) (a .room .now) (a .reading) (a .key .now) _ _ slot (g .open-at .ensures) (i .window-ticks .ensures)
+    (h .address .ensures) in
     let j : Judged = record { code = 0; slot = slot } in
-    let goes : Goes (a .settings) (a .room .now) (a .reading) (a .key .now) j = record
-    { is = passed-is Absolute (a .settings) (a .room .now) (a .reading) (a .key .now) slot e slot-is; none = refl } in
-    let may = r .allows .ensures ∙ ap₂ (λ (limit : ℕ) (x : Slot). allowedAt limit x) (g .cut-limit .ensures) looked in
-    let out = p .clears .ensures ∙
-    ap₂ (λ (ticks limit : ℕ). clearsAt (ringOf (a .room .now)) ticks (a .reading) (a .count) limit slot) (q .join-ticks .ensures)
-    (g .cut-limit .ensures) in
-    let number = o .late .ensures ∙
-    ap (λ (ticks : ℕ). first (incRefusals (ringOf (a .room .now)) ticks (a .reading) (a .count) (rateOk (a .rate .0)) (r .allows .result)
-    (lacksAt (a .room .now) (h .place .result) slot) (p .clears .result) slot)) (q .join-ticks .ensures) in
-    inc-done (a .settings) (a .room .now) (a .reading) (a .key .now) (a .rate) (a .count) j (h .place .result) (r .allows .result)
-    (p .clears .result) (o .late .result)
-    (record { goes = goes; place-is = h .place .ensures; may-is = may; out-is = out; number-is = number }) (n .if3 .left)
-    (d .inc-change .result) (d .inc-change .ensures ∙
-    ap (incChange (absoluteWord (a .rate .0) (windowIn (a .settings))) (a .count) (r .allows .result) (p .clears .result) slot) looked)
-    (y .apply .last .0)
-    (y .apply .ensures ∙
-    ap (λ (ticks : ℕ). applied (a .room .now) (h .place .result) (a .key .now) ticks (a .reading) (d .inc-change .result)) (q .join-ticks .ensures))
-    (m .decided .result)
-    (m .decided .ensures ∙
-    ap₂ (λ (allowed : Bool) (x : Slot). decidedAt (ticksIn (a .settings)) (a .settings .«window_size») (a .reading) allowed x) may looked)
+    let goes : Goes (a .settings) (a .room .now) (a .reading) (a .key .now) j = record {
+      is = passed-is Absolute (a .settings) (a .room .now) (a .reading)
+          (a .key .now) slot e slot-is;
+      none = refl;
+    } in
+    let may = n .allows-first .ensures ∙
+    ap₂ (λ (limit look : ℕ). allowedAt limit (firstLook look (a .reading) slot)) (q .cut-limit .ensures) (p .look-ticks .ensures) in
+    let out = d .clears .ensures ∙
+    ap₂ (λ (ticks limit : ℕ). clearsAt (ringOf (a .room .now)) ticks (a .reading) (a .count) limit slot) (m .join-ticks .ensures)
+    (q .cut-limit .ensures) in
+    let number = y .late .ensures ∙
+    ap (λ (ticks : ℕ). first (incRefusals (ringOf (a .room .now)) ticks (a .reading) (a .count) (rateOk (a .rate .0)) (n .allows-first .result)
+    (lacksAt (a .room .now) (r .place .result) slot) (d .clears .result) slot)) (m .join-ticks .ensures) in
+    let looked = w .looked-unless .ensures ∙
+    ap (λ (look : ℕ). pickSlot (n .allows-first .result) slot (firstLook look (a .reading) slot)) (p .look-ticks .ensures) in
+    inc-done (a .settings) (a .room .now) (a .reading) (a .key .now) (a .rate) (a .count) j (r .place .result) (n .allows-first .result) (d .clears .result)
+    (y .late .result)
+    (record { goes = goes; place-is = r .place .ensures; may-is = may; out-is = out; number-is = number }) (z .if3 .left)
+    (x .inc-change .result) (x .inc-change .ensures ∙
+    ap (incChange (absoluteWord (a .rate .0) (windowIn (a .settings))) (a .count) (n .allows-first .result) (d .clears .result) slot) looked)
+    (b .apply .last .0)
+    (b .apply .ensures ∙
+    ap (λ (ticks : ℕ). applied (a .room .now) (r .place .result) (a .key .now) ticks (a .reading) (x .inc-change .result)) (m .join-ticks .ensures))
+    (k .decided .result)
+    (k .decided .ensures ∙ ap (decidedAt (ticksIn (a .settings)) (a .settings .«window_size») (a .reading) (n .allows-first .result)) looked)
 
 pub inc-spec : {M : Type 1} → statement M
 inc-spec =
@@ -278,13 +296,13 @@ inc-spec =
     place-requires
     cut-limit-requires
     look-ticks-requires
-    first-look-requires
-    allows-requires
+    allows-first-requires
     join-ticks-requires
     clears-requires
     late-requires
     same-length-3
     returns-3
+    looked-unless-requires
     decided-requires
     inc-change-requires
     apply-requires

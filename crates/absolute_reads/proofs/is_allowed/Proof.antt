@@ -1,14 +1,11 @@
--- The slot judged is the key's, and what it planned can be carried out.
-use mathlib.Core.Path.{sym, ap, ap₂, subst, _∙_}
+-- The slot judged is the key's as a first look leaves it, and what it planned can be carried out.
+use mathlib.Core.Path.{sym, ap, subst, _∙_}
 use mathlib.Core.Bool.{Bool}
 use Prim.Native.Nat.{ℕ}
 use Rattle.settings.specs.Clock.{ticksIn}
-use Rattle.opened.specs.declared.Slot.{Slot}
-use Rattle.opened.specs.Slot.{firstLook}
 use Rattle.change.specs.Words.{Applies, applied}
 use Rattle.absolute_test.specs.Test.{evicts, allowedAt, decidedAt}
-use Rattle.absolute_opened.specs.Opened.{askChange}
-use Rattle.absolute_verdicts.specs.Told.{window-fits, bucket-fits, ask-refused, ask-fits, ask-done}
+use Rattle.absolute_verdicts.specs.Told.{ask-window, ask-bucket, ask-refused, ask-fits, ask-done}
 use borrow.Author.Needs.{needs}
 use Rattle.absolute_reads.proofs.is_allowed.Statement.{statement}
 use Rattle.absolute_reads.proofs.is_allowed.Tie as tie
@@ -28,35 +25,25 @@ returns c =
 cut-limit-requires : tie.Need-cut-limit-requires
 cut-limit-requires c κs = search needs
 
-look-ticks-requires : tie.Need-look-ticks-requires
-look-ticks-requires c κs =
-    let y = c .before .before in
-    let d = y .before in
-    let a = d .before .before .before .before .args in
-    window-fits (a .settings) (a .room .now) (a .reading) (a .key .now) (d .judge .result) (record { is = d .judge .ensures; none = y .if1 .left })
-
-first-look-requires : tie.Need-first-look-requires
-first-look-requires c κs = search needs
-
 allows-requires : tie.Need-allows-requires
 allows-requires c κs = search needs
 
 decided-requires : tie.Need-decided-requires
 decided-requires c κs =
-    let y = c .before .before .before .before .before in
+    let y = c .before .before .before in
     let d = y .before in
     let a = d .before .before .before .before .args in
-    window-fits (a .settings) (a .room .now) (a .reading) (a .key .now) (d .judge .result) (record { is = d .judge .ensures; none = y .if1 .left })
+    ask-window (a .settings) (a .room .now) (a .reading) (a .key .now) (d .judge .result) (d .judge .ensures) (y .if1 .left)
 
 evicts-requires : tie.Need-evicts-requires
 evicts-requires c κs = search needs
 
 join-ticks-requires : tie.Need-join-ticks-requires
 join-ticks-requires c κs =
-    let y = c .before .before .before .before .before .before .before in
+    let y = c .before .before .before .before .before in
     let d = y .before in
     let a = d .before .before .before .before .args in
-    bucket-fits (a .settings) (a .room .now) (a .reading) (a .key .now) (d .judge .result) (record { is = d .judge .ensures; none = y .if1 .left })
+    ask-bucket (a .settings) (a .room .now) (a .reading) (a .key .now) (d .judge .result) (d .judge .ensures) (y .if1 .left)
 
 ask-change-requires : tie.Need-ask-change-requires
 ask-change-requires c κs = search needs
@@ -65,18 +52,12 @@ apply-requires : tie.Need-apply-requires
 apply-requires c κs =
     let y = c .before .before in
     let d = y .before in
-    let m = d .before .before .before in
-    let n = m .before in
-    let o = n .before in
-    let p = o .before .before in
+    let p = d .before .before .before .before .before in
     let q = p .before in
     let a = q .before .before .before .before .args in
     subst (λ (ticks : ℕ). Applies (a .room .now) (q .judge .result .slot .at) ticks (a .reading) (c .ask-change .result)) (sym (y .join-ticks .ensures))
-    (ask-fits (a .settings) (a .room .now) (a .reading) (a .key .now) (q .judge .result) (record { is = q .judge .ensures; none = p .if1 .left })
-    (d .evicts .result) (d .evicts .ensures ∙ ap (λ (limit : ℕ). evicts limit (q .judge .result .slot)) (o .cut-limit .ensures))
-    (c .ask-change .result) (c .ask-change .ensures ∙
-    ap (askChange (d .evicts .result)) (m .first-look .ensures ∙ ap (λ (look : ℕ). firstLook look (a .reading) (q .judge .result .slot))
-    (n .look-ticks .ensures))))
+    (ask-fits (a .settings) (a .room .now) (a .reading) (a .key .now) (q .judge .result) (q .judge .ensures) (p .if1 .left)
+    (d .evicts .result) (c .ask-change .result) (c .ask-change .ensures))
 
 same-length-2 : tie.Need-same-length-2
 same-length-2 c = search needs
@@ -89,25 +70,19 @@ returns-2 c =
     let n = m .before in
     let o = n .before in
     let p = o .before in
-    let q = p .before in
-    let r = q .before in
-    let u = r .before in
+    let u = p .before in
     let v = u .before .before in
     let g = v .before in
     let a = g .before .before .before .before .args in
-    let may = p .allows .ensures ∙ ap₂ (λ (limit : ℕ) (slot : Slot). allowedAt limit slot) (u .cut-limit .ensures)
-    (q .first-look .ensures ∙ ap (λ (look : ℕ). firstLook look (a .reading) (g .judge .result .slot)) (r .look-ticks .ensures)) in
-    ask-done (a .settings) (a .room .now) (a .reading) (a .key .now) (g .judge .result) (record { is = g .judge .ensures; none = v .if1 .left })
-    (n .evicts .result) (n .evicts .ensures ∙ ap (λ (limit : ℕ). evicts limit (g .judge .result .slot)) (u .cut-limit .ensures))
-    (d .ask-change .result) (d .ask-change .ensures ∙
-    ap (askChange (n .evicts .result)) (q .first-look .ensures ∙ ap (λ (look : ℕ). firstLook look (a .reading) (g .judge .result .slot))
-    (r .look-ticks .ensures))) (y .apply .last .0)
-    (y .apply .ensures ∙
-    ap (λ (ticks : ℕ). applied (a .room .now) (g .judge .result .slot .at) (a .key .now) ticks (a .reading) (d .ask-change .result)) (m .join-ticks .ensures))
+    let slot = g .judge .result .slot in
+    let may = p .allows .ensures ∙ ap (λ (limit : ℕ). allowedAt limit slot) (u .cut-limit .ensures) in
+    ask-done (a .settings) (a .room .now) (a .reading) (a .key .now) (g .judge .result) (g .judge .ensures) (v .if1 .left)
+    (n .evicts .result) (n .evicts .ensures ∙ ap (λ (limit : ℕ). evicts limit slot) (u .cut-limit .ensures))
+    (d .ask-change .result) (d .ask-change .ensures) (y .apply .last .0)
+    (y .apply .ensures ∙ ap (λ (ticks : ℕ). applied (a .room .now) (slot .at) (a .key .now) ticks (a .reading) (d .ask-change .result))
+    (m .join-ticks .ensures))
     (o .decided .result)
-    (o .decided .ensures ∙
-    ap₂ (λ (allowed : Bool) (slot : Slot). decidedAt (ticksIn (a .settings)) (a .settings .«window_size») (a .reading) allowed slot) may
-    (q .first-look .ensures ∙ ap (λ (look : ℕ). firstLook look (a .reading) (g .judge .result .slot)) (r .look-ticks .ensures)))
+    (o .decided .ensures ∙ ap (λ (allowed : Bool). decidedAt (ticksIn (a .settings)) (a .settings .«window_size») (a .reading) allowed slot) may)
 
 pub is-allowed-spec : {M : Type 1} → statement M
 is-allowed-spec =
@@ -117,8 +92,6 @@ is-allowed-spec =
     same-length
     returns
     cut-limit-requires
-    look-ticks-requires
-    first-look-requires
     allows-requires
     decided-requires
     evicts-requires

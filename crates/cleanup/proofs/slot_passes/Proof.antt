@@ -2,6 +2,7 @@
 use mathlib.Core.Path.{sym, ap, _∙_}
 use Prim.Native.Nat.{ℕ}
 use Rattle.opened.specs.Slot.{slotOf}
+use Rattle.opened.specs.Look.{plain-slot}
 use borrow.Author.Tests.{not-true, not-false}
 use Rattle.cleanup.specs.Laws.{passes-free, fails-key, passes-right}
 use borrow.Author.Needs.{needs}
@@ -50,7 +51,8 @@ returns-3 c =
     let a = s .args in
     passes-right (a .kind) (a .settings) (a .w .now) (a .i) (a .reading) (u .use-of .result) (o .open-at .result) (c .slot-right .result) (s .pre .1)
     (λ z. k .before .if1 .left (u .use-of .ensures ∙ z)) (sym (k .key-fits .ensures) ∙ not-false (k .key-fits .result) (n .before .if2 .left))
-    (u .use-of .ensures) (o .open-at .ensures ∙ ap (λ (W : ℕ). slotOf W (a .w .now) (a .reading) (a .i)) (n .window-ticks .ensures)) (c .slot-right .ensures)
+    (u .use-of .ensures) (o .open-at .ensures ∙ plain-slot (n .window-ticks .result) (a .w .now) (a .reading) (a .i) ∙
+    ap (λ (W : ℕ). slotOf W (a .w .now) (a .reading) (a .i)) (n .window-ticks .ensures)) (c .slot-right .ensures)
 
 pub slot-passes-spec : {M : Type 1} → statement M
 slot-passes-spec =

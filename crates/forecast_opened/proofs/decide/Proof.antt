@@ -1,6 +1,9 @@
 -- Each arm is its case of the definition; a constant is its bits.
 use mathlib.Core.Path.{sym, subst}
 use lib.Ieee.{ofBits}
+use Prim.Native.Nat.{_≤_}
+use Rattle.settings.specs.Settings.{cacheIn}
+use Rattle.settings.specs.declared.Settings.{Settings}
 use Rattle.factor_opened.specs.Opened.{InRoom, workedAt, askedAt}
 use Rattle.forecast_opened.specs.Forecast.{outcomeAt}
 use borrow.Author.Needs.{needs}
@@ -34,13 +37,18 @@ full-at-requires-2 c κs = search needs
 enum-told-4 : tie.Need-enum-told-4
 enum-told-4 c = search needs
 
+again-requires : tie.Need-again-requires
+again-requires c κs = search needs
+
 rebuilt-requires : tie.Need-rebuilt-requires
 rebuilt-requires c κs = search needs
 
 ask-by-requires : tie.Need-ask-by-requires
 ask-by-requires c κs =
-    let a = c .before .before .before .before .before .before .before in
-    (subst (InRoom (a .args .w .now)) (sym (c .rebuilt .ensures)) (a .pre .0), a .pre .1)
+    let a = c .before .before .before .before .before .before .before .before in (
+      subst (InRoom (a .args .w .now)) (sym (c .rebuilt .ensures)) (a .pre .0),
+      subst (λ (s : Settings). cacheIn s ≤ 4294967296) (sym (c .before .again .ensures)) (a .pre .1),
+    )
 
 draw-by-requires : tie.Need-draw-by-requires
 draw-by-requires c κs = search needs
@@ -72,12 +80,13 @@ returns-3 c =
 returns-4 : tie.Need-returns-4
 unfolding outcomeAt askedAt workedAt
 returns-4 c =
-    let k = c .before .before .before .before .before in
+    let k = c .before .before .before .before .before .before in
     rw (
       ← k .before .before .soft-limit .ensures,
       ← k .before .cut-limit .ensures,
       ← k .reach-of .ensures,
-      c .before .before .before .enum-told4 .given .1,
+      c .before .before .before .before .enum-told4 .given .1,
+      ← c .before .before .before .again .ensures,
       ← c .before .before .rebuilt .ensures,
       ← c .before .ask-by .ensures,
     ) (c .draw-by .ensures)
@@ -95,6 +104,7 @@ decide-spec =
     enum-told-3
     full-at-requires-2
     enum-told-4
+    again-requires
     rebuilt-requires
     ask-by-requires
     draw-by-requires

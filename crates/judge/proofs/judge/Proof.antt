@@ -1,9 +1,10 @@
 -- The settings and lengths, then the rest.
 -- Assumes nothing.
-use mathlib.Core.Path.{_∙_, sym, ap₂}
+use mathlib.Core.Path.{_∙_, sym, ap}
 use Prim.Native.Nat.{ℕ}
-use Rattle.opened.specs.Slot.{slotOf}
-use Rattle.judge.specs.Laws.{refused-is, passed-is, fault-early, no-fault}
+use Rattle.opened.specs.Slot.{firstLook}
+use Rattle.judge.specs.Judge.{slotIn, slotBy}
+use Rattle.judge.specs.Laws.{refused-is, passed-is, fault-early, no-fault, opened-is, slot-by}
 use borrow.Author.Needs.{needs}
 use Rattle.judge.proofs.judge.Statement.{statement}
 use Rattle.judge.proofs.judge.Tie as tie
@@ -22,7 +23,7 @@ returns c =
     let key = a .args .key .now in
     let t = a .args .reading in
     let n = c .before .before .fault in
-    c .refused .ensures ∙ refused-is (a .args .kind) s w t key (n .result)
+    c .refused .ensures ∙ refused-is (a .args .kind) s w t key (slotBy (a .args .first) s w t key) (n .result)
     (fault-early (a .args .kind) s w t key (n .result) (n .ensures) (c .before .if1 .taken)) (c .before .if1 .taken)
 
 window-ticks-requires : tie.Need-window-ticks-requires
@@ -34,17 +35,17 @@ window-ticks-requires c κs =
     let t = a .args .reading in
     no-fault (a .args .kind) s w t key (sym (c .before .fault .ensures) ∙ c .if1 .left) .1 .window-high
 
-address-requires : tie.Need-address-requires
-address-requires c κs =
+look-of-requires : tie.Need-look-of-requires
+look-of-requires c κs =
     let a = c .before .before .before .before .before in
     let s = a .args .settings in
     let w = a .args .w .now in
     let key = a .args .key .now in
     let t = a .args .reading in
-    no-fault (a .args .kind) s w t key (sym (c .before .before .fault .ensures) ∙ c .before .if1 .left) .0
+    no-fault (a .args .kind) s w t key (sym (c .before .before .fault .ensures) ∙ c .before .if1 .left) .1 .window-high
 
-open-at-requires : tie.Need-open-at-requires
-open-at-requires c κs =
+address-requires : tie.Need-address-requires
+address-requires c κs =
     let a = c .before .before .before .before .before .before in
     let s = a .args .settings in
     let w = a .args .w .now in
@@ -52,40 +53,64 @@ open-at-requires c κs =
     let t = a .args .reading in
     no-fault (a .args .kind) s w t key (sym (c .before .before .before .fault .ensures) ∙ c .before .before .if1 .left) .0
 
-misfit-requires : tie.Need-misfit-requires
-misfit-requires c κs =
+open-at-requires : tie.Need-open-at-requires
+open-at-requires c κs =
     let a = c .before .before .before .before .before .before .before in
     let s = a .args .settings in
     let w = a .args .w .now in
     let key = a .args .key .now in
     let t = a .args .reading in
-    let o = no-fault (a .args .kind) s w t key (sym (c .before .before .before .before .fault .ensures) ∙ c .before .before .before .if1 .left) in
-    (o .0, o .1, c .open-at .ensures ∙ ap₂ (λ (W i : ℕ). slotOf W w t i) (c .before .before .window-ticks .ensures) (c .before .address .ensures))
+    no-fault (a .args .kind) s w t key (sym (c .before .before .before .before .fault .ensures) ∙ c .before .before .before .if1 .left) .0
+
+misfit-requires : tie.Need-misfit-requires
+misfit-requires c κs =
+    let a = c .before .before .before .before .before .before .before .before in
+    let s = a .args .settings in
+    let w = a .args .w .now in
+    let key = a .args .key .now in
+    let t = a .args .reading in
+    let o = no-fault (a .args .kind) s w t key (sym (c .before .before .before .before .before .fault .ensures) ∙
+    c .before .before .before .before .if1 .left) in
+    let x = c .open-at in (
+      record {
+        room = o .0;
+        reading = t;
+        look = c .before .before .look-of .result;
+        is = opened-is (a .args .kind) s w t key (c .before .before .look-of .result) (c .before .before .before .window-ticks .result)
+            (c .before .address .result) (x .result) (x .ensures) (c .before .before .before .window-ticks .ensures) (c .before .address .ensures);
+      },
+      o .1,
+    )
 
 refused-requires-2 : tie.Need-refused-requires-2
 refused-requires-2 c κs = search needs
 
 returns-2 : tie.Need-returns-2
 returns-2 c =
-    let a = c .before .before .before .before .before .before .before .before .before .before in
+    let a = c .before .before .before .before .before .before .before .before .before .before .before in
     let s = a .args .settings in
     let w = a .args .w .now in
     let key = a .args .key .now in
     let t = a .args .reading in
     let m = c .before .before .misfit in
-    c .refused2 .ensures ∙ refused-is (a .args .kind) s w t key (m .result) (sym (m .ensures)) (c .before .if2 .taken)
+    c .refused2 .ensures ∙
+    refused-is (a .args .kind) s w t key (slotBy (a .args .first) s w t key) (m .result) (sym (m .ensures)) (c .before .if2 .taken)
 
 returns-3 : tie.Need-returns-3
 returns-3 c =
-    let a = c .before .before .before .before .before .before .before .before .before in
+    let a = c .before .before .before .before .before .before .before .before .before .before in
     let s = a .args .settings in
     let w = a .args .w .now in
     let key = a .args .key .now in
     let t = a .args .reading in
     let m = c .before .misfit in
-    passed-is (a .args .kind) s w t key (c .before .before .open-at .result) (sym (m .ensures) ∙ c .if2 .left)
-    (c .before .before .open-at .ensures ∙
-    ap₂ (λ (W i : ℕ). slotOf W w t i) (c .before .before .before .before .window-ticks .ensures) (c .before .before .before .address .ensures))
+    let x = c .before .before .open-at in
+    let i = c .before .before .before .address in
+    let l = c .before .before .before .before .look-of in
+    let n = c .before .before .before .before .before .window-ticks in
+    passed-is (a .args .kind) s w t key (x .result) (sym (m .ensures) ∙ c .if2 .left)
+    (opened-is (a .args .kind) s w t key (l .result) (n .result) (i .result) (x .result) (x .ensures) (n .ensures) (i .ensures) ∙
+    ap (λ (look : ℕ). firstLook look t (slotIn s w t key)) (l .ensures) ∙ slot-by (a .args .kind) s w t key (a .args .first))
 
 pub judge-spec : {M : Type 1} → statement M
 judge-spec =
@@ -95,6 +120,7 @@ judge-spec =
     refused-requires
     returns
     window-ticks-requires
+    look-of-requires
     address-requires
     open-at-requires
     misfit-requires

@@ -8,7 +8,7 @@ use Rattle.judge.proofs.misfit.Statement.{statement}
 use Rattle.judge.proofs.misfit.Tie as tie
 
 sound-at-requires : tie.Need-sound-at-requires
-sound-at-requires c κs = let a = c .before .before in record { room = a .pre .0; reading = a .args .reading; is = a .pre .2 }
+sound-at-requires c κs = c .before .before .pre .0
 
 returns : tie.Need-returns
 returns c =
@@ -18,7 +18,7 @@ returns c =
     let key = a .args .key .now in
     let t = a .args .reading in
     let e = c .before .sound-at in
-    sym (early-unsound (a .args .kind) s w t key (a .pre .1) (a .pre .0) (sym (e .ensures) ∙ not-true (e .result) (c .if1 .taken)))
+    sym (early-unsound (a .args .kind) s w t key (a .pre .1) (a .pre .0 .room) (sym (e .ensures) ∙ not-true (e .result) (c .if1 .taken)))
 
 shared-slice-read-if2 : tie.Need-shared-slice-read-if2
 shared-slice-read-if2 c = search needs
@@ -31,7 +31,7 @@ returns-2 c =
     let key = a .args .key .now in
     let t = a .args .reading in
     let e = c .before .before .before .sound-at in
-    sym (early-reading (a .args .kind) s w t key (a .pre .1) (a .pre .0) (sym (e .ensures) ∙ not-false (e .result) (c .before .before .if1 .left))
+    sym (early-reading (a .args .kind) s w t key (a .pre .1) (a .pre .0 .room) (sym (e .ensures) ∙ not-false (e .result) (c .before .before .if1 .left))
     (c .if2 .taken))
 
 returns-3 : tie.Need-returns-3
@@ -42,7 +42,7 @@ returns-3 c =
     let key = a .args .key .now in
     let t = a .args .reading in
     let e = c .before .before .before .before .sound-at in
-    sym (early-key (a .args .kind) s w t key (a .pre .1) (a .pre .0) (sym (e .ensures) ∙ not-false (e .result) (c .before .before .before .if1 .left))
+    sym (early-key (a .args .kind) s w t key (a .pre .1) (a .pre .0 .room) (sym (e .ensures) ∙ not-false (e .result) (c .before .before .before .if1 .left))
     (c .before .if2 .left)
     (c .if3 .taken))
 
@@ -57,7 +57,7 @@ returns-4 c =
     sym (early-none (a .args .kind) s w t key
     (record {
       settings = a .pre .1;
-      room = a .pre .0;
+      room = a .pre .0 .room;
       sound = sym (e .ensures) ∙ not-false (e .result) (c .before .before .before .if1 .left);
       later = c .before .if2 .left;
       short = c .if3 .left;

@@ -1,8 +1,9 @@
 -- The body that is lent is the slot's, and it is opened.
-use mathlib.Core.Path.{_∙_, sym, ap₂}
+use mathlib.Core.Path.{_∙_, sym, ap, ap₂}
 use mathlib.Core.List.{List}
 use Prim.Native.Nat.{ℕ}
-use Rattle.opened.specs.Slot.{opened}
+use Rattle.opened.specs.Slot.{opened, firstLook}
+use Rattle.opened.specs.Look.{no-slot-look}
 use Rattle.opened.specs.Right.{slot-here, slot-none}
 use Rattle.room.specs.Room.{ringOf, lastOf}
 use Rattle.room.specs.Laws.{part-body, part-length}
@@ -24,7 +25,9 @@ no-slot-requires : tie.Need-no-slot-requires
 no-slot-requires c κs = search needs
 
 returns : tie.Need-returns
-returns c = rw (slot-none _ _ _ _ (c .before .if1 .taken)) (c .no-slot .ensures)
+returns c =
+    let a = c .before .before .before .before .before .before .args in
+    rw (slot-none _ _ _ _ (c .before .if1 .taken)) (c .no-slot .ensures ∙ no-slot-look (a .look) (a .reading) _)
 
 use-of-requires : tie.Need-use-of-requires
 use-of-requires c κs = search needs
@@ -66,9 +69,9 @@ returns-2 c =
     let w = a .args .w .now in
     let at = a .args .at in
     c .open-body .ensures ∙
-    ap₂ (λ (u : ℕ) (b : List ℕ). opened (a .args .window) (ringOf w) (lastOf w) (a .args .reading) at u b) (k .before .use-of .ensures)
-    (part-body w (k .start .result) at (k .start .ensures .at)) ∙
-    sym (slot-here (a .args .window) (a .args .reading) w at (k .before .before .if1 .left))
+    ap₂ (λ (u : ℕ) (b : List ℕ). firstLook (a .args .look) (a .args .reading) (opened (a .args .window) (ringOf w) (lastOf w) (a .args .reading) at u b))
+    (k .before .use-of .ensures) (part-body w (k .start .result) at (k .start .ensures .at)) ∙
+    sym (ap (firstLook (a .args .look) (a .args .reading)) (slot-here (a .args .window) (a .args .reading) w at (k .before .before .if1 .left)))
 
 pub open-at-spec : {M : Type 1} → statement M
 open-at-spec =

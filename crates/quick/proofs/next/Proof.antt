@@ -14,10 +14,10 @@ add-result : tie.Need-add-result
 add-result c = search needs
 
 returns : tie.Need-returns
-returns c = let a = c .before .args in (omega (arith, wrap-lo (a .r) (a .j + 1) (c .if1 .taken)), c .if1 .taken)
+returns c = let a = c .before .args in omega (arith, wrap-lo (a .r) (a .j + 1) (c .if1 .taken))
 
 returns-2 : tie.Need-returns-2
-returns-2 c = let a = c .before .args in (omega (arith, wrap-hi (a .r) (a .j + 1) (c .if1 .left), c .if1 .left, c .before .pre), omega (arith, c .before .pre))
+returns-2 c = let a = c .before .args in omega (arith, wrap-hi (a .r) (a .j + 1) (c .if1 .left), c .if1 .left, c .before .pre)
 
 pub next-spec : {M : Type 1} → statement M
 next-spec = tie.close (tie.spec add-if1 add-result returns returns-2)

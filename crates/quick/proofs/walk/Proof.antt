@@ -1,13 +1,13 @@
 -- `quick::walk` meets its contract. At every turn the place is that of the next bucket, and what is left of the pass comes to the whole.
 -- Assumes nothing.
-use mathlib.Core.Path.{_≡_, refl, sym, ap, _∙_}
+use mathlib.Core.Path.{_≡_, refl, sym, _∙_}
 use mathlib.Core.Bool.{false}
-use Prim.Native.Nat.{ℕ, _+_, _-_, _≤_, _<_}
+use Prim.Native.Nat.{_+_, _-_, _≤_, _<_}
 use lib.ListN.{drop}
 use Rattle.ring.specs.Ring.{headOf, lenOf, wrap, buckets}
 use Rattle.ring.specs.Wrap.{wrap-lo}
 use Rattle.quick.specs.Quick.{runOf}
-use Rattle.quick.specs.Turns.{next-place, walk-turn, walk-end}
+use Rattle.quick.specs.Turns.{next-place, next-inside, walk-turn, walk-end}
 use borrow.Author.Needs.{needs}
 use native.Mathlib.Omega.{arith}
 use Rattle.quick.proofs.walk.Statement.{statement}
@@ -32,35 +32,8 @@ loop-holds c = let a = c .before .before .before .args in
     let e : h ≡ h + 0 = omega arith in
     (omega arith, s .head, e ∙ sym (wrap-lo (a .r) (h + 0) (omega (arith, s .head))), refl)
 
-add-w : tie.Need-add-w Inv-loop μ-loop
-add-w c = search needs
-
-mul-full-turn : tie.Need-mul-full-turn Inv-loop μ-loop
-mul-full-turn c = search needs
-
-shared-slice-read-full-turn : tie.Need-shared-slice-read-full-turn Inv-loop μ-loop
-shared-slice-read-full-turn c = search needs
-
-add-full-turn : tie.Need-add-full-turn Inv-loop μ-loop
-add-full-turn c = search needs
-
-mul-full-turn-2 : tie.Need-mul-full-turn-2 Inv-loop μ-loop
-mul-full-turn-2 c = search needs
-
-shared-slice-read-full-turn-2 : tie.Need-shared-slice-read-full-turn-2 Inv-loop μ-loop
-shared-slice-read-full-turn-2 c = search needs
-
-add-full-turn-2 : tie.Need-add-full-turn-2 Inv-loop μ-loop
-add-full-turn-2 c = search needs
-
-add-full-turn-3 : tie.Need-add-full-turn-3 Inv-loop μ-loop
-add-full-turn-3 c = search needs
-
-mul-full-turn-3 : tie.Need-mul-full-turn-3 Inv-loop μ-loop
-mul-full-turn-3 c = search needs
-
-shared-slice-read-full-turn-3 : tie.Need-shared-slice-read-full-turn-3 Inv-loop μ-loop
-shared-slice-read-full-turn-3 c = search needs
+at-requires : tie.Need-at-requires Inv-loop μ-loop
+at-requires c κs = search needs
 
 full-turn-requires : tie.Need-full-turn-requires Inv-loop μ-loop
 full-turn-requires c κs = search needs
@@ -75,17 +48,19 @@ loop-less : tie.Need-loop-less Inv-loop μ-loop
 loop-less c = search needs
 
 loop-again : tie.Need-loop-again Inv-loop μ-loop
-loop-again c = let a = c .before .before .before .before .before .before .before .before .before .before .args in
-    let s = c .before .before .before .before .before .before .before .before .before .before .pre in
-    let l = c .before .before .before .before .before .before .loop in
+loop-again c = let i = c .before .before .before .before .before .before .before .before in
+    let a = i .args in
+    let l = c .before .before .before .before .loop in
     let m = c .next in
+    let x = c .before .before .at in
     let more : l .k < lenOf (a .b .now) = omega
-    (arith, c .before .before .before .before .before .before .before .before .len .ensures, c .before .before .before .before .before .loop-test .taken)
+    (arith, c .before .before .before .before .before .before .len .ensures, c .before .before .before .loop-test .taken)
     in (
       omega arith,
-      m .ensures .1,
-      m .ensures .0 ∙ next-place (a .r) (a .b .now) s (l .k) (l .j) more (l .inv .2),
-      walk-turn (a .r) (a .b .now) s (l .k) (l .j) (l .a) (c .before .full-turn .result) _ more (l .inv .2) (c .before .full-turn .ensures) (l .inv .3),
+      next-inside (a .r) (a .b .now) (i .pre) (l .j) (m .result) (l .inv .1) (m .ensures),
+      m .ensures ∙ next-place (a .r) (a .b .now) (i .pre) (l .k) (l .j) more (l .inv .2),
+      walk-turn (a .r) (a .b .now) (i .pre) (l .k) (l .j) (l .a) (c .before .full-turn .result) _ (x .result) more (l .inv .2) (x .ensures)
+          (c .before .full-turn .ensures) (l .inv .3),
     )
 
 returns : tie.Need-returns Inv-loop μ-loop
@@ -103,16 +78,7 @@ walk-spec =
     len-requires
     shared-slice-read-j
     loop-holds
-    add-w
-    mul-full-turn
-    shared-slice-read-full-turn
-    add-full-turn
-    mul-full-turn-2
-    shared-slice-read-full-turn-2
-    add-full-turn-2
-    add-full-turn-3
-    mul-full-turn-3
-    shared-slice-read-full-turn-3
+    at-requires
     full-turn-requires
     next-requires
     add-k

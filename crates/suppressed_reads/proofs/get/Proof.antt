@@ -1,5 +1,5 @@
 -- Refusals 1 to 7; then the change is carried out.
-use mathlib.Core.Path.{sym, ap, subst, _∙_}
+use mathlib.Core.Path.{refl, sym, ap, subst, _∙_}
 use Prim.Native.Nat.{ℕ}
 use Rattle.change.specs.Words.{Applies, applied}
 use Rattle.suppressed_verdicts.specs.Laws.{not-early, slot-found, proper-found, slot-in-room, get-early, get-applies, get-done}
@@ -17,15 +17,15 @@ returns : tie.Need-returns
 returns c =
     let y = c .before .before in
     let a = y .before .before .before .before .args in
-    get-early (a .settings) (a .room .now) (a .reading) (a .key .now) (y .judge .result) (y .judge .ensures) (c .if1 .taken)
+    get-early (a .settings) (a .room .now) (a .reading) (a .key .now) _ (y .judge .result) (y .judge .ensures) (c .if1 .taken)
 
 ask-requires : tie.Need-ask-requires
 ask-requires c κs =
     let y = c .before in
     let d = y .before .before in
     let a = d .before .before .before .before .args in (
-      slot-in-room (a .settings) (a .room .now) (a .reading) (a .key .now) (d .judge .result) (d .judge .ensures) (y .if1 .left),
-      proper-found (a .settings) (a .room .now) (a .reading) (a .key .now) (d .judge .result) (d .judge .ensures) (y .if1 .left) .cache-high,
+      slot-in-room (a .settings) (a .room .now) (a .reading) (a .key .now) _ (d .judge .result) (d .judge .ensures) refl (y .if1 .left),
+      proper-found (a .settings) (a .room .now) (a .reading) (a .key .now) _ (d .judge .result) (d .judge .ensures) (y .if1 .left) .cache-high,
     )
 
 snapshot-of-requires : tie.Need-snapshot-of-requires
@@ -36,7 +36,7 @@ join-ticks-requires c κs =
     let y = c .before .before .before .before in
     let d = y .before .before in
     let a = d .before .before .before .before .args in
-    proper-found (a .settings) (a .room .now) (a .reading) (a .key .now) (d .judge .result) (d .judge .ensures) (y .if1 .left) .bucket-high
+    proper-found (a .settings) (a .room .now) (a .reading) (a .key .now) _ (d .judge .result) (d .judge .ensures) (y .if1 .left) .bucket-high
 
 get-change-requires : tie.Need-get-change-requires
 get-change-requires c κs = search needs
@@ -50,8 +50,8 @@ apply-requires c κs =
     let a = n .before .before .before .before .args in
     subst (λ (ticks : ℕ). Applies (a .room .now) (n .judge .result .slot .at) ticks (a .reading) (c .get-change .result)) (sym (y .join-ticks .ensures))
     (get-applies (a .settings) (a .room .now) (a .reading) (a .key .now)
-    (not-early (a .settings) (a .room .now) (a .reading) (a .key .now) (n .judge .result) (n .judge .ensures) (m .if1 .left)) (n .judge .result .slot)
-    (slot-found (a .settings) (a .room .now) (a .reading) (a .key .now) (n .judge .result) (n .judge .ensures) (m .if1 .left))
+    (not-early (a .settings) (a .room .now) (a .reading) (a .key .now) _ (n .judge .result) (n .judge .ensures) (m .if1 .left)) (n .judge .result .slot)
+    (slot-found (a .settings) (a .room .now) (a .reading) (a .key .now) _ (n .judge .result) (n .judge .ensures) (m .if1 .left))
     (d .ask .result .caching) (c .get-change .result) (c .get-change .ensures))
 
 same-length-2 : tie.Need-same-length-2
@@ -68,8 +68,8 @@ returns-2 c =
     let q = p .before .before in
     let a = q .before .before .before .before .args in
     get-done (a .settings) (a .room .now) (a .reading) (a .key .now)
-    (not-early (a .settings) (a .room .now) (a .reading) (a .key .now) (q .judge .result) (q .judge .ensures) (p .if1 .left)) (q .judge .result .slot)
-    (slot-found (a .settings) (a .room .now) (a .reading) (a .key .now) (q .judge .result) (q .judge .ensures) (p .if1 .left))
+    (not-early (a .settings) (a .room .now) (a .reading) (a .key .now) _ (q .judge .result) (q .judge .ensures) (p .if1 .left)) (q .judge .result .slot)
+    (slot-found (a .settings) (a .room .now) (a .reading) (a .key .now) _ (q .judge .result) (q .judge .ensures) (p .if1 .left))
     (o .ask .result) (o .ask .ensures) (n .snapshot-of .result) (d .get-change .result) (y .apply .last .0) (n .snapshot-of .ensures)
     (d .get-change .ensures)
     (y .apply .ensures ∙

@@ -1,8 +1,6 @@
 -- Refusals 1 to 7, then 11; then the change is carried out.
-use mathlib.Core.Path.{sym, ap, ap₂, subst, _∙_}
+use mathlib.Core.Path.{sym, ap, subst, _∙_}
 use Prim.Native.Nat.{ℕ}
-use Rattle.opened.specs.declared.Slot.{Slot}
-use Rattle.opened.specs.Slot.{firstLook}
 use Rattle.change.specs.Words.{Applies, applied}
 use Rattle.suppressed_verdicts.specs.Laws.{not-early, slot-found, room-found, proper-found, in-room, factor-early, factor-full, factor-applies, factor-done}
 use borrow.Author.Needs.{needs}
@@ -19,30 +17,21 @@ returns : tie.Need-returns
 returns c =
     let y = c .before in
     let a = y .before .before .before .before .args in
-    factor-early (a .settings) (a .room .now) (a .reading) (a .key .now) (y .judge .result) (y .judge .ensures) (c .if1 .taken)
-
-look-ticks-requires : tie.Need-look-ticks-requires
-look-ticks-requires c κs =
-    let y = c .before in
-    let a = y .before .before .before .before .args in
-    proper-found (a .settings) (a .room .now) (a .reading) (a .key .now) (y .judge .result) (y .judge .ensures) (c .if1 .left) .window-high
-
-first-look-requires : tie.Need-first-look-requires
-first-look-requires c κs = search needs
+    factor-early (a .settings) (a .room .now) (a .reading) (a .key .now) _ (y .judge .result) (y .judge .ensures) (c .if1 .taken)
 
 place-requires : tie.Need-place-requires
 place-requires c κs =
-    let y = c .before .before .before in
+    let y = c .before .before in
     let d = y .before in
     let a = d .before .before .before .before .args in
-    room-found (a .settings) (a .room .now) (a .reading) (a .key .now) (d .judge .result) (d .judge .ensures) (y .if1 .left)
+    room-found (a .settings) (a .room .now) (a .reading) (a .key .now) _ (d .judge .result) (d .judge .ensures) (y .if1 .left)
 
 lacks-slot-requires : tie.Need-lacks-slot-requires
 lacks-slot-requires c κs =
-    let y = c .before .before .before .before .before in
+    let y = c .before .before .before .before in
     let d = y .before in
     let a = d .before .before .before .before .args in
-    room-found (a .settings) (a .room .now) (a .reading) (a .key .now) (d .judge .result) (d .judge .ensures) (y .if1 .left)
+    room-found (a .settings) (a .room .now) (a .reading) (a .key .now) _ (d .judge .result) (d .judge .ensures) (y .if1 .left)
 
 same-length-2 : tie.Need-same-length-2
 same-length-2 c = search needs
@@ -51,37 +40,33 @@ returns-2 : tie.Need-returns-2
 returns-2 c =
     let y = c .before in
     let d = y .before .before in
-    let m = d .before .before in
-    let n = m .before in
-    let o = n .before in
+    let o = d .before .before .before in
     let p = o .before in
     let a = p .before .before .before .before .args in
-    factor-full (a .settings) (a .room .now) (a .reading) (a .key .now)
-    (not-early (a .settings) (a .room .now) (a .reading) (a .key .now) (p .judge .result) (p .judge .ensures) (o .if1 .left)) (m .first-look .result)
-    (m .first-look .ensures ∙ ap₂ (λ (look : ℕ) (slot : Slot). firstLook look (a .reading) slot) (n .look-ticks .ensures)
-    (slot-found (a .settings) (a .room .now) (a .reading) (a .key .now) (p .judge .result) (p .judge .ensures) (o .if1 .left)))
+    let j = p .judge in
+    factor-full (a .settings) (a .room .now) (a .reading) (a .key .now) (not-early (a .settings) (a .room .now) (a .reading) (a .key .now) _ (j .result)
+    (j .ensures) (o .if1 .left))
+    (j .result .slot) (slot-found (a .settings) (a .room .now) (a .reading) (a .key .now) _ (j .result) (j .ensures) (o .if1 .left))
     (d .place .result) (d .place .ensures) (y .lacks-slot .result) (y .lacks-slot .ensures) (c .if2 .taken)
 
 ask-requires : tie.Need-ask-requires
 ask-requires c κs =
-    let y = c .before .before .before .before .before .before in
-    let d = y .before in
-    let m = d .before in
+    let m = c .before .before .before .before .before .before .before in
     let n = m .before in
-    let a = n .before .before .before .before .args in (
-      in-room (a .settings) (a .room .now) (a .reading) (a .key .now)
-          (not-early (a .settings) (a .room .now) (a .reading) (a .key .now) (n .judge .result) (n .judge .ensures) (m .if1 .left)) (y .first-look .result)
-          (y .first-look .ensures ∙ ap₂ (λ (look : ℕ) (slot : Slot). firstLook look (a .reading) slot) (d .look-ticks .ensures)
-          (slot-found (a .settings) (a .room .now) (a .reading) (a .key .now) (n .judge .result) (n .judge .ensures) (m .if1 .left))),
-      proper-found (a .settings) (a .room .now) (a .reading) (a .key .now) (n .judge .result) (n .judge .ensures) (m .if1 .left) .cache-high,
+    let a = n .before .before .before .before .args in
+    let j = n .judge in (
+      in-room (a .settings) (a .room .now) (a .reading) (a .key .now) (not-early (a .settings) (a .room .now) (a .reading) (a .key .now) _ (j .result)
+          (j .ensures) (m .if1 .left)) (j .result .slot) (slot-found (a .settings) (a .room .now) (a .reading) (a .key .now) _ (j .result) (j .ensures)
+          (m .if1 .left)),
+      proper-found (a .settings) (a .room .now) (a .reading) (a .key .now) _ (j .result) (j .ensures) (m .if1 .left) .cache-high,
     )
 
 join-ticks-requires : tie.Need-join-ticks-requires
 join-ticks-requires c κs =
-    let y = c .before .before .before .before .before .before .before .before .before .before in
+    let y = c .before .before .before .before .before .before .before .before .before in
     let d = y .before in
     let a = d .before .before .before .before .args in
-    proper-found (a .settings) (a .room .now) (a .reading) (a .key .now) (d .judge .result) (d .judge .ensures) (y .if1 .left) .bucket-high
+    proper-found (a .settings) (a .room .now) (a .reading) (a .key .now) _ (d .judge .result) (d .judge .ensures) (y .if1 .left) .bucket-high
 
 factor-change-requires : tie.Need-factor-change-requires
 factor-change-requires c κs = search needs
@@ -93,16 +78,14 @@ apply-requires c κs =
     let m = d .before .before in
     let n = m .before in
     let o = n .before .before in
-    let p = o .before .before in
-    let q = p .before in
-    let r = q .before in
+    let r = o .before .before .before in
     let u = r .before in
     let a = u .before .before .before .before .args in
+    let j = u .judge in
     subst (λ (ticks : ℕ). Applies (a .room .now) (o .place .result) ticks (a .reading) (c .factor-change .result)) (sym (y .join-ticks .ensures))
-    (factor-applies (a .settings) (a .room .now) (a .reading) (a .key .now)
-    (not-early (a .settings) (a .room .now) (a .reading) (a .key .now) (u .judge .result) (u .judge .ensures) (r .if1 .left)) (p .first-look .result)
-    (p .first-look .ensures ∙ ap₂ (λ (look : ℕ) (slot : Slot). firstLook look (a .reading) slot) (q .look-ticks .ensures)
-    (slot-found (a .settings) (a .room .now) (a .reading) (a .key .now) (u .judge .result) (u .judge .ensures) (r .if1 .left)))
+    (factor-applies (a .settings) (a .room .now) (a .reading) (a .key .now) (not-early (a .settings) (a .room .now) (a .reading) (a .key .now) _ (j .result)
+    (j .ensures) (r .if1 .left))
+    (j .result .slot) (slot-found (a .settings) (a .room .now) (a .reading) (a .key .now) _ (j .result) (j .ensures) (r .if1 .left))
     (o .place .result) (o .place .ensures) (n .lacks-slot .result) (n .lacks-slot .ensures)
     (m .if2 .left) (d .ask .result .caching) (c .factor-change .result) (c .factor-change .ensures))
 
@@ -118,15 +101,13 @@ returns-3 c =
     let o = n .before .before in
     let p = o .before in
     let q = p .before .before in
-    let r = q .before .before in
-    let u = r .before in
-    let v = u .before in
+    let v = q .before .before .before in
     let g = v .before in
     let a = g .before .before .before .before .args in
-    factor-done (a .settings) (a .room .now) (a .reading) (a .key .now)
-    (not-early (a .settings) (a .room .now) (a .reading) (a .key .now) (g .judge .result) (g .judge .ensures) (v .if1 .left)) (r .first-look .result)
-    (r .first-look .ensures ∙ ap₂ (λ (look : ℕ) (slot : Slot). firstLook look (a .reading) slot) (u .look-ticks .ensures)
-    (slot-found (a .settings) (a .room .now) (a .reading) (a .key .now) (g .judge .result) (g .judge .ensures) (v .if1 .left)))
+    let j = g .judge in
+    factor-done (a .settings) (a .room .now) (a .reading) (a .key .now) (not-early (a .settings) (a .room .now) (a .reading) (a .key .now) _ (j .result)
+    (j .ensures) (v .if1 .left))
+    (j .result .slot) (slot-found (a .settings) (a .room .now) (a .reading) (a .key .now) _ (j .result) (j .ensures) (v .if1 .left))
     (q .place .result) (q .place .ensures) (p .lacks-slot .result) (p .lacks-slot .ensures)
     (o .if2 .left) (n .ask .result) (n .ask .ensures) (d .factor-change .result) (y .apply .last .0) (d .factor-change .ensures)
     (y .apply .ensures ∙
@@ -139,8 +120,6 @@ get-suppression-factor-spec =
     judge-requires
     same-length
     returns
-    look-ticks-requires
-    first-look-requires
     place-requires
     lacks-slot-requires
     same-length-2

@@ -1,6 +1,6 @@
 -- `sweep::pass` meets its contract: words that do not fit are not sound, and the others go on to the sweep.
 -- Assumes nothing.
-use Rattle.sweep.specs.Found.{pass-unfit}
+use Rattle.sweep.specs.Looked.{looked-unfit}
 use Rattle.base.specs.Decides.{decided, undecided}
 use mathlib.Core.Path.{_∙_}
 use borrow.Author.Needs.{needs}
@@ -16,7 +16,8 @@ no-pass-requires c κs = search needs
 returns : tie.Need-returns
 returns c = let a = c .before .before .before .before .args in
     let f = c .before .before .fit in
-    c .no-pass .ensures ∙ pass-unfit (a .r) (a .b .now) (a .last) (a .reading) (a .window) (undecided (f .result) (c .before .if1 .taken) (f .ensures))
+    c .no-pass .ensures ∙ looked-unfit (a .r) (a .b .now) (a .last) (a .reading) (a .window) (a .look) (undecided (f .result) (c .before .if1 .taken)
+    (f .ensures))
 
 pass-fit-requires : tie.Need-pass-fit-requires
 pass-fit-requires c κs = let f = c .before .fit in decided (f .result) (c .if1 .left) (f .ensures)
