@@ -173,64 +173,65 @@ module _ (s : Settings) (w : List ℕ) (t : ℕ) (key : List ℕ) (rate : RateLi
     pub out-is : out ≡ outIn s w t c (j .slot)
     pub number-is : n ≡ first (incRefusals (ringOf w) (joinTicks s) t c (rateOk (rate .0)) may (lacksAt w at (j .slot)) out (j .slot))
 
-  module _ (at : ℕ) (may out : Bool) (n : ℕ) (f : Finds at may out n) where
-    numbered : ℕ → Bool → Bool → ℕ
-    numbered a m o = first (incRefusals (ringOf w) (joinTicks s) t c (rateOk (rate .0)) m (lacksAt w a (j .slot)) o (j .slot))
+module _ {s : Settings} {w : List ℕ} {t : ℕ} {key : List ℕ} {rate : RateLimit} {c : ℕ} {j : Judged} {at : ℕ} {may out : Bool} {n : ℕ}
+    (f : Finds s w t key rate c j at may out n) where
+  numbered : ℕ → Bool → Bool → ℕ
+  numbered a m o = first (incRefusals (ringOf w) (joinTicks s) t c (rateOk (rate .0)) m (lacksAt w a (j .slot)) o (j .slot))
 
-    own-is : n ≡ first (incOwn s w t rate c (j .slot))
-    unfolding numbered
-    own-is =
-        f .number-is ∙ ap (λ (y : ℕ). numbered y may out) (f .place-is) ∙
-        ap (λ (y : Bool). numbered (placeOf w (j .slot)) y out) (f .may-is) ∙ ap (numbered (placeOf w (j .slot)) (mayIn s t (j .slot))) (f .out-is)
+  own-is : n ≡ first (incOwn s w t rate c (j .slot))
+  unfolding numbered
+  own-is =
+      f .number-is ∙ ap (λ (y : ℕ). numbered y may out) (f .place-is) ∙
+      ap (λ (y : Bool). numbered (placeOf w (j .slot)) y out) (f .may-is) ∙ ap (numbered (placeOf w (j .slot)) (mayIn s t (j .slot))) (f .out-is)
 
-    own-slot : n ≡ first (incOwn s w t rate c (slotIn s w t key))
-    own-slot = own-is ∙ ap (λ (y : Slot). first (incOwn s w t rate c y)) (goes-slot s w t key j (f .goes))
+  own-slot : n ≡ first (incOwn s w t rate c (slotIn s w t key))
+  own-slot = own-is ∙ ap (λ (y : Slot). first (incOwn s w t rate c y)) (goes-slot s w t key j (f .goes))
 
-    pub inc-late : (n ≡ 0 → ⊥) → Told (Calls.inc s w t key rate c) (decision.Refused n) w
-    unfolding inc
-    inc-late z =
-        told-as (inc-opened s w t key rate c)
-        (call-own decision.Refused Absolute s w t key (incOwn s w t rate c (slotIn s w t key)) _ n (goes-early s w t key j (f .goes)) own-slot z)
+  pub inc-late : (n ≡ 0 → ⊥) → Told (Calls.inc s w t key rate c) (decision.Refused n) w
+  unfolding inc
+  inc-late z =
+      told-as (inc-opened s w t key rate c)
+      (call-own decision.Refused Absolute s w t key (incOwn s w t rate c (slotIn s w t key)) _ n (goes-early s w t key j (f .goes)) own-slot z)
 
-    -- the slot as a first look leaves it, which only a rejection asks for
-    abbrev looked : Slot
-    looked = pickSlot may (j .slot) (lookIn s t (j .slot))
+  -- the slot as a first look leaves it, which only a rejection asks for
+  abbrev looked : Slot
+  looked = pickSlot may (j .slot) (lookIn s t (j .slot))
 
-    abbrev Made : Change → Type 0
-    Made u = u ≡ incChange (absoluteWord (rate .0) (windowIn s)) c may out (j .slot) looked
+  abbrev Made : Change → Type 0
+  Made u = u ≡ incChange (absoluteWord (rate .0) (windowIn s)) c may out (j .slot) looked
 
-    unless-made : (z : Bool) → incChange (absoluteWord (rate .0) (windowIn s)) c z out (j .slot) (pickSlot z (j .slot) (lookIn s t (j .slot))) ≡
-        incChange (absoluteWord (rate .0) (windowIn s)) c z out (j .slot) (lookIn s t (j .slot))
-    unfolding incChange
-    unless-made true = refl
-    unless-made false = refl
+  unless-made : (z : Bool) → incChange (absoluteWord (rate .0) (windowIn s)) c z out (j .slot) (pickSlot z (j .slot) (lookIn s t (j .slot))) ≡
+      incChange (absoluteWord (rate .0) (windowIn s)) c z out (j .slot) (lookIn s t (j .slot))
+  unfolding incChange
+  unless-made true = refl
+  unless-made false = refl
 
-    unless-decided : (z : Bool) → decidedAt (ticksIn s) (s .«window_size») t z (pickSlot z (j .slot) (lookIn s t (j .slot))) ≡
-        decidedAt (ticksIn s) (s .«window_size») t z (lookIn s t (j .slot))
-    unfolding decidedAt
-    unless-decided true = refl
-    unless-decided false = refl
+  unless-decided : (z : Bool) → decidedAt (ticksIn s) (s .«window_size») t z (pickSlot z (j .slot) (lookIn s t (j .slot))) ≡
+      decidedAt (ticksIn s) (s .«window_size») t z (lookIn s t (j .slot))
+  unfolding decidedAt
+  unless-decided true = refl
+  unless-decided false = refl
 
-    makes-is : (u : Change) → Made u → u ≡ incMakes s w t rate c (j .slot)
-    makes-is u e =
-        e ∙ unless-made may ∙ ap (λ (y : Bool). incChange (absoluteWord (rate .0) (windowIn s)) c y out (j .slot) (lookIn s t (j .slot))) (f .may-is) ∙
-        ap (λ (y : Bool). incChange (absoluteWord (rate .0) (windowIn s)) c (mayIn s t (j .slot)) y (j .slot) (lookIn s t (j .slot))) (f .out-is)
+  makes-is : (u : Change) → Made u → u ≡ incMakes s w t rate c (j .slot)
+  makes-is u e =
+      e ∙ unless-made may ∙ ap (λ (y : Bool). incChange (absoluteWord (rate .0) (windowIn s)) c y out (j .slot) (lookIn s t (j .slot))) (f .may-is) ∙
+      ap (λ (y : Bool). incChange (absoluteWord (rate .0) (windowIn s)) c (mayIn s t (j .slot)) y (j .slot) (lookIn s t (j .slot))) (f .out-is)
 
-    pub inc-fits : n ≡ 0 → (u : Change) → Made u → Applies w at (joinTicks s) t u
-    inc-fits z u e =
-        let p = goes-passed s w t key j (f .goes) in
-        let x = slotIn s w t key in
-        subst (λ (y : ℕ). Applies w y (joinTicks s) t u) (sym (f .place-is))
-        (goes-applies s w t key j (f .goes) (placeOf w) (incMakes s w t rate c) u (makes-is u e)
-        (inc-applies s w t key p (absoluteWord (rate .0) (windowIn s)) c (rateOk (rate .0)) (mayIn s t x) (outIn s w t c x) (may-unknown s w t key p)
-        (sym own-slot ∙ z)))
+  pub inc-fits : n ≡ 0 → (u : Change) → Made u → Applies w at (joinTicks s) t u
+  inc-fits z u e =
+      let p = goes-passed s w t key j (f .goes) in
+      let x = slotIn s w t key in
+      subst (λ (y : ℕ). Applies w y (joinTicks s) t u) (sym (f .place-is))
+      (goes-applies s w t key j (f .goes) (placeOf w) (incMakes s w t rate c) u (makes-is u e)
+      (inc-applies s w t key p (absoluteWord (rate .0) (windowIn s)) c (rateOk (rate .0)) (mayIn s t x) (outIn s w t c x) (may-unknown s w t key p)
+      (sym own-slot ∙ z)))
 
-    pub inc-done : n ≡ 0 → (u : Change) → Made u → (v : List ℕ) → v ≡ applied w at key (joinTicks s) t u →
-        (d : RateLimitDecision) → d ≡ decidedAt (ticksIn s) (s .«window_size») t may looked → Told (Calls.inc s w t key rate c) d v
-    unfolding inc
-    inc-done z u e v i d q =
-        told-as (inc-opened s w t key rate c)
-        (rw (q ∙ unless-decided may ∙ ap (λ (y : Bool). decidedAt (ticksIn s) (s .«window_size») t y (lookIn s t (j .slot))) (f .may-is))
-        (goes-done s w t key j (f .goes) decision.Refused (incOwn s w t rate c) (decidedIn s t) (placeOf w) (incMakes s w t rate c) (sym own-is ∙ z) u
-        (makes-is u e) v
-        (i ∙ ap (λ (y : ℕ). applied w y key (joinTicks s) t u) (f .place-is))))
+  pub inc-done : n ≡ 0 → (u : Change) → Made u → (v : List ℕ) → v ≡ applied w at key (joinTicks s) t u →
+      (d : RateLimitDecision) → d ≡ decidedAt (ticksIn s) (s .«window_size») t may looked → Told (Calls.inc s w t key rate c) d v
+  unfolding inc
+  inc-done z u e v i d q =
+      told-as (inc-opened s w t key rate c)
+      (rw (q ∙ unless-decided may ∙ ap (λ (y : Bool). decidedAt (ticksIn s) (s .«window_size») t y (lookIn s t (j .slot))) (f .may-is))
+      (goes-done s w t key j (f .goes) decision.Refused (incOwn s w t rate c) (decidedIn s t) (placeOf w) (incMakes s w t rate c) (sym own-is ∙ z) u
+      (makes-is u e) v
+      (i ∙ ap (λ (y : ℕ). applied w y key (joinTicks s) t u) (f .place-is))))

@@ -16,9 +16,8 @@ use Rattle.ring.specs.Order.{Fine}
 use Rattle.ring.specs.Sound.{soundBuckets, sound-true, true-sound}
 use Rattle.sweep.specs.declared.tally.Tally.{Tally}
 use Rattle.sweep.specs.declared.tally.Gone.{Gone}
-use Rattle.sweep.specs.declared.tally.Pass.{Pass}
 use Rattle.rules.specs.Buckets.{older, recent, ahead}
-use Rattle.sweep.specs.Sweep.{goodOf, stepOf, endedOf, swept, begun, sweepOf, fewer, goneFrom, goneNone, goneOf, mark, found, unsound}
+use Rattle.sweep.specs.Sweep.{goodOf, stepOf, endedOf, swept, begun, sweepOf, fewer, goneFrom, goneNone, goneOf, telling, found, unsound}
 use Rattle.sweep.specs.Sweep.{pick, passOf}
 
 -- ---- where times do not fall, the buckets over w are the oldest ones
@@ -176,16 +175,7 @@ module _ (r : ℕ) (b : List ℕ) (last t w : ℕ) where
   -- what is sound finds what the rules say; the fields as the code has them
   pub pass-is : soundBuckets r b last ≡ true → (g : Gone) → g ≡ goneOf r b t w → (n d : ℕ) (o m f : Bucket) →
       n ≡ lenOf b → d ≡ n - 1 → o ≡ getD (buckets r b) (g .buckets) noBucket → m ≡ getD (buckets r b) d noBucket → f ≡ getD (buckets r b) 0 noBucket →
-      _≡_ {A = Pass} (record {
-        sound = true;
-        buckets = n;
-        expired = g .buckets;
-        «live_total» = g .total;
-        «live_declined» = g .declined;
-        «newest_time» = m .time;
-        oldest = mark o;
-        eldest = mark f;
-      }) (passOf r b last t w)
+      telling n g o m f ≡ passOf r b last t w
   pass-is e g q n d o m f a z u v first =
       let k = sound-true r b last e in
       let xs = buckets r b in
@@ -195,16 +185,7 @@ module _ (r : ℕ) (b : List ℕ) (last t w : ℕ) where
       let de = ap (λ (g : Gone). g .declined) q ∙ gone-declined w t y xs (sym (k .declined)) in
       let old = u ∙ ap (λ (i : ℕ). getD xs i noBucket) ex in
       let new = v ∙ ap (λ (i : ℕ). getD xs i noBucket) (z ∙ ap (λ (i : ℕ). i - 1) a) in
-      (λ i. record {
-        sound = true;
-        buckets = a i;
-        expired = ex i;
-        «live_total» = to i;
-        «live_declined» = de i;
-        «newest_time» = new i .time;
-        oldest = mark (old i);
-        eldest = mark (first i);
-      }) ∙ sound-is e
+      (λ i. telling (a i) (record { buckets = ex i; total = to i; declined = de i }) (old i) (new i) (first i)) ∙ sound-is e
 
 -- words that do not fit
 pub pass-unfit : (r : ℕ) (b : List ℕ) (last t w : ℕ) → (Shape r b → ⊥) → unsound ≡ passOf r b last t w

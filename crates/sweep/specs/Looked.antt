@@ -13,7 +13,7 @@ use Rattle.ring.specs.Sound.{soundBuckets, sound-true}
 use Rattle.sweep.specs.declared.tally.Gone.{Gone}
 use Rattle.sweep.specs.declared.tally.Pass.{Pass}
 use Rattle.rules.specs.Buckets.{older, ahead}
-use Rattle.sweep.specs.Sweep.{goneNone, goneOf, goneAt, mark, found, unsound, pick, passOf, leaves, allIn, lookedPass}
+use Rattle.sweep.specs.Sweep.{goneNone, goneOf, goneAt, telling, found, unsound, pick, passOf, leaves, allIn, lookedPass}
 use Rattle.sweep.specs.Found.{sound-is, pass-not, pass-is, pass-unfit}
 
 -- ---- where nothing is left
@@ -47,16 +47,10 @@ module _ (r : ℕ) (b : List ℕ) (last t w look : ℕ) where
   all-in e z =
       let xs = buckets r b in
       let k = sound-true r b last e in
-      λ i. record {
-        sound = true;
-        buckets = lenOf b;
-        expired = sym z i;
-        «live_total» = (k .total ∙ ap (λ (n : ℕ). counts (drop n xs)) (sym z)) i;
-        «live_declined» = (k .declined ∙ ap (λ (n : ℕ). declineds (drop n xs)) (sym z)) i;
-        «newest_time» = getD xs (lenOf b - 1) noBucket .time;
-        oldest = mark (getD xs (sym z i) noBucket);
-        eldest = mark (getD xs 0 noBucket);
-      }
+      let total = k .total ∙ ap (λ (n : ℕ). counts (drop n xs)) (sym z) in
+      let declined = k .declined ∙ ap (λ (n : ℕ). declineds (drop n xs)) (sym z) in
+      λ i. telling (lenOf b) (record { buckets = sym z i; total = total i; declined = declined i }) (getD xs (sym z i) noBucket)
+      (getD xs (lenOf b - 1) noBucket) (getD xs 0 noBucket)
 
   -- the oldest is not over look
   within : soundBuckets r b last ≡ true → ltb look (t - getD (buckets r b) 0 noBucket .time) ≡ false →
@@ -74,16 +68,7 @@ module _ (r : ℕ) (b : List ℕ) (last t w look : ℕ) where
   -- what is sound finds what the rules say; the fields as the code has them
   pub pass-looked : soundBuckets r b last ≡ true → (g : Gone) → g ≡ goneAt look r b t w → (n d : ℕ) (o m f : Bucket) →
       n ≡ lenOf b → d ≡ n - 1 → o ≡ getD (buckets r b) (g .buckets) noBucket → m ≡ getD (buckets r b) d noBucket → f ≡ getD (buckets r b) 0 noBucket →
-      _≡_ {A = Pass} (record {
-        sound = true;
-        buckets = n;
-        expired = g .buckets;
-        «live_total» = g .total;
-        «live_declined» = g .declined;
-        «newest_time» = m .time;
-        oldest = mark o;
-        eldest = mark f;
-      }) (lookedPass look t b (passOf r b last t w))
+      telling n g o m f ≡ lookedPass look t b (passOf r b last t w)
   pass-looked e g q n d o m f a z u v first = go (ltb look (t - getD (buckets r b) 0 noBucket .time)) refl
     where
       xs : List Bucket
@@ -98,17 +83,7 @@ module _ (r : ℕ) (b : List ℕ) (last t w look : ℕ) where
       by : (x : Bool) → ltb look (t - getD xs 0 noBucket .time) ≡ x → g ≡ cond x (goneOf r b t w) none
       by x h = q ∙ ap (λ (x : Bool). cond x (goneOf r b t w) none) h
 
-      go : (x : Bool) → ltb look (t - getD xs 0 noBucket .time) ≡ x →
-          _≡_ {A = Pass} (record {
-            sound = true;
-            buckets = n;
-            expired = g .buckets;
-            «live_total» = g .total;
-            «live_declined» = g .declined;
-            «newest_time» = m .time;
-            oldest = mark o;
-            eldest = mark f;
-          }) (lookedPass look t b (passOf r b last t w))
+      go : (x : Bool) → ltb look (t - getD xs 0 noBucket .time) ≡ x → telling n g o m f ≡ lookedPass look t b (passOf r b last t w)
       go true h =
           pass-is r b last t w e g (by true h) n d o m f a z u v first ∙ sym (sound-is r b last t w e) ∙
           look-none look t b p (none-left (eqb (ahead w t xs) 0) _ h) ∙ ap (lookedPass look t b) (sound-is r b last t w e)
@@ -116,16 +91,7 @@ module _ (r : ℕ) (b : List ℕ) (last t w look : ℕ) where
           let s = by false h in
           let i : o ≡ getD xs 0 noBucket = u ∙ ap (λ (g : Gone). getD xs (g .buckets) noBucket) s in
           let y = v ∙ ap (λ (j : ℕ). getD xs j noBucket) (z ∙ ap (λ (j : ℕ). j - 1) a) in
-          (λ j. record {
-            sound = true;
-            buckets = a j;
-            expired = s j .buckets;
-            «live_total» = s j .total;
-            «live_declined» = s j .declined;
-            «newest_time» = y j .time;
-            oldest = mark (i j);
-            eldest = mark (first j);
-          }) ∙ within e h ∙ ap (lookedPass look t b) (sound-is r b last t w e)
+          (λ j. telling (a j) (s j) (i j) (y j) (first j)) ∙ within e h ∙ ap (lookedPass look t b) (sound-is r b last t w e)
 
 -- words that do not fit
 pub looked-unfit : (r : ℕ) (b : List ℕ) (last t w look : ℕ) → (Shape r b → ⊥) → unsound ≡ lookedPass look t b (passOf r b last t w)

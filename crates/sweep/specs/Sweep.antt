@@ -59,6 +59,19 @@ goneAt look r b t w = cond (ltb look (t - getD (buckets r b) 0 noBucket .time)) 
 abbrev pub mark : Bucket → Mark
 mark x = record { count = x .count; time = x .time }
 
+-- what the code tells: of n buckets g go, o is the oldest that is left, m the newest, f the oldest of all
+abbrev pub telling : ℕ → Gone → Bucket → Bucket → Bucket → Pass
+telling n g o m f = record {
+  sound = true;
+  buckets = n;
+  expired = g .buckets;
+  «live_total» = g .total;
+  «live_declined» = g .declined;
+  «newest_time» = m .time;
+  oldest = mark o;
+  eldest = mark f;
+}
+
 -- what is found where the buckets are sound, and where not
 abbrev pub found : ℕ → List Bucket → ℕ → ℕ → Pass
 found n xs t w = record {

@@ -1,10 +1,12 @@
 -- Refusals 1 to 7, then 8 to 12; then the change is carried out.
 -- Assumes nothing.
-use mathlib.Core.Path.{refl, sym, ap, subst, _∙_}
+use mathlib.Core.Path.{_≡_, refl, sym, ap, subst, _∙_}
 use Prim.Native.Nat.{ℕ}
-use Rattle.room.specs.Room.{ringOf}
+use Rattle.settings.specs.Settings.{Proper}
+use Rattle.room.specs.Room.{Room, ringOf}
 use Rattle.rules.specs.declared.RoomKind.the-variants.{Suppressed}
 use Rattle.opened.specs.Slot.{noSlot}
+use Rattle.judge.specs.Judge.{early, lookedIn}
 use Rattle.judge.specs.Laws.{refused-is, fault-early, no-fault, opened-is, looked-is}
 use Rattle.change.specs.Words.{Applies, applied}
 use Rattle.plan.specs.Plan.{lacksAt}
@@ -12,6 +14,31 @@ use Rattle.suppressed_verdicts.specs.Laws.{in-room, inc-early, inc-late, inc-to
 use borrow.Author.Needs.{needs}
 use Rattle.suppressed_inc.proofs.inc.Statement.{statement}
 use Rattle.suppressed_inc.proofs.inc.Tie as tie
+
+-- ---- what is known past 1 to 5, of the slot opened, and past 7
+
+passed : (c : tie.Else1) → let a = c .before .before .before .before .before .args in Room (a .room .now) × Proper (a .settings)
+passed c =
+    let a = c .before .before .before .before .before .args in
+    no-fault Suppressed (a .settings) (a .room .now) (a .reading) (a .key .now) (sym (c .before .fault .ensures) ∙ c .if1 .left)
+
+slot-is : (c : tie.After-open-at) →
+    let a = c .before .before .before .before .before .before .before .before .before .before .args in
+    c .open-at .result ≡ lookedIn (a .settings) (a .room .now) (a .reading) (a .key .now)
+slot-is c =
+    let d = c .before in
+    let v = d .before .before in
+    let n = v .before in
+    let a = n .before .before .before .before .before .before .args in
+    looked-is Suppressed (a .settings) (a .room .now) (a .reading) (a .key .now) _ _ _ (c .open-at .result) (c .open-at .ensures)
+    (v .look-ticks .ensures) (n .window-ticks .ensures) (d .address .ensures)
+
+none-early : (c : tie.Else2) →
+    let a = c .before .before .before .before .before .before .before .before .before .before .before .before .before .args in
+    early Suppressed (a .settings) (a .room .now) (a .reading) (a .key .now) ≡ 0
+none-early c = sym (c .before .misfit .ensures) ∙ c .if2 .left
+
+-- ---- the needs
 
 fault-requires : tie.Need-fault-requires
 fault-requires c κs = search needs
@@ -30,36 +57,16 @@ returns c =
     (c .if1 .taken)
 
 window-ticks-requires : tie.Need-window-ticks-requires
-window-ticks-requires c κs =
-    let i = c in
-    let f = i .before in
-    let s = f .before .before .before .before in
-    let a = s .args in
-    no-fault Suppressed (a .settings) (a .room .now) (a .reading) (a .key .now) (sym (f .fault .ensures) ∙ i .if1 .left) .1 .window-high
+window-ticks-requires c κs = passed c .1 .window-high
 
 look-ticks-requires : tie.Need-look-ticks-requires
-look-ticks-requires c κs =
-    let i = c .before in
-    let f = i .before in
-    let s = f .before .before .before .before in
-    let a = s .args in
-    no-fault Suppressed (a .settings) (a .room .now) (a .reading) (a .key .now) (sym (f .fault .ensures) ∙ i .if1 .left) .1 .window-high
+look-ticks-requires c κs = passed (c .before) .1 .window-high
 
 address-requires : tie.Need-address-requires
-address-requires c κs =
-    let i = c .before .before .before in
-    let f = i .before in
-    let s = f .before .before .before .before in
-    let a = s .args in
-    no-fault Suppressed (a .settings) (a .room .now) (a .reading) (a .key .now) (sym (f .fault .ensures) ∙ i .if1 .left) .0
+address-requires c κs = passed (c .before .before .before) .0
 
 open-at-requires : tie.Need-open-at-requires
-open-at-requires c κs =
-    let i = c .before .before .before .before in
-    let f = i .before in
-    let s = f .before .before .before .before in
-    let a = s .args in
-    no-fault Suppressed (a .settings) (a .room .now) (a .reading) (a .key .now) (sym (f .fault .ensures) ∙ i .if1 .left) .0
+open-at-requires c κs = passed (c .before .before .before .before) .0
 
 misfit-requires : tie.Need-misfit-requires
 misfit-requires c κs =
@@ -67,11 +74,8 @@ misfit-requires c κs =
     let d = o .before in
     let v = d .before .before in
     let n = v .before in
-    let i = n .before in
-    let f = i .before in
-    let s = f .before .before .before .before in
-    let a = s .args in
-    let q = no-fault Suppressed (a .settings) (a .room .now) (a .reading) (a .key .now) (sym (f .fault .ensures) ∙ i .if1 .left) in (
+    let a = n .before .before .before .before .before .before .args in
+    let q = passed (n .before) in (
       record {
         room = q .0;
         reading = a .reading;
@@ -94,21 +98,10 @@ returns-2 c =
     (a .count) (a .draw) (c .if2 .taken)
 
 place-requires : tie.Need-place-requires
-place-requires c κs =
-    let i = c .before .before .before .before .before .before .before .before .before in
-    let f = i .before in
-    let s = f .before .before .before .before in
-    let a = s .args in
-    no-fault Suppressed (a .settings) (a .room .now) (a .reading) (a .key .now) (sym (f .fault .ensures) ∙ i .if1 .left) .0
+place-requires c κs = passed (c .before .before .before .before .before .before .before .before .before) .0
 
 late-requires : tie.Need-late-requires
-late-requires c κs =
-    let i = c .before .before .before .before .before .before .before .before .before .before .before in
-    let f = i .before in
-    let s = f .before .before .before .before in
-    let a = s .args in
-    let q = no-fault Suppressed (a .settings) (a .room .now) (a .reading) (a .key .now) (sym (f .fault .ensures) ∙ i .if1 .left) in
-    (q .0, q .1 .bucket-high)
+late-requires c κs = let q = passed (c .before .before .before .before .before .before .before .before .before .before .before) in (q .0, q .1 .bucket-high)
 
 same-length-3 : tie.Need-same-length-3
 same-length-3 c = search needs
@@ -118,20 +111,10 @@ returns-3 c =
     let l = c .before in
     let p = l .before .before in
     let u = p .before .before in
-    let m = u .before in
-    let o = m .before .before in
-    let d = o .before in
-    let v = d .before .before in
-    let n = v .before in
-    let i = n .before in
-    let f = i .before in
-    let s = f .before .before .before .before in
-    let a = s .args in
+    let o = u .before .before .before in
+    let a = o .before .before .before .before .before .before .before .before .before .before .args in
     let x = o .open-at .result in
-    let k = looked-is Suppressed (a .settings) (a .room .now) (a .reading) (a .key .now) _ _ _ x (o .open-at .ensures)
-    (v .look-ticks .ensures) (n .window-ticks .ensures) (d .address .ensures) in
-    let e = sym (m .misfit .ensures) ∙ u .if2 .left in
-    inc-late (a .settings) (a .room .now) (a .reading) (a .key .now) e x k (p .place .result) (p .place .ensures)
+    inc-late (a .settings) (a .room .now) (a .reading) (a .key .now) (none-early u) x (slot-is o) (p .place .result) (p .place .ensures)
     (lacksAt (a .room .now) (p .place .result) x) refl (a .rate) (a .count) (a .draw) (ringOf (a .room .now)) (l .late .result) refl (l .late .ensures)
     (c .if3 .taken)
 
@@ -144,54 +127,26 @@ forecast-requires c κs =
     let l = z .before in
     let p = l .before .before in
     let u = p .before .before in
-    let m = u .before in
-    let o = m .before .before in
-    let d = o .before in
-    let v = d .before .before in
-    let n = v .before in
-    let i = n .before in
-    let f = i .before in
-    let s = f .before .before .before .before in
-    let a = s .args in
+    let o = u .before .before .before in
+    let a = o .before .before .before .before .before .before .before .before .before .before .args in
     let x = o .open-at .result in
-    let k = looked-is Suppressed (a .settings) (a .room .now) (a .reading) (a .key .now) _ _ _ x (o .open-at .ensures)
-    (v .look-ticks .ensures) (n .window-ticks .ensures) (d .address .ensures) in
-    let e = sym (m .misfit .ensures) ∙ u .if2 .left in
-    inc-total (a .settings) (a .room .now) (a .reading) (a .key .now) e x k (p .place .result) (p .place .ensures)
+    inc-total (a .settings) (a .room .now) (a .reading) (a .key .now) (none-early u) x (slot-is o) (p .place .result) (p .place .ensures)
     (lacksAt (a .room .now) (p .place .result) x) refl (a .rate) (a .count) (a .draw) (ringOf (a .room .now)) (l .late .result) refl (l .late .ensures)
     (z .if3 .left)
 
 decide-requires : tie.Need-decide-requires
 decide-requires c κs =
     let u = c .before .before .before .before .before .before .before .before in
-    let m = u .before in
-    let o = m .before .before in
-    let d = o .before in
-    let v = d .before .before in
-    let n = v .before in
-    let i = n .before in
-    let f = i .before in
-    let s = f .before .before .before .before in
-    let a = s .args in
+    let o = u .before .before .before in
+    let a = o .before .before .before .before .before .before .before .before .before .before .args in
     let x = o .open-at .result in
-    let k = looked-is Suppressed (a .settings) (a .room .now) (a .reading) (a .key .now) _ _ _ x (o .open-at .ensures)
-    (v .look-ticks .ensures) (n .window-ticks .ensures) (d .address .ensures) in
-    let e = sym (m .misfit .ensures) ∙ u .if2 .left in (
-      in-room (a .settings) (a .room .now) (a .reading) (a .key .now) e x k,
-      no-fault Suppressed (a .settings) (a .room .now) (a .reading) (a .key .now) (sym (f .fault .ensures) ∙ i .if1 .left) .1 .cache-high,
-    )
+    (in-room (a .settings) (a .room .now) (a .reading) (a .key .now) (none-early u) x (slot-is o), passed (o .before .before .before .before .before) .1 .cache-high)
 
 inc-change-requires : tie.Need-inc-change-requires
 inc-change-requires c κs = search needs
 
 join-ticks-requires : tie.Need-join-ticks-requires
-join-ticks-requires c κs =
-    let u = c .before .before .before .before .before .before .before .before .before .before .before in
-    let i = u .before .before .before .before .before .before .before .before in
-    let f = i .before in
-    let s = f .before .before .before .before in
-    let a = s .args in
-    no-fault Suppressed (a .settings) (a .room .now) (a .reading) (a .key .now) (sym (f .fault .ensures) ∙ i .if1 .left) .1 .bucket-high
+join-ticks-requires c κs = passed (c .before .before .before .before .before .before .before .before .before .before .before .before .before .before .before .before .before .before .before) .1 .bucket-high
 
 apply-requires : tie.Need-apply-requires
 apply-requires c κs =
@@ -203,21 +158,11 @@ apply-requires c κs =
     let l = z .before in
     let p = l .before .before in
     let u = p .before .before in
-    let m = u .before in
-    let o = m .before .before in
-    let d = o .before in
-    let v = d .before .before in
-    let n = v .before in
-    let i = n .before in
-    let f = i .before in
-    let s = f .before .before .before .before in
-    let a = s .args in
+    let o = u .before .before .before in
+    let a = o .before .before .before .before .before .before .before .before .before .before .args in
     let x = o .open-at .result in
-    let k = looked-is Suppressed (a .settings) (a .room .now) (a .reading) (a .key .now) _ _ _ x (o .open-at .ensures)
-    (v .look-ticks .ensures) (n .window-ticks .ensures) (d .address .ensures) in
-    let e = sym (m .misfit .ensures) ∙ u .if2 .left in
     subst (λ (b : ℕ). Applies (a .room .now) (p .place .result) b (a .reading) (h .inc-change .result)) (sym (c .join-ticks .ensures))
-    (inc-applies (a .settings) (a .room .now) (a .reading) (a .key .now) e x k (p .place .result) (p .place .ensures)
+    (inc-applies (a .settings) (a .room .now) (a .reading) (a .key .now) (none-early u) x (slot-is o) (p .place .result) (p .place .ensures)
     (lacksAt (a .room .now) (p .place .result) x) refl (a .rate) (a .count) (a .draw) (ringOf (a .room .now)) (l .late .result) refl (l .late .ensures)
     (z .if3 .left) (g .decide .result) (q .limit-for .result) (r .forecast .result) (q .limit-for .ensures) (r .forecast .ensures) (g .decide .ensures)
     (h .inc-change .result) (h .inc-change .ensures))
@@ -237,20 +182,10 @@ returns-4 c =
     let l = z .before in
     let p = l .before .before in
     let u = p .before .before in
-    let m = u .before in
-    let o = m .before .before in
-    let d = o .before in
-    let v = d .before .before in
-    let n = v .before in
-    let i = n .before in
-    let f = i .before in
-    let s = f .before .before .before .before in
-    let a = s .args in
+    let o = u .before .before .before in
+    let a = o .before .before .before .before .before .before .before .before .before .before .args in
     let x = o .open-at .result in
-    let k = looked-is Suppressed (a .settings) (a .room .now) (a .reading) (a .key .now) _ _ _ x (o .open-at .ensures)
-    (v .look-ticks .ensures) (n .window-ticks .ensures) (d .address .ensures) in
-    let e = sym (m .misfit .ensures) ∙ u .if2 .left in
-    inc-done (a .settings) (a .room .now) (a .reading) (a .key .now) e x k (p .place .result) (p .place .ensures)
+    inc-done (a .settings) (a .room .now) (a .reading) (a .key .now) (none-early u) x (slot-is o) (p .place .result) (p .place .ensures)
     (lacksAt (a .room .now) (p .place .result) x) refl (a .rate) (a .count) (a .draw) (ringOf (a .room .now)) (l .late .result) refl (l .late .ensures)
     (z .if3 .left) (g .decide .result) (q .limit-for .result) (r .forecast .result) (q .limit-for .ensures) (r .forecast .ensures) (g .decide .ensures)
     (h .inc-change .result) (w .apply .last .0) (h .inc-change .ensures)

@@ -1,11 +1,31 @@
 -- Refusals 1 to 7, then 11; then the change is carried out.
-use mathlib.Core.Path.{sym, ap, subst, _∙_}
+use mathlib.Core.Path.{_≡_, sym, ap, subst, _∙_}
 use Prim.Native.Nat.{ℕ}
+use Rattle.rules.specs.declared.RoomKind.the-variants.{Suppressed}
+use Rattle.judge.specs.Judge.{early, lookedIn}
 use Rattle.change.specs.Words.{Applies, applied}
 use Rattle.suppressed_verdicts.specs.Laws.{not-early, slot-found, room-found, proper-found, in-room, factor-early, factor-full, factor-applies, factor-done}
 use borrow.Author.Needs.{needs}
 use Rattle.suppressed_reads.proofs.get_suppression_factor.Statement.{statement}
 use Rattle.suppressed_reads.proofs.get_suppression_factor.Tie as tie
+
+-- ---- what is known past 1 to 7
+
+none-early : (c : tie.Else1) →
+    let a = c .before .before .before .before .before .args in early Suppressed (a .settings) (a .room .now) (a .reading) (a .key .now) ≡ 0
+none-early c =
+    let j = c .before .judge in
+    let a = c .before .before .before .before .before .args in
+    not-early (a .settings) (a .room .now) (a .reading) (a .key .now) _ (j .result) (j .ensures) (c .if1 .left)
+
+slot-is : (c : tie.Else1) →
+    let a = c .before .before .before .before .before .args in c .before .judge .result .slot ≡ lookedIn (a .settings) (a .room .now) (a .reading) (a .key .now)
+slot-is c =
+    let j = c .before .judge in
+    let a = c .before .before .before .before .before .args in
+    slot-found (a .settings) (a .room .now) (a .reading) (a .key .now) _ (j .result) (j .ensures) (c .if1 .left)
+
+-- ---- the needs
 
 judge-requires : tie.Need-judge-requires
 judge-requires c κs = search needs
@@ -44,9 +64,8 @@ returns-2 c =
     let p = o .before in
     let a = p .before .before .before .before .args in
     let j = p .judge in
-    factor-full (a .settings) (a .room .now) (a .reading) (a .key .now) (not-early (a .settings) (a .room .now) (a .reading) (a .key .now) _ (j .result)
-    (j .ensures) (o .if1 .left))
-    (j .result .slot) (slot-found (a .settings) (a .room .now) (a .reading) (a .key .now) _ (j .result) (j .ensures) (o .if1 .left))
+    factor-full (a .settings) (a .room .now) (a .reading) (a .key .now) (none-early o)
+    (j .result .slot) (slot-is o)
     (d .place .result) (d .place .ensures) (y .lacks-slot .result) (y .lacks-slot .ensures) (c .if2 .taken)
 
 ask-requires : tie.Need-ask-requires
@@ -55,9 +74,7 @@ ask-requires c κs =
     let n = m .before in
     let a = n .before .before .before .before .args in
     let j = n .judge in (
-      in-room (a .settings) (a .room .now) (a .reading) (a .key .now) (not-early (a .settings) (a .room .now) (a .reading) (a .key .now) _ (j .result)
-          (j .ensures) (m .if1 .left)) (j .result .slot) (slot-found (a .settings) (a .room .now) (a .reading) (a .key .now) _ (j .result) (j .ensures)
-          (m .if1 .left)),
+      in-room (a .settings) (a .room .now) (a .reading) (a .key .now) (none-early m) (j .result .slot) (slot-is m),
       proper-found (a .settings) (a .room .now) (a .reading) (a .key .now) _ (j .result) (j .ensures) (m .if1 .left) .cache-high,
     )
 
@@ -83,9 +100,8 @@ apply-requires c κs =
     let a = u .before .before .before .before .args in
     let j = u .judge in
     subst (λ (ticks : ℕ). Applies (a .room .now) (o .place .result) ticks (a .reading) (c .factor-change .result)) (sym (y .join-ticks .ensures))
-    (factor-applies (a .settings) (a .room .now) (a .reading) (a .key .now) (not-early (a .settings) (a .room .now) (a .reading) (a .key .now) _ (j .result)
-    (j .ensures) (r .if1 .left))
-    (j .result .slot) (slot-found (a .settings) (a .room .now) (a .reading) (a .key .now) _ (j .result) (j .ensures) (r .if1 .left))
+    (factor-applies (a .settings) (a .room .now) (a .reading) (a .key .now) (none-early r)
+    (j .result .slot) (slot-is r)
     (o .place .result) (o .place .ensures) (n .lacks-slot .result) (n .lacks-slot .ensures)
     (m .if2 .left) (d .ask .result .caching) (c .factor-change .result) (c .factor-change .ensures))
 
@@ -105,9 +121,8 @@ returns-3 c =
     let g = v .before in
     let a = g .before .before .before .before .args in
     let j = g .judge in
-    factor-done (a .settings) (a .room .now) (a .reading) (a .key .now) (not-early (a .settings) (a .room .now) (a .reading) (a .key .now) _ (j .result)
-    (j .ensures) (v .if1 .left))
-    (j .result .slot) (slot-found (a .settings) (a .room .now) (a .reading) (a .key .now) _ (j .result) (j .ensures) (v .if1 .left))
+    factor-done (a .settings) (a .room .now) (a .reading) (a .key .now) (none-early v)
+    (j .result .slot) (slot-is v)
     (q .place .result) (q .place .ensures) (p .lacks-slot .result) (p .lacks-slot .ensures)
     (o .if2 .left) (n .ask .result) (n .ask .ensures) (d .factor-change .result) (y .apply .last .0) (d .factor-change .ensures)
     (y .apply .ensures ∙
