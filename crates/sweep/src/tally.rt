@@ -20,7 +20,8 @@ pub struct Mark {
     pub time: u64,
 }
 
-// What a pass finds; `oldest` is the oldest that is live, `eldest` the oldest of all. Where the buckets are not sound, all is zero.
+// What a pass finds at a look: `expired` is how many go, `oldest` the oldest that is left, `eldest` the oldest of all. Where the buckets are
+// not sound, all is zero.
 pub struct Pass {
     pub sound: bool,
     pub buckets: usize,
