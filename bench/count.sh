@@ -1,6 +1,7 @@
 #!/bin/sh
-# count.sh [calls] [increments|shots|expired|clocks]: instructions for a call, which no load on the machine changes: what twice as many calls
-# execute more, less what is executed where none is made. `clocks` has increments in either clock mode, the others have milliseconds. By
+# count.sh [calls] [increments|shots|expired|clocks|parties]: instructions for a call, which no load on the machine changes: what twice as many
+# calls execute more, less what is executed where none is made. `clocks` has increments in either clock mode, the others have milliseconds;
+# `parties` has increments of one party's keys and of the same keys split between two, the others are of one party. By
 # valgrind, which counts the calls alone; where COUNT names a command, by that: it runs its arguments and prints how many instructions
 # they executed, as its last line. Needs a benchmark built by build.sh; of a contestant that it does not have, or that fails, it tells `-`.
 set -eu
@@ -63,15 +64,25 @@ clocks() {
         done
     done
 }
+parties() {
+    for limiter in absolute suppressed; do
+        for keys in 40 64; do
+            for live in 10 100; do
+                row "$limiter, $keys keys, ring $live, one party" "twin archive trusting original" one-party $limiter $keys $live
+                row "$limiter, $keys keys, ring $live, two parties" "twin archive trusting original" two-parties $limiter $keys $live
+            done
+        done
+    done
+}
 case ${2:-all} in
-increments | shots | expired | clocks) $2 ;;
+increments | shots | expired | clocks | parties) $2 ;;
 all)
     increments
     shots
     expired
     ;;
 *)
-    echo "increments, shots, expired or clocks" >&2
+    echo "increments, shots, expired, clocks or parties" >&2
     exit 2
     ;;
 esac

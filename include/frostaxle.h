@@ -4,7 +4,8 @@
  * The absolute limiter lets a key through while its total in the window is below its limit, and says how long to wait
  * when it is not. The suppressed limiter lets a growing share of calls go between a soft and a hard limit, by a random
  * draw that you hand in. A gateway in front of a suppressed limiter knows a controller's shot by its number, so that a
- * shot that is sent again because its answer was lost is not admitted twice.
+ * shot that is sent again because its answer was lost is not admitted twice. Two parties may share a limiter's room,
+ * and neither can take the other's place in it.
  *
  * Every call ends with its answer or with one of the numbered refusals, on any arguments and any words in the lent
  * memory; a refused call changes nothing but the answer row. There is no allocation, no lock, no clock, no global
@@ -21,7 +22,7 @@
  * a suppressed one. It has `slots` slots (1 to 64), one to a key, each with a ring of `ring` buckets (1 to 512). Its
  * length in words is exactly
  *
- *     3 + slots * (6 + 7 + 3 * ring)
+ *     67 + slots * (6 + 7 + 3 * ring)
  *
  * which FROSTAXLE_ROOM_WORDS and frostaxle_room_words() work out. frostaxle_make() makes an empty room of it. The words
  * are plain numbers without pointers: you may copy a room, write it to a file, map it from one, or keep it in shared
@@ -32,16 +33,36 @@
  *
  * Threads: calls on different rooms may run at the same time. On one room or table, one call at a time; put a lock of
  * your own around it if threads share one. frostaxle_provider_cleanup uses both of its rooms, frostaxle_gateway_shot
- * its table and its room.
+ * its table and its room. Two parties in one room are no exception.
  *
  * Pointers: none may be NULL, also where its length is 0. Rooms, tables and rows are aligned as uint64_t. The room (or
  * the two rooms, or table and room), the key and the answer row of one call must not overlap.
  *
  *
+ * PARTIES
+ *
+ * Two parties, 1 and 2, may share one room. Every call says whose it is (party) and how many of the room's slots each
+ * of them is promised (first to party 1, second to party 2), together at most `slots`. With one party pass 1, slots,
+ * 0: it has the whole room.
+ *
+ * A key belongs to the party that sends it: the same bytes under the other party are another key, with a limit, counts
+ * and a factor of its own. A new key gets a slot while its party holds fewer than it is promised; one is then always
+ * free. When the party holds as many as it is promised, a new key is refused with 11, though other slots may be free.
+ * clear forgets the keys of the caller's party only. cleanup serves both, whoever calls it.
+ *
+ * While the promises given stay the same, nothing that the other party does alters a decision, a total or a refusal 11
+ * of yours: not how many keys it has, nor its clears, deletes, sets and refused calls. So agree on the promises as on
+ * the settings, and pass the same ones in every call of either party. Two things stay common: the cleanups, and the
+ * clock, since a reading may not be below the last of either party (refusal 6).
+ *
+ * Promises may be changed between two calls. Where they pass the room's slots together, or either party holds more
+ * than it is promised, the calls of both are refused with 16: let the one that holds too much delete keys first.
+ *
+ *
  * THE GATEWAY'S TABLE
  *
  * A table is an array of FROSTAXLE_TABLE_WORDS uint64_t that holds the last admitted shot number of up to 64
- * controllers. frostaxle_gateway_make_table() makes an empty one, which is 387 zeros. No table is a room. It may be
+ * controllers. frostaxle_gateway_make_table() makes an empty one, which is 451 zeros. No table is a room. It may be
  * copied and stored as a room may, and damage is found by the call that meets it (refusal 5).
  *
  * Only frostaxle_gateway_shot() writes numbers into it, and only frostaxle_gateway_new_season() takes them out: no
@@ -50,9 +71,12 @@
  *
  * A controller numbers its shots from 1 upwards. One that hears nothing sends the same shot again under the same
  * number: if it was admitted, it is HELD, and the survey has the point once. HELD changes nothing, and is told by
- * number, controller and table alone: settings, room, reading, rate and draw are not looked at. A shot that is turned
- * away (SUPPRESSED with row[3] 0, or a refusal) is not remembered: it may be sent again under its number, until a later
- * one of its controller is admitted.
+ * number, controller and table alone: settings, room, reading, party, promises, rate and draw are not looked at. A
+ * shot that is turned away (SUPPRESSED with row[3] 0, or a refusal) is not remembered: it may be sent again under its
+ * number, until a later one of its controller is admitted.
+ *
+ * A table has no parties: a controller is its bytes, whoever sends the shot, and the room counts the shot under the
+ * sender's key. Where both parties may have a controller of the same name, or more than 64 together, use a table each.
  *
  *
  * ARGUMENTS, in the order that every call has them
@@ -62,9 +86,12 @@
  *   cache     milliseconds, 1 to 4294967296              how long a suppressed key's factor is used again
  *   factor    finite, at least 1                         hard limit = factor * soft limit (suppressed limiter)
  *   clock     0 is milliseconds, any other nanoseconds   what a tick of the reading is, see below
- *   table, table_len                                     a gateway's table, and 387
+ *   table, table_len                                     a gateway's table, and 451
  *   room, room_len                                       the lent words and how many they are
  *   reading   ticks of the clock, any start you like     your clock; in one room it may stand still but not go back
+ *   party     1 or 2                                     whose call it is, see PARTIES
+ *   first     with second at most the room's slots       how many slots party 1 is promised
+ *   second    with first at most the room's slots        how many slots party 2 is promised
  *   key, key_len                                         0 to 32 bytes of any value
  *   controller, controller_len                           the same: the key whose shots are numbered
  *   number    1 to 2^32 - 1                              which shot of its controller it is
@@ -143,8 +170,9 @@ extern "C" {
 #endif
 
 /*
- * Refusals. The lowest number whose condition holds is given; for a shot 19, 20 and 21 go before 1, 2, .. 12. 13 is not
- * used: it was a factor worked out at perceived rate zero, which is 0 now. It will not be used again.
+ * Refusals. The first whose condition holds is given, in this order: 1 to 7, 15, 16, 8 to 12, 14; for a shot 19, 20
+ * and 21 go before all of them. 13 is not used: it was a factor worked out at perceived rate zero, which is 0 now. It
+ * will not be used again.
  */
 enum {
     FROSTAXLE_OK = 0,
@@ -152,15 +180,21 @@ enum {
     FROSTAXLE_BAD_BUCKET = 2,        /* bucket out of its range */
     FROSTAXLE_BAD_CACHE = 3,         /* cache period out of its range */
     FROSTAXLE_BAD_FACTOR = 4,        /* factor not finite, or below 1 */
-    FROSTAXLE_BAD_ROOM = 5,          /* the lengths of room or table are wrong, or what is addressed in it is unsound */
+    FROSTAXLE_BAD_ROOM = 5,          /* the lengths of room or table are wrong, or what is addressed in it is unsound,
+                                        or any slot of the room in use is neither party's, for every call on it */
     FROSTAXLE_CLOCK_WENT_BACK = 6,   /* reading below that of an earlier call that was not refused */
     FROSTAXLE_LONG_KEY = 7,          /* key over 32 bytes */
     FROSTAXLE_BAD_RATE = 8,          /* rate not finite, or below 2^-900, also for a known key */
     FROSTAXLE_BAD_DRAW = 9,          /* draw over 2^53 - 1 */
     FROSTAXLE_TOTAL_TOO_LARGE = 10,  /* the key's total would pass 2^53, or a set's count does */
-    FROSTAXLE_NO_FREE_SLOT = 11,     /* a slot is needed and none is free: clean up, or make a larger room */
+    FROSTAXLE_NO_FREE_SLOT = 11,     /* a slot is needed and the party already holds its promised number: clean up,
+                                        promise it more, or make a larger room */
     FROSTAXLE_RING_FULL = 12,        /* a bucket must be added to a full ring: take longer rings, or longer buckets */
-    FROSTAXLE_NO_CALL = 14,          /* comparator or preservation is none of the numbers below, and 1 to 8 and 10 are not met */
+    FROSTAXLE_NO_CALL = 14,          /* comparator or preservation is none of the numbers below, and 1 to 8, 10, 15 and
+                                        16 are not met */
+    FROSTAXLE_BAD_PARTY = 15,        /* party is neither 1 nor 2 */
+    FROSTAXLE_BAD_PROMISE = 16,      /* first and second together pass the room's slots, or party 1 holds more slots
+                                        than first, or party 2 more than second */
     FROSTAXLE_BAD_NUMBER = 19,       /* a shot's number is 0 or over 2^32 - 1 */
     FROSTAXLE_OLD_NUMBER = 20,       /* a shot's number is below the last admitted of its controller */
     FROSTAXLE_TABLE_FULL = 21        /* the controller is not in the table, which has 64 */
@@ -207,10 +241,10 @@ enum {
 #define FROSTAXLE_ROW_WORDS 5
 
 /* The length of a gateway's table. */
-#define FROSTAXLE_TABLE_WORDS 387
+#define FROSTAXLE_TABLE_WORDS 451
 
 /* The length of a room, for an array's size. slots and ring in range are yours to see to; frostaxle_make() judges them. */
-#define FROSTAXLE_ROOM_WORDS(slots, ring) (3 + (slots) * (6 + 7 + 3 * (ring)))
+#define FROSTAXLE_ROOM_WORDS(slots, ring) (67 + (slots) * (6 + 7 + 3 * (ring)))
 
 /* The double whose bits a word of the row holds. */
 static inline double frostaxle_double(uint64_t bits) {
@@ -231,137 +265,154 @@ uint64_t frostaxle_make(uint64_t *room, size_t room_len, uint64_t slots, uint64_
 
 /* Counts `count` for a key if it is allowed: ALLOWED or REJECTED. A key's first call stores its limit, rate * window. */
 uint64_t frostaxle_absolute_inc(uint64_t window, uint64_t bucket, uint64_t cache, double factor, uint64_t clock,
-                                uint64_t *room, size_t room_len, uint64_t reading, const uint8_t *key, size_t key_len,
-                                double rate, uint64_t count, uint64_t row[5]);
+                                uint64_t *room, size_t room_len, uint64_t reading, uint64_t party, uint64_t first,
+                                uint64_t second, const uint8_t *key, size_t key_len, double rate, uint64_t count,
+                                uint64_t row[5]);
 
 /* What an increment would be told now, without counting: ALLOWED or REJECTED. An unknown key is ALLOWED. */
 uint64_t frostaxle_absolute_is_allowed(uint64_t window, uint64_t bucket, uint64_t cache, double factor,
                                        uint64_t clock, uint64_t *room, size_t room_len, uint64_t reading,
-                                       const uint8_t *key, size_t key_len, uint64_t row[5]);
+                                       uint64_t party, uint64_t first, uint64_t second, const uint8_t *key,
+                                       size_t key_len, uint64_t row[5]);
 
 /* The key's live total, 0 for an unknown key. */
 uint64_t frostaxle_absolute_get(uint64_t window, uint64_t bucket, uint64_t cache, double factor, uint64_t clock,
-                                uint64_t *room, size_t room_len, uint64_t reading, const uint8_t *key, size_t key_len,
-                                uint64_t row[5]);
+                                uint64_t *room, size_t room_len, uint64_t reading, uint64_t party, uint64_t first,
+                                uint64_t second, const uint8_t *key, size_t key_len, uint64_t row[5]);
 
 /* Gives a known key another limit: VALUE with its old rate. An unknown key stays UNKNOWN. */
 uint64_t frostaxle_absolute_set_rate_limit(uint64_t window, uint64_t bucket, uint64_t cache, double factor,
                                            uint64_t clock, uint64_t *room, size_t room_len, uint64_t reading,
-                                           const uint8_t *key, size_t key_len, double rate, uint64_t row[5]);
+                                           uint64_t party, uint64_t first, uint64_t second, const uint8_t *key,
+                                           size_t key_len, double rate, uint64_t row[5]);
 
 /* Forgets a key: VALUE with its live total, or UNKNOWN. */
 uint64_t frostaxle_absolute_delete(uint64_t window, uint64_t bucket, uint64_t cache, double factor, uint64_t clock,
-                                   uint64_t *room, size_t room_len, uint64_t reading, const uint8_t *key,
-                                   size_t key_len, uint64_t row[5]);
+                                   uint64_t *room, size_t room_len, uint64_t reading, uint64_t party, uint64_t first,
+                                   uint64_t second, const uint8_t *key, size_t key_len, uint64_t row[5]);
 
-/* Forgets every key. */
+/* Forgets every key of the caller's party. Judges slots only by whose they are. */
 uint64_t frostaxle_absolute_clear(uint64_t window, uint64_t bucket, uint64_t cache, double factor, uint64_t clock,
-                                  uint64_t *room, size_t room_len, uint64_t reading, uint64_t row[5]);
+                                  uint64_t *room, size_t room_len, uint64_t reading, uint64_t party, uint64_t first,
+                                  uint64_t second, uint64_t row[5]);
 
 /* If the comparator is met, sets the key's limit and its total to `count`, in one bucket; count 0 forgets the key. */
 uint64_t frostaxle_absolute_set_if(uint64_t window, uint64_t bucket, uint64_t cache, double factor, uint64_t clock,
-                                   uint64_t *room, size_t room_len, uint64_t reading, const uint8_t *key,
-                                   size_t key_len, double rate, uint64_t count, uint64_t comparator, uint64_t operand,
-                                   uint64_t row[5]);
+                                   uint64_t *room, size_t room_len, uint64_t reading, uint64_t party, uint64_t first,
+                                   uint64_t second, const uint8_t *key, size_t key_len, double rate, uint64_t count,
+                                   uint64_t comparator, uint64_t operand, uint64_t row[5]);
 
 /* The same, but keeps the key's buckets: only the difference is added to one end, or taken from the other. */
 uint64_t frostaxle_absolute_set_if_preserve_history(uint64_t window, uint64_t bucket, uint64_t cache, double factor,
                                                     uint64_t clock, uint64_t *room, size_t room_len, uint64_t reading,
+                                                    uint64_t party, uint64_t first, uint64_t second,
                                                     const uint8_t *key, size_t key_len, double rate, uint64_t count,
                                                     uint64_t comparator, uint64_t operand, uint64_t preservation,
                                                     uint64_t row[5]);
 
-/* Forgets keys without a bucket, or whose newest bucket is older than `stale`. Judges every slot in use. */
+/* Forgets both parties' keys without a bucket, or whose newest is older than `stale`. Judges every slot in use. */
 uint64_t frostaxle_absolute_cleanup(uint64_t window, uint64_t bucket, uint64_t cache, double factor, uint64_t clock,
-                                    uint64_t *room, size_t room_len, uint64_t reading, uint64_t stale,
-                                    uint64_t row[5]);
+                                    uint64_t *room, size_t room_len, uint64_t reading, uint64_t party, uint64_t first,
+                                    uint64_t second, uint64_t stale, uint64_t row[5]);
 
 /* ---- the suppressed limiter */
 
 /* Counts `count` for a key and decides by the forecast and the draw: ALLOWED or SUPPRESSED. */
 uint64_t frostaxle_suppressed_inc(uint64_t window, uint64_t bucket, uint64_t cache, double factor, uint64_t clock,
-                                  uint64_t *room, size_t room_len, uint64_t reading, const uint8_t *key,
-                                  size_t key_len, double rate, uint64_t count, uint64_t draw, uint64_t row[5]);
+                                  uint64_t *room, size_t room_len, uint64_t reading, uint64_t party, uint64_t first,
+                                  uint64_t second, const uint8_t *key, size_t key_len, double rate, uint64_t count,
+                                  uint64_t draw, uint64_t row[5]);
 
 /* The key's live total, how much of it was declined, and its factor; zeros for an unknown key. */
 uint64_t frostaxle_suppressed_get(uint64_t window, uint64_t bucket, uint64_t cache, double factor, uint64_t clock,
-                                  uint64_t *room, size_t room_len, uint64_t reading, const uint8_t *key,
-                                  size_t key_len, uint64_t row[5]);
+                                  uint64_t *room, size_t room_len, uint64_t reading, uint64_t party, uint64_t first,
+                                  uint64_t second, const uint8_t *key, size_t key_len, uint64_t row[5]);
 
 /* The key's factor, 0 (none is declined) to 1 (all are). It is cached; an unknown key takes a slot for it. */
 uint64_t frostaxle_suppressed_get_suppression_factor(uint64_t window, uint64_t bucket, uint64_t cache, double factor,
                                                      uint64_t clock, uint64_t *room, size_t room_len,
-                                                     uint64_t reading, const uint8_t *key, size_t key_len,
+                                                     uint64_t reading, uint64_t party, uint64_t first,
+                                                     uint64_t second, const uint8_t *key, size_t key_len,
                                                      uint64_t row[5]);
 
 uint64_t frostaxle_suppressed_set_rate_limit(uint64_t window, uint64_t bucket, uint64_t cache, double factor,
                                              uint64_t clock, uint64_t *room, size_t room_len, uint64_t reading,
-                                             const uint8_t *key, size_t key_len, double rate, uint64_t row[5]);
+                                             uint64_t party, uint64_t first, uint64_t second, const uint8_t *key,
+                                             size_t key_len, double rate, uint64_t row[5]);
 
 /* Forgets a key: VALUE with its live total less what was declined (0 if only a factor was cached), or UNKNOWN. */
 uint64_t frostaxle_suppressed_delete(uint64_t window, uint64_t bucket, uint64_t cache, double factor, uint64_t clock,
-                                     uint64_t *room, size_t room_len, uint64_t reading, const uint8_t *key,
-                                     size_t key_len, uint64_t row[5]);
+                                     uint64_t *room, size_t room_len, uint64_t reading, uint64_t party,
+                                     uint64_t first, uint64_t second, const uint8_t *key, size_t key_len,
+                                     uint64_t row[5]);
 
 uint64_t frostaxle_suppressed_clear(uint64_t window, uint64_t bucket, uint64_t cache, double factor, uint64_t clock,
-                                    uint64_t *room, size_t room_len, uint64_t reading, uint64_t row[5]);
+                                    uint64_t *room, size_t room_len, uint64_t reading, uint64_t party, uint64_t first,
+                                    uint64_t second, uint64_t row[5]);
 
 uint64_t frostaxle_suppressed_set_if(uint64_t window, uint64_t bucket, uint64_t cache, double factor, uint64_t clock,
-                                     uint64_t *room, size_t room_len, uint64_t reading, const uint8_t *key,
-                                     size_t key_len, double rate, uint64_t count, uint64_t comparator,
-                                     uint64_t operand, uint64_t row[5]);
+                                     uint64_t *room, size_t room_len, uint64_t reading, uint64_t party,
+                                     uint64_t first, uint64_t second, const uint8_t *key, size_t key_len, double rate,
+                                     uint64_t count, uint64_t comparator, uint64_t operand, uint64_t row[5]);
 
 uint64_t frostaxle_suppressed_set_if_preserve_history(uint64_t window, uint64_t bucket, uint64_t cache, double factor,
                                                       uint64_t clock, uint64_t *room, size_t room_len,
-                                                      uint64_t reading, const uint8_t *key, size_t key_len,
+                                                      uint64_t reading, uint64_t party, uint64_t first,
+                                                      uint64_t second, const uint8_t *key, size_t key_len,
                                                       double rate, uint64_t count, uint64_t comparator,
                                                       uint64_t operand, uint64_t preservation, uint64_t row[5]);
 
 /* As for the absolute limiter; a cached factor stays only if it is younger than `stale`. */
 uint64_t frostaxle_suppressed_cleanup(uint64_t window, uint64_t bucket, uint64_t cache, double factor, uint64_t clock,
-                                      uint64_t *room, size_t room_len, uint64_t reading, uint64_t stale,
-                                      uint64_t row[5]);
+                                      uint64_t *room, size_t room_len, uint64_t reading, uint64_t party,
+                                      uint64_t first, uint64_t second, uint64_t stale, uint64_t row[5]);
 
 /* ---- the read-out */
 
 /*
  * Bucket `at` of a key, counted from 0, the oldest; expired ones that are still stored too. UNKNOWN past the newest, and
- * for an unknown key: ask from 0 on until UNKNOWN. No reading, and nothing changes; refusals are 1 to 5 and 7.
+ * for an unknown key: ask from 0 on until UNKNOWN. No reading, no promises, and nothing changes; refusals are 1 to 5,
+ * 7 and 15.
  */
 uint64_t frostaxle_absolute_bucket(uint64_t window, uint64_t bucket, uint64_t cache, double factor, uint64_t clock,
-                                   const uint64_t *room, size_t room_len, const uint8_t *key, size_t key_len,
-                                   size_t at, uint64_t row[5]);
+                                   const uint64_t *room, size_t room_len, uint64_t party, const uint8_t *key,
+                                   size_t key_len, size_t at, uint64_t row[5]);
 
 uint64_t frostaxle_suppressed_bucket(uint64_t window, uint64_t bucket, uint64_t cache, double factor, uint64_t clock,
-                                     const uint64_t *room, size_t room_len, const uint8_t *key, size_t key_len,
-                                     size_t at, uint64_t row[5]);
+                                     const uint64_t *room, size_t room_len, uint64_t party, const uint8_t *key,
+                                     size_t key_len, size_t at, uint64_t row[5]);
 
 /* ---- both */
 
-/* Cleans both rooms, or, refused with the lowest number over both, neither. */
+/*
+ * Cleans both rooms, or, refused with the first number, in the order of refusals, that either room meets, neither.
+ * Each room has promises of its own.
+ */
 uint64_t frostaxle_provider_cleanup(uint64_t window, uint64_t bucket, uint64_t cache, double factor, uint64_t clock,
                                     uint64_t *absolute, size_t absolute_len, uint64_t *suppressed,
-                                    size_t suppressed_len, uint64_t reading, uint64_t stale, uint64_t row[5]);
+                                    size_t suppressed_len, uint64_t reading, uint64_t party, uint64_t absolute_first,
+                                    uint64_t absolute_second, uint64_t suppressed_first, uint64_t suppressed_second,
+                                    uint64_t stale, uint64_t row[5]);
 
 /* ---- the gateway: shots by their number, in front of a suppressed limiter */
 
-/* Makes an empty table, whatever the words held. 0; or 5 if the length is not 387, and the words stay. */
+/* Makes an empty table, whatever the words held. 0; or 5 if the length is not 451, and the words stay. */
 uint64_t frostaxle_gateway_make_table(uint64_t *table, size_t table_len);
 
 /*
  * A controller's shot. HELD if its number is the last admitted one. A higher one is counted in the room, as
- * frostaxle_suppressed_inc() counts 1: ALLOWED or SUPPRESSED; the table gets its number only if that is a yes. Refused
- * with the first of these that holds:
+ * frostaxle_suppressed_inc() counts 1 for the party: ALLOWED or SUPPRESSED; the table gets its number only if that is
+ * a yes. Refused with the first of these that holds:
  *   19  the number is 0 or over 2^32 - 1
  *   20  it is below the last admitted: that one was later, and whether this one was admitted is not kept
  *   21  the controller is not in the table, which has 64
- *   1 to 12, unless it is HELD, as for the increment; 5 for the table, too
+ *   1 to 7, 15, 16 and 8 to 12, unless it is HELD, as for the increment; 5 for the table, too
  * A table that is unsound for its controller has no last number: with it a shot is neither HELD nor 20 nor 21.
  */
 uint64_t frostaxle_gateway_shot(uint64_t window, uint64_t bucket, uint64_t cache, double factor, uint64_t clock,
                                 uint64_t *table, size_t table_len, uint64_t *room, size_t room_len, uint64_t reading,
-                                const uint8_t *controller, size_t controller_len, uint64_t number, double rate,
-                                uint64_t draw, uint64_t row[5]);
+                                uint64_t party, uint64_t first, uint64_t second, const uint8_t *controller,
+                                size_t controller_len, uint64_t number, double rate, uint64_t draw, uint64_t row[5]);
 
 /* Empties the table: every controller may begin at 1 again. DONE; or 5 if it is no table, and the words stay. */
 uint64_t frostaxle_gateway_new_season(uint64_t *table, size_t table_len, uint64_t row[5]);

@@ -1,6 +1,6 @@
 #!/bin/sh
-# broken.sh [rooms] [seed]: builds; puts every call to damaged rooms, shots to damaged tables, and every set of refusals together to all,
-# in each clock mode; for each prints a line for the shots, then for each one for the limiters.
+# broken.sh [rooms] [seed]: builds; puts every call to damaged rooms, damaged holders among them, shots to damaged tables, and every set of
+# refusals together to all, in each clock mode; for each prints a line for the shots, then for each one for the limiters.
 set -eu
 here=$(cd "$(dirname "$0")" && pwd)
 "$here/build.sh"

@@ -4,7 +4,7 @@ use std::sync::Arc;
 
 use original::{LocalRateLimiterProvider, RateLimit, RateLimitDecision};
 
-use crate::load::{Call, Clock, Increment, Key, Limiter, Load, Settings};
+use crate::load::{Call, Caller, Clock, Increment, Key, Limiter, Load, Settings};
 use crate::shots::TwinShots;
 #[cfg(archive)]
 use crate::shots::archive::ArchiveShots;
@@ -120,21 +120,28 @@ macro_rules! of_rooms {
                 }
             }
 
+            fn caller(caller: Caller) -> $twin::parties::Caller {
+                let Caller { party, first, second } = caller;
+                $twin::parties::Caller { party, first, second }
+            }
+
             fn ask_absolute(&mut self, load: &Load, increments: &[Increment]) -> u64 {
                 use $twin::absolute::{get, inc, is_allowed};
                 let (settings, room) = (&self.settings, &mut self.rooms.absolute[..]);
                 match load.shape.deed.call() {
                     Call::Inc => answers(load, increments, |given, key| {
-                        let (bytes, count) = (key.text.as_bytes(), u64::from(given.count));
-                        Self::decided(inc(settings, room, given.reading, bytes, key.rate, count))
+                        let (reading, count) = (given.reading, u64::from(given.count));
+                        let (caller, bytes) = (Self::caller(key.caller), key.text.as_bytes());
+                        Self::decided(inc(settings, room, reading, caller, bytes, key.rate, count))
                     }),
                     Call::Get => answers(load, increments, |given, key| {
-                        let total = get(settings, room, given.reading, key.text.as_bytes());
+                        let (caller, bytes) = (Self::caller(key.caller), key.text.as_bytes());
+                        let total = get(settings, room, given.reading, caller, bytes);
                         told([Self::answered(total), 0, 0])
                     }),
                     Call::Own => answers(load, increments, |given, key| {
-                        let bytes = key.text.as_bytes();
-                        Self::decided(is_allowed(settings, room, given.reading, bytes))
+                        let (caller, bytes) = (Self::caller(key.caller), key.text.as_bytes());
+                        Self::decided(is_allowed(settings, room, given.reading, caller, bytes))
                     }),
                 }
             }
@@ -145,17 +152,22 @@ macro_rules! of_rooms {
                 match load.shape.deed.call() {
                     Call::Inc => answers(load, increments, |given, key| {
                         let Increment { reading, draw, count, .. } = *given;
-                        let (bytes, count) = (key.text.as_bytes(), u64::from(count));
-                        Self::decided(inc(settings, room, reading, bytes, key.rate, count, draw))
+                        let (caller, bytes) = (Self::caller(key.caller), key.text.as_bytes());
+                        let (rate, count) = (key.rate, u64::from(count));
+                        Self::decided(inc(
+                            settings, room, reading, caller, bytes, rate, count, draw,
+                        ))
                     }),
                     Call::Get => answers(load, increments, |given, key| {
-                        let snapshot = get(settings, room, given.reading, key.text.as_bytes());
+                        let (caller, bytes) = (Self::caller(key.caller), key.text.as_bytes());
+                        let snapshot = get(settings, room, given.reading, caller, bytes);
                         let Snapshot { total, declined, factor } = Self::answered(snapshot);
                         told([total, declined, factor.to_bits()])
                     }),
                     Call::Own => answers(load, increments, |given, key| {
-                        let bytes = key.text.as_bytes();
-                        let factor = get_suppression_factor(settings, room, given.reading, bytes);
+                        let (caller, bytes) = (Self::caller(key.caller), key.text.as_bytes());
+                        let factor =
+                            get_suppression_factor(settings, room, given.reading, caller, bytes);
                         told([Self::answered(factor).to_bits(), 0, 0])
                     }),
                 }
@@ -167,9 +179,11 @@ macro_rules! of_rooms {
                 $name
             }
 
-            fn clear(&mut self, limiter: Limiter, _load: &Load, reading: u64) {
+            fn clear(&mut self, limiter: Limiter, load: &Load, reading: u64) {
                 let room = self.rooms.of(limiter);
-                $twin::shared::clear(&self.settings, room, reading).expect("a room");
+                for caller in load.callers().into_iter().map(Self::caller) {
+                    $twin::shared::clear(&self.settings, room, reading, caller).expect("a room");
+                }
             }
 
             fn run(&mut self, limiter: Limiter, load: &Load, increments: &[Increment]) -> u64 {
@@ -194,7 +208,7 @@ of_rooms!(Trusting, "trusting", trusting);
 pub mod archive {
     use super::*;
 
-    /// The archive's functions: settings, a room and a reading, what the call asks for, and the row for the answer.
+    /// The archive's functions: settings, a room, a reading and a caller, what the call asks for, and the row for the answer.
     macro_rules! faces {
         ($($name:ident($($argument:ident: $type:ty),*);)*) => {
             unsafe extern "C" {
@@ -207,6 +221,9 @@ pub mod archive {
                     room: *mut u64,
                     words: usize,
                     reading: u64,
+                    party: u64,
+                    first: u64,
+                    second: u64,
                     $($argument: $type,)*
                     row: *mut u64,
                 ) -> u64;)*
@@ -232,9 +249,11 @@ pub mod archive {
             let (words, length) = ($room.as_mut_ptr(), $room.len());
             let (key, bytes) = ($key.text.as_ptr(), $key.text.len());
             let (reading, row) = ($given.reading, $row.as_mut_ptr());
+            let Caller { party, first, second } = $key.caller;
             unsafe {
                 $function(
-                    window, bucket, cache, factor, clock as u64, words, length, reading, key, bytes, $($argument,)* row,
+                    window, bucket, cache, factor, clock as u64, words, length, reading, party, first, second,
+                    key, bytes, $($argument,)* row,
                 )
             }
         }};
@@ -243,16 +262,21 @@ pub mod archive {
     /// Every key of a limiter's room goes.
     pub fn clear(limiter: Limiter, load: &Load, room: &mut [u64], reading: u64) {
         let Settings { window, bucket, cache, factor, clock } = load.settings;
-        let clear: unsafe extern "C" fn(_, _, _, _, _, _, _, _, _) -> _ = match limiter {
+        let clear: unsafe extern "C" fn(_, _, _, _, _, _, _, _, _, _, _, _) -> _ = match limiter {
             Limiter::Absolute => frostaxle_absolute_clear,
             Limiter::Suppressed => frostaxle_suppressed_clear,
         };
         let (words, length, mut row) = (room.as_mut_ptr(), room.len(), [0; 5]);
-        let code = unsafe {
+        for Caller { party, first, second } in load.callers() {
             let (clock, row) = (clock as u64, row.as_mut_ptr());
-            clear(window, bucket, cache, factor, clock, words, length, reading, row)
-        };
-        assert_eq!(code, 0, "a room is cleared");
+            let code = unsafe {
+                clear(
+                    window, bucket, cache, factor, clock, words, length, reading, party, first,
+                    second, row,
+                )
+            };
+            assert_eq!(code, 0, "a room is cleared");
+        }
     }
 
     pub struct Archive {

@@ -104,12 +104,40 @@ impl Deed {
     }
 }
 
-/// How many keys, how many live buckets each is to have, the ring, the window, the bucket size and the clock; the rest of the settings
-/// are the defaults.
+/// Whose the keys are: one party's, which is promised every slot, or of two that are promised a slot for each of their keys.
+#[derive(Clone, Copy, Debug, PartialEq, Eq)]
+pub enum Parties {
+    One,
+    Two,
+}
+
+impl Parties {
+    pub const BOTH: [Parties; 2] = [Parties::One, Parties::Two];
+
+    /// The party of a key. Of either there are keys below their limit and others.
+    fn of(self, key: usize) -> u64 {
+        match self {
+            Parties::One => 1,
+            Parties::Two => 1 + key as u64 / 2 % 2,
+        }
+    }
+}
+
+/// Who calls, and how many slots each party is promised.
+#[derive(Clone, Copy, Debug, PartialEq, Eq)]
+pub struct Caller {
+    pub party: u64,
+    pub first: u64,
+    pub second: u64,
+}
+
+/// How many keys, whose they are, how many live buckets each is to have, the ring, the window, the bucket size and the clock; the rest of
+/// the settings are the defaults.
 #[derive(Clone, Copy, Debug)]
 pub struct Shape {
     pub deed: Deed,
     pub keys: usize,
+    pub parties: Parties,
     pub live: u64,
     pub ring: usize,
     pub window: u64,
@@ -125,8 +153,8 @@ impl Shape {
             MOST_BUCKETS_OF_LONG => (LONG_WINDOW, DEFAULT_BUCKET),
             _ => (DEFAULT_WINDOW, SMALL_BUCKET),
         };
-        let (deed, ring, clock) = (Deed::Increments, live as usize, Clock::Milliseconds);
-        Shape { deed, keys, live, ring, window, bucket, clock }
+        let (deed, parties, clock) = (Deed::Increments, Parties::One, Clock::Milliseconds);
+        Shape { deed, keys, parties, live, ring: live as usize, window, bucket, clock }
     }
 
     /// What a full ring holds on average. Two increments go to a bucket.
@@ -146,6 +174,7 @@ pub struct Settings {
 
 pub struct Key {
     pub text: String,
+    pub caller: Caller,
     pub rate: f64,
 }
 
@@ -176,13 +205,24 @@ impl Load {
             _ if key % 2 == 0 => 1.25 * shape.mean_total(),
             _ => 0.95 * shape.mean_total(),
         };
+        let second = (0..shape.keys).filter(|key| shape.parties.of(*key) == 2).count() as u64;
+        let first = shape.keys as u64 - second;
         let keys = (0..shape.keys)
             .map(|key| Key {
                 text: format!("station-{key:02}{}", "-west"[..key % 6].to_owned()),
+                caller: Caller { party: shape.parties.of(key), first, second },
                 rate: limit(key) / settings.window as f64,
             })
             .collect();
         Load { shape, settings, keys }
+    }
+
+    /// The parties that have keys, each as it calls.
+    pub fn callers(&self) -> Vec<Caller> {
+        let mut callers: Vec<Caller> = self.keys.iter().map(|key| key.caller).collect();
+        callers.sort_by_key(|caller| caller.party);
+        callers.dedup();
+        callers
     }
 
     /// The reading of a round. Two rounds go to a bucket, and the window holds `live` buckets. Where a millisecond has parts, each of the

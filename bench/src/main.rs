@@ -9,7 +9,7 @@ mod shots;
 use std::time::Duration;
 
 use contestants::{Contestant, all, named, of_shots, of_shots_alone, over_rooms};
-use load::{Call, Clock, Deed, Limiter, Load, Shape};
+use load::{Call, Clock, Deed, Limiter, Load, Parties, Shape};
 use race::{Field, alone, alone_expired, race, race_expired};
 
 const KEYS: usize = 40;
@@ -17,8 +17,9 @@ const KEYS: usize = 40;
 const ARCHIVE: &str = "archive";
 
 const USAGE: &str = "[INCREMENTS REPETITIONS] | shots SHOTS REPETITIONS | expired CALLS REPETITIONS | \
-    clocks INCREMENTS REPETITIONS | \
+    clocks INCREMENTS REPETITIONS | parties INCREMENTS REPETITIONS | \
     one CONTESTANT [nanoseconds] LIMITER BUCKETS INCREMENTS | \
+    one CONTESTANT [nanoseconds] one-party|two-parties LIMITER KEYS BUCKETS INCREMENTS | \
     one CONTESTANT [nanoseconds] rising|held|last CONTROLLERS BUCKETS SHOTS | \
     one CONTESTANT [nanoseconds] expired LIMITER CALL BUCKETS CALLS";
 
@@ -30,6 +31,7 @@ fn main() {
         ["shots", timed, times] => shot_tables(number(timed), number(times)),
         ["expired", timed, times] => expired_table(number(timed), number(times)),
         ["clocks", timed, times] => clock_tables(number(timed), number(times)),
+        ["parties", timed, times] => party_tables(number(timed), number(times)),
         [timed, times] => tables(number(timed), number(times)),
         ["one", name, "nanoseconds", ref what @ .., timed] => {
             one(Clock::Nanoseconds, name, what, number(timed))
@@ -54,6 +56,11 @@ fn one(clock: Clock, name: &str, what: &[&str], timed: usize) {
     match *what {
         [of, live] => {
             let load = Load::new(full(KEYS, live));
+            alone(limiter(of), &load, named(name, &load, all(&load)), timed);
+        }
+        [whose @ ("one-party" | "two-parties"), of, keys, live] => {
+            let parties = if whose == "one-party" { Parties::One } else { Parties::Two };
+            let load = Load::new(Shape { parties, ..full(number(keys), live) });
             alone(limiter(of), &load, named(name, &load, all(&load)), timed);
         }
         [deed @ ("rising" | "held" | "last"), keys, live] => {
@@ -276,6 +283,48 @@ fn clock_row(limiter: Limiter, live: u64, timed: usize, times: usize) {
     for (took, fine) in took.iter().zip(fine) {
         let [took, fine] = [took, fine].map(|took| took.as_secs_f64() * 1e9 / timed as f64);
         print!("  {took:7.1} {fine:7.1} {:6.3}", fine / took);
+    }
+    println!();
+}
+
+/// Increments of one party's keys and of the same keys split between two, all in one race; one row for each number of keys and each ring.
+fn party_tables(timed: usize, times: usize) {
+    println!(
+        "nanoseconds for an increment, of keys that one party has, which is promised every slot, and"
+    );
+    println!(
+        "of the same keys split between two, each promised a slot for each of its own; the ratio of"
+    );
+    println!("the second to the first; at the end of a line the archive's ratios to the twin");
+    println!("{timed} increments in mixed order, rooms cleared and filled first, least of {times}");
+    for limiter in Limiter::BOTH {
+        println!("\n{}, rings full", limiter.name());
+        print!("keys  ring  buckets held");
+        for contestant in all(&Load::new(Shape::full(1, 10))) {
+            print!("{:>24}", contestant.name());
+        }
+        println!();
+        for (keys, live) in [40, 64].into_iter().flat_map(|keys| [10, 100].map(|live| (keys, live)))
+        {
+            party_row(limiter, keys, live, timed, times);
+        }
+    }
+}
+
+fn party_row(limiter: Limiter, keys: usize, live: u64, timed: usize, times: usize) {
+    let shape = |parties| Shape { parties, ..Shape::full(keys, live) };
+    let mut fields = Parties::BOTH.map(|parties| Field::new(shape(parties), all));
+    let took = race(limiter, &mut fields, timed, times);
+    let [held, of_two] = fields.each_mut().map(|field| field.buckets(limiter));
+    print!("{keys:4}  {live:4}  {held:5.1}, {of_two:5.1}");
+    let each: Vec<f64> = took.iter().map(|took| took.as_secs_f64() * 1e9 / timed as f64).collect();
+    let (one, two) = each.split_at(each.len() / 2);
+    for (one, two) in one.iter().zip(two) {
+        print!("  {one:7.1} {two:7.1} {:6.3}", two / one);
+    }
+    let archive = fields[0].contestants.iter().position(|other| other.name() == ARCHIVE);
+    if let Some(at) = archive {
+        print!("  {:5.2} {:5.2}", one[at] / one[0], two[at] / two[0]);
     }
     println!();
 }

@@ -1,6 +1,7 @@
 //! The contestants that take shots: a table before the suppressed limiter, whose increments of 1 the shots are.
 
 use twin::gateway::{Shot, ShotAnswer, empty_table, make_table, shot};
+use twin::parties::Caller;
 use twin::room::empty_room;
 use twin::rules::{ClockMode, Decision, Refusal, Settings};
 
@@ -15,6 +16,11 @@ fn held() -> u64 {
 /// A gateway's memory, empty.
 fn memory(load: &Load) -> (Vec<u64>, Vec<u64>) {
     (empty_table(), empty_room(load.keys.len(), load.shape.ring))
+}
+
+fn caller(caller: crate::load::Caller) -> Caller {
+    let crate::load::Caller { party, first, second } = caller;
+    Caller { party, first, second }
 }
 
 pub struct TwinShots {
@@ -51,8 +57,10 @@ impl Contestant for TwinShots {
         "twin-shot"
     }
 
-    fn clear(&mut self, _limiter: Limiter, _load: &Load, reading: u64) {
-        twin::shared::clear(&self.settings, &mut self.room, reading).expect("a room");
+    fn clear(&mut self, _limiter: Limiter, load: &Load, reading: u64) {
+        for caller in load.callers().into_iter().map(caller) {
+            twin::shared::clear(&self.settings, &mut self.room, reading, caller).expect("a room");
+        }
         assert!(make_table(&mut self.table));
     }
 
@@ -60,8 +68,9 @@ impl Contestant for TwinShots {
         answers(load, increments, |given, key| {
             let Increment { reading, draw, number, .. } = *given;
             let (controller, number, rate) = (key.text.as_bytes(), u64::from(number), key.rate);
+            let (settings, caller) = (&self.settings, caller(key.caller));
             let given = Shot { controller, number, rate, draw };
-            Self::answer(shot(&self.settings, &mut self.table, &mut self.room, reading, given))
+            Self::answer(shot(settings, &mut self.table, &mut self.room, reading, caller, given))
         })
     }
 
@@ -87,6 +96,9 @@ pub mod archive {
             room: *mut u64,
             room_words: usize,
             reading: u64,
+            party: u64,
+            first: u64,
+            second: u64,
             controller: *const u8,
             bytes: usize,
             number: u64,
@@ -135,6 +147,7 @@ pub mod archive {
             let (clock, mut row) = (clock as u64, [0; 5]);
             answers(load, increments, |given, key| {
                 let Increment { reading, draw, number, .. } = *given;
+                let Caller { party, first, second } = caller(key.caller);
                 let code = unsafe {
                     frostaxle_gateway_shot(
                         window,
@@ -147,6 +160,9 @@ pub mod archive {
                         self.room.as_mut_ptr(),
                         self.room.len(),
                         reading,
+                        party,
+                        first,
+                        second,
                         key.text.as_ptr(),
                         key.text.len(),
                         u64::from(number),

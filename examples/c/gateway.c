@@ -1,6 +1,6 @@
 /*
- * A gateway that admits survey shots by both limiters, and by their numbers, with readings made up so that the run is
- * the same each time.
+ * A gateway that admits survey shots by both limiters, and by their numbers, and shares a room with the lock keepers,
+ * with readings made up so that the run is the same each time.
  *
  *     rt staticlib abi
  *     cc -std=c11 -Wall -Wextra -Iinclude examples/c/gateway.c target/staticlib/libabi.a -o target/gateway
@@ -13,9 +13,14 @@
 
 enum { SLOTS = 8, RING = 128, WORDS = FROSTAXLE_ROOM_WORDS(SLOTS, RING) };
 
-/* The rooms and the gateway's table are ours: three plain arrays. */
+/* Two parties: the survey has the first two rooms alone, and shares the third with the lock keepers. */
+enum { SURVEY = 1, LOCKS = 2 };
+enum { SHARED_SLOTS = 3, SHARED_WORDS = FROSTAXLE_ROOM_WORDS(SHARED_SLOTS, RING), FOR_SURVEY = 2, FOR_LOCKS = 1 };
+
+/* The rooms and the gateway's table are ours: four plain arrays. */
 static uint64_t absolute[WORDS];
 static uint64_t suppressed[WORDS];
+static uint64_t shared[SHARED_WORDS];
 static uint64_t table[FROSTAXLE_TABLE_WORDS];
 
 static const uint64_t window = FROSTAXLE_DEFAULT_WINDOW; /* 10 s */
@@ -30,8 +35,8 @@ static const uint8_t numbering[] = {'c', 't', 'l', '8'}; /* a controller that nu
 /* One shot at the absolute limiter, 1 a second. Gives how long to wait, 0 if it was admitted. */
 static uint64_t shot(uint64_t reading, uint64_t count) {
     uint64_t row[FROSTAXLE_ROW_WORDS];
-    uint64_t refusal = frostaxle_absolute_inc(window, bucket, cache, factor, ticks, absolute, WORDS, reading,
-                                              controller, sizeof controller, 1.0, count, row);
+    uint64_t refusal = frostaxle_absolute_inc(window, bucket, cache, factor, ticks, absolute, WORDS, reading, SURVEY,
+                                              SLOTS, 0, controller, sizeof controller, 1.0, count, row);
     printf("%6" PRIu64 " ms  %2" PRIu64 " shots: ", reading, count);
     if (refusal != FROSTAXLE_OK) {
         printf("refusal %" PRIu64 "\n", refusal);
@@ -71,8 +76,8 @@ static void suppressed_limiter(void) {
 
     printf("suppressed limiter, 1 a second soft, 2 a second hard\n");
     for (i = 0; i < sizeof calls / sizeof calls[0]; i++) {
-        frostaxle_suppressed_inc(window, bucket, cache, factor, ticks, suppressed, WORDS, calls[i].reading, controller,
-                                 sizeof controller, 1.0, calls[i].count, calls[i].draw, row);
+        frostaxle_suppressed_inc(window, bucket, cache, factor, ticks, suppressed, WORDS, calls[i].reading, SURVEY,
+                                 SLOTS, 0, controller, sizeof controller, 1.0, calls[i].count, calls[i].draw, row);
         printf("%6" PRIu64 " ms  %2" PRIu64 " shots: ", calls[i].reading, calls[i].count);
         if (row[0] != FROSTAXLE_OK)
             printf("refusal %" PRIu64 "\n", row[0]);
@@ -81,8 +86,8 @@ static void suppressed_limiter(void) {
         else
             printf("%s at factor %.3f\n", row[3] ? "yes" : "no", frostaxle_double(row[2]));
     }
-    if (frostaxle_suppressed_get(window, bucket, cache, factor, ticks, suppressed, WORDS, 11700, controller,
-                                 sizeof controller, row) == FROSTAXLE_OK)
+    if (frostaxle_suppressed_get(window, bucket, cache, factor, ticks, suppressed, WORDS, 11700, SURVEY, SLOTS, 0,
+                                 controller, sizeof controller, row) == FROSTAXLE_OK)
         printf(" 11700 ms  total %" PRIu64 ", declined %" PRIu64 ", factor %.3f\n", row[2], row[3],
                frostaxle_double(row[4]));
 }
@@ -91,8 +96,8 @@ static void suppressed_limiter(void) {
 static void numbered_shot(uint64_t reading, uint64_t number, int heard) {
     uint64_t row[FROSTAXLE_ROW_WORDS];
     uint64_t refusal = frostaxle_gateway_shot(window, bucket, cache, factor, ticks, table, FROSTAXLE_TABLE_WORDS,
-                                              suppressed, WORDS, reading, numbering, sizeof numbering, number, 0.1, 0,
-                                              row);
+                                              suppressed, WORDS, reading, SURVEY, SLOTS, 0, numbering,
+                                              sizeof numbering, number, 0.1, 0, row);
     printf("%6" PRIu64 " ms  shot %" PRIu64 ": ", reading, number);
     if (refusal != FROSTAXLE_OK)
         printf("refusal %" PRIu64, refusal);
@@ -118,11 +123,46 @@ static void numbered_shots(void) {
     numbered_shot(31600, 2, 1);
 }
 
+/* One message of a party in the shared room, under a name of four letters. Both parties give the same promises. */
+static void message(uint64_t party, const char *name, uint64_t reading) {
+    uint64_t row[FROSTAXLE_ROW_WORDS];
+    uint64_t refusal = frostaxle_absolute_inc(window, bucket, cache, factor, ticks, shared, SHARED_WORDS, reading,
+                                              party, FOR_SURVEY, FOR_LOCKS, (const uint8_t *)name, 4, 1.0, 1, row);
+    printf("%6" PRIu64 " ms  party %" PRIu64 ", %s: ", reading, party, name);
+    if (refusal != FROSTAXLE_OK)
+        printf("refusal %" PRIu64 "\n", refusal);
+    else
+        printf(row[1] == FROSTAXLE_ALLOWED ? "yes\n" : "no\n");
+}
+
+/* Each party has its promised slots, and keys of its own, whatever the other does. */
+static void two_parties(void) {
+    uint64_t row[FROSTAXLE_ROW_WORDS];
+
+    printf("one room of 3 slots, 2 for the survey and 1 for the lock keepers\n");
+    message(LOCKS, "ctl7", 0);
+    /* two slots are free, and not the lock keepers' */
+    message(LOCKS, "ctl8", 100);
+    /* the same name of the other party is another key */
+    message(SURVEY, "ctl7", 200);
+    message(SURVEY, "ctl8", 300);
+    /* the lock keepers start afresh, and the survey's keys stay */
+    if (frostaxle_absolute_clear(window, bucket, cache, factor, ticks, shared, SHARED_WORDS, 400, LOCKS, FOR_SURVEY,
+                                 FOR_LOCKS, row) == FROSTAXLE_OK)
+        printf("   400 ms  party 2 clears\n");
+    message(LOCKS, "ctl8", 500);
+    message(SURVEY, "ctl9", 600);
+    if (frostaxle_absolute_get(window, bucket, cache, factor, ticks, shared, SHARED_WORDS, 700, SURVEY, FOR_SURVEY,
+                               FOR_LOCKS, controller, sizeof controller, row) == FROSTAXLE_OK)
+        printf("   700 ms  party 1, ctl7: total %" PRIu64 "\n", row[2]);
+}
+
 int main(void) {
     uint64_t row[FROSTAXLE_ROW_WORDS];
 
     if (frostaxle_make(absolute, WORDS, SLOTS, RING) != FROSTAXLE_OK ||
         frostaxle_make(suppressed, WORDS, SLOTS, RING) != FROSTAXLE_OK ||
+        frostaxle_make(shared, SHARED_WORDS, SHARED_SLOTS, RING) != FROSTAXLE_OK ||
         frostaxle_gateway_make_table(table, FROSTAXLE_TABLE_WORDS) != FROSTAXLE_OK)
         return 1;
     absolute_limiter();
@@ -130,7 +170,7 @@ int main(void) {
     numbered_shots();
     /* now and then: what nobody used for a minute goes */
     if (frostaxle_provider_cleanup(window, bucket, cache, factor, ticks, absolute, WORDS, suppressed, WORDS, 100000,
-                                   60000, row) != FROSTAXLE_OK)
+                                   SURVEY, SLOTS, 0, SLOTS, 0, 60000, row) != FROSTAXLE_OK)
         return 1;
     printf("cleaned up\n");
     /* no cleanup touches the table; a new season empties it */
@@ -139,5 +179,6 @@ int main(void) {
         return 1;
     printf("new season\n");
     numbered_shot(200000, 1, 1);
+    two_parties();
     return 0;
 }

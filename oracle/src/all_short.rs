@@ -1,9 +1,11 @@
-//! Every history of up to three calls over a small alphabet, or a part of them.
+//! Every history of up to three calls over a small alphabet, or a part of them: of one party, and of two.
 
 use twin::calls::{Call, Op};
+use twin::parties::Caller;
 use twin::rules::{ClockMode, Comparator, Kind, Mode, Settings};
 use twin::set::Wanted;
 
+use crate::callers::Promise;
 use crate::compare::{Comparison, History};
 use crate::state::Key;
 
@@ -53,12 +55,11 @@ fn suppressed_ops(rate: f64) -> Vec<Op> {
 }
 
 fn letters<'a>(ops: &[Op], rises: &[u64], keys: &'a [Key]) -> Vec<Letter<'a>> {
-    let first = &keys[0].bytes;
+    let caller: Caller = Promise::all(keys[0].party, 1).to(keys[0].party);
+    let call = |key: &'a Key, op: &Op| Call { caller, key: &key.bytes, op: *op };
     let mut letters: Vec<Letter> = ops
         .iter()
-        .flat_map(|op| {
-            rises.iter().map(|rise| Letter { rise: *rise, call: Call { key: first, op: *op } })
-        })
+        .flat_map(|op| rises.iter().map(|rise| Letter { rise: *rise, call: call(&keys[0], op) }))
         .collect();
     // A second key, for rooms with one slot.
     let other = ops.iter().filter(|op| {
@@ -69,17 +70,53 @@ fn letters<'a>(ops: &[Op], rises: &[u64], keys: &'a [Key]) -> Vec<Letter<'a>> {
                 | Op::GetSuppressionFactor
         )
     });
-    letters.extend(other.map(|op| Letter { rise: 0, call: Call { key: &keys[1].bytes, op: *op } }));
+    letters.extend(other.map(|op| Letter { rise: 0, call: call(&keys[1], op) }));
     letters
 }
 
 /// Where few words are wanted, one in so many is taken. Prime to the numbers of letters, so that each letter comes in each place.
 pub const FEW: u64 = 17;
 
+/// The room's slots where two parties share it: each is promised one, and one is left over.
+const SHARED_SLOTS: usize = 3;
+const SHARED: Promise = Promise { first: 1, second: 1 };
+
+/// Fewer calls, of either party, with the same bytes; and with a second key, for which it has no slot.
+fn shared_letters<'a>(kind: Kind, rate: f64, rises: &[u64; 3], keys: &'a [Key]) -> Vec<Letter<'a>> {
+    let (inc, ask, get) = match kind {
+        Kind::Absolute => (Op::AbsoluteInc { rate, count: 1 }, Op::IsAllowed, Op::AbsoluteGet),
+        Kind::Suppressed => {
+            let inc = Op::SuppressedInc { rate, count: 2, draw: 0 };
+            (inc, Op::GetSuppressionFactor, Op::SuppressedGet)
+        }
+    };
+    let ops = [
+        inc,
+        ask,
+        get,
+        Op::SetRateLimit { kind, rate: rate * 3.0 },
+        Op::Delete { kind },
+        Op::Clear { kind },
+        set(kind, rate, Comparator::Always, 0, Mode::Replace),
+        set(kind, rate, Comparator::Always, 2, Mode::Replace),
+        Op::Cleanup { kind, stale: 101 },
+    ];
+    let mut letters = Vec::new();
+    for party in [1, 2] {
+        let caller = SHARED.to(party);
+        for (op, rise) in ops.iter().flat_map(|op| [(*op, 0), (*op, rises[2])]) {
+            letters.push(Letter { rise, call: Call { caller, key: &keys[0].bytes, op } });
+        }
+        letters.push(Letter { rise: 0, call: Call { caller, key: &keys[1].bytes, op: inc } });
+    }
+    letters
+}
+
 /// All words of three letters, or one in `comparison.short`; `next` counts them.
 fn words(
     comparison: &mut Comparison,
     settings: Settings,
+    slots: usize,
     letters: &[Letter],
     keys: &[Key],
     next: &mut u64,
@@ -94,7 +131,7 @@ fn words(
                 if !next.is_multiple_of(comparison.short) {
                     continue;
                 }
-                let mut history = History::new(settings, 1, 2, keys);
+                let mut history = History::new(settings, slots, 2, keys);
                 comparison.begin(&history);
                 let mut reading = 0;
                 for letter in [first, second, third] {
@@ -152,19 +189,43 @@ const IN_NANOSECONDS: [Case; 5] = [
     Case { bucket: 999, cache: 1, factor: 2.0, rate: 1.5, rises: [0, 1, 1_000_000_000] },
 ];
 
-/// The short histories; where some are left out, the seed says which.
-pub fn run(comparison: &mut Comparison, seed: u64) {
-    let keys = [Key::new(b"a"), Key::new(b"b")];
-    let mut next = seed % comparison.short;
-    let clock = comparison.clock;
-    let cases: &[Case] = match clock {
+fn cases(clock: ClockMode) -> &'static [Case] {
+    match clock {
         ClockMode::Milliseconds => &IN_MILLISECONDS,
         ClockMode::Nanoseconds => &IN_NANOSECONDS,
-    };
-    for Case { bucket, cache, factor, rate, rises } in cases.iter().copied() {
+    }
+}
+
+/// The short histories of one party; where some are left out, the seed says which.
+pub fn run(comparison: &mut Comparison, seed: u64) {
+    let mut next = seed % comparison.short;
+    let clock = comparison.clock;
+    for (at, Case { bucket, cache, factor, rate, rises }) in
+        cases(clock).iter().copied().enumerate()
+    {
+        // The parties have the room by turns.
+        let party = 1 + at as u64 % 2;
+        let keys = [Key::new(party, b"a"), Key::new(party, b"b")];
         let settings = Settings { window: 1, bucket, cache, factor, clock };
         for ops in [absolute_ops(rate), suppressed_ops(rate)] {
-            words(comparison, settings, &letters(&ops, &rises, &keys), &keys, &mut next);
+            words(comparison, settings, 1, &letters(&ops, &rises, &keys), &keys, &mut next);
+        }
+    }
+}
+
+/// Those of two parties, for the first two settings.
+pub fn run_shared(comparison: &mut Comparison, seed: u64) {
+    let keys: Vec<Key> = [1, 2]
+        .into_iter()
+        .flat_map(|party| [b"a", b"b"].map(|name| Key::new(party, name)))
+        .collect();
+    let mut next = seed % comparison.short;
+    let clock = comparison.clock;
+    for Case { bucket, cache, factor, rate, rises } in cases(clock)[..2].iter().copied() {
+        let settings = Settings { window: 1, bucket, cache, factor, clock };
+        for kind in [Kind::Absolute, Kind::Suppressed] {
+            let letters = shared_letters(kind, rate, &rises, &keys);
+            words(comparison, settings, SHARED_SLOTS, &letters, &keys, &mut next);
         }
     }
 }

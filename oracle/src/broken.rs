@@ -1,12 +1,15 @@
 //! Rooms that no call made: good ones with words changed, wrong lengths, and random words.
 
 use twin::calls::{Call, Op, Rooms};
+use twin::parties::Caller;
 use twin::room::{is_room, words_of};
 use twin::rules::{ClockMode, Comparator, Kind, Mode, Settings};
 use twin::set::Wanted;
 
-use crate::compare::Comparison;
-use crate::expected::is_sound;
+use crate::callers::{NO_PARTIES, Promise};
+use crate::compare::{Comparison, Shared};
+use crate::expected::{ENTRY, HEADER, HOLDERS, is_sized, is_sound, kind};
+use crate::loaded::HOLDER_WORDS;
 use crate::long::{self, Falls};
 use crate::random::{Dice, bad_rate, bad_settings, key_pool, nameless, rate, rooms_left};
 use crate::state::Key;
@@ -15,8 +18,6 @@ use crate::trial::Trials;
 use crate::{Others, others};
 
 const TOP: u64 = 1 << 53;
-const HEADER: usize = 3;
-const ENTRY: usize = 6;
 const FIXED: usize = 7;
 
 /// What the calls on one room are drawn from.
@@ -86,7 +87,8 @@ impl Scene<'_> {
             5 => Op::Clear { kind },
             6 => Op::Set { kind, wanted: self.wanted() },
             7 => Op::Cleanup { kind, stale: self.stale() },
-            8 => Op::CleanupBoth { stale: self.stale() },
+            // The caller's promise in the suppressed room comes with the rooms.
+            8 => Op::CleanupBoth { stale: self.stale(), first: 0, second: 0 },
             9 => Op::ReadOut { kind },
             _ => {
                 let (rate, count, nameless) = (self.rate(), self.count(), nameless(self.dice));
@@ -117,6 +119,33 @@ impl Scene<'_> {
         }
     }
 
+    /// What is promised in a room: mostly what the parties hold at least, now and then something else.
+    fn promise(&mut self, room: &[u64]) -> Promise {
+        match (is_sized(room), self.dice.once_in(12)) {
+            (false, _) => Promise { first: self.dice.below(4), second: self.dice.below(4) },
+            (true, true) => Promise::other(self.dice, room),
+            (true, false) => Promise::kept(self.dice, room),
+        }
+    }
+
+    /// Who calls, mostly the party that holds the key's slot; and the call with its promises.
+    fn given(&mut self, rooms: &Rooms, own: u64, op: Op) -> (Caller, Op) {
+        let party = match self.dice.below(40) {
+            0 => self.dice.pick(&NO_PARTIES),
+            1..=6 => 3 - own,
+            _ => own,
+        };
+        let caller = self.promise(rooms.of(kind(&op))).to(party);
+        let op = match op {
+            Op::CleanupBoth { stale, .. } => {
+                let Promise { first, second } = self.promise(&rooms.suppressed);
+                Op::CleanupBoth { stale, first, second }
+            }
+            op => op,
+        };
+        (caller, op)
+    }
+
     fn rooms(&self, room: &[u64]) -> Rooms {
         let (room, beside) = (room.to_vec(), self.beside.clone());
         match self.kind {
@@ -125,9 +154,15 @@ impl Scene<'_> {
         }
     }
 
-    /// Every call once, each on the room as it is, or now and then one after another.
-    fn try_all(&mut self, trials: &mut Trials, room: &[u64], own: &[u8]) {
+    /// Every call once, each on the room as it is, or now and then one after another. The key is of a slot.
+    fn try_all(&mut self, trials: &mut Trials, room: &[u64], own: &[u8], slot: usize) {
         trials.count_room(self.kind, room);
+        // Whose the slot is, as far as its word tells.
+        let party = match room.get(HOLDERS + slot) {
+            Some(1) => 1,
+            Some(128) => 2,
+            _ => 1 + self.dice.below(2),
+        };
         let in_a_row = self.dice.once_in(8);
         let last = self.last;
         if is_room(room) && self.dice.once_in(2) {
@@ -139,11 +174,12 @@ impl Scene<'_> {
                 rooms = self.rooms(room);
             }
             let (op, reading, key) = (self.op(number), self.reading(), self.key(own));
+            let (caller, op) = self.given(&rooms, party, op);
             let settings = match self.dice.once_in(100) {
                 true => bad_settings(self.dice, &self.settings),
                 false => self.settings,
             };
-            trials.put(&settings, &mut rooms, reading, Call { key: &key, op });
+            trials.put(&settings, &mut rooms, reading, Call { caller, key: &key, op });
             if in_a_row && is_room(rooms.of(self.kind)) {
                 self.last = rooms.of(self.kind)[2];
             }
@@ -156,7 +192,7 @@ impl Scene<'_> {
 fn slot_of(room: &[u64], at: usize) -> usize {
     let (slots, size) = (room[0] as usize, FIXED + 3 * room[1] as usize);
     match at.checked_sub(HEADER) {
-        None => 0,
+        None => at.checked_sub(HOLDERS).filter(|at| *at < slots).unwrap_or(0),
         Some(at) if at < ENTRY * slots => at / ENTRY,
         Some(at) => (at - ENTRY * slots) / size,
     }
@@ -169,9 +205,13 @@ fn key_at(room: &[u64], slot: usize) -> Vec<u8> {
     bytes.take(entry[1].min(32) as usize).collect()
 }
 
-/// What a word is changed to: 0 and 1, its neighbours, ends of ranges, doubles, and the room's own lengths and reading.
+/// What a word is changed to: 0 and 1, its neighbours, ends of ranges, doubles, and the room's own lengths and reading; a holder's to those
+/// of nobody, of a party and of neither.
 fn values(room: &[u64], at: usize) -> Vec<u64> {
     let (old, one) = (room[at], 1f64.to_bits());
+    if (HOLDERS..HEADER).contains(&at) {
+        return HOLDER_WORDS.into_iter().filter(|value| *value != old).collect();
+    }
     let mut values = vec![
         0,
         1,
@@ -197,12 +237,21 @@ fn values(room: &[u64], at: usize) -> Vec<u64> {
     values
 }
 
+/// The places of the words that a room looks at, and of some holders' words of slots that it does not have.
+fn places(dice: &mut Dice, room: &[u64]) -> Vec<usize> {
+    let end = HOLDERS + room[0] as usize;
+    let past = (0..2).map(|_| end + dice.below((HEADER - end) as u64) as usize);
+    let mut places: Vec<usize> = if end < HEADER { past.chain([end]).collect() } else { vec![] };
+    places.extend((0..end).chain(HEADER..room.len()));
+    places
+}
+
 /// One word changed, in each place, to each value.
 fn one_word(scene: &mut Scene, trials: &mut Trials, good: &[u64]) {
     let mut room = good.to_vec();
-    for at in 0..good.len() {
+    for at in places(scene.dice, good) {
         let slot = match at {
-            0..HEADER => scene.dice.below(good[0]) as usize,
+            0..HOLDERS => scene.dice.below(good[0]) as usize,
             _ => slot_of(good, at),
         };
         for value in values(good, at) {
@@ -210,7 +259,7 @@ fn one_word(scene: &mut Scene, trials: &mut Trials, good: &[u64]) {
             // A changed key is asked for as it was and as it shows now.
             let shown = if scene.dice.once_in(2) && at >= HEADER { &room } else { good };
             let own = key_at(shown, slot);
-            scene.try_all(trials, &room, &own);
+            scene.try_all(trials, &room, &own, slot);
         }
         room[at] = good[at];
     }
@@ -221,8 +270,11 @@ fn two_words(scene: &mut Scene, trials: &mut Trials, good: &[u64], times: u64) {
     for _ in 0..times {
         let mut room = good.to_vec();
         let slot = scene.dice.below(good[0]) as usize;
-        let mine: Vec<usize> =
-            (HEADER..good.len()).filter(|at| slot_of(good, *at) == slot).collect();
+        // The holder's word three times, so that it is changed now and then.
+        let mine: Vec<usize> = [HOLDERS + slot; 3]
+            .into_iter()
+            .chain((HEADER..good.len()).filter(|at| slot_of(good, *at) == slot))
+            .collect();
         for _ in 0..2 {
             let at = match scene.dice.once_in(5) {
                 true => scene.dice.below(good.len() as u64) as usize,
@@ -230,7 +282,7 @@ fn two_words(scene: &mut Scene, trials: &mut Trials, good: &[u64], times: u64) {
             };
             room[at] = scene.dice.pick(&values(good, at));
         }
-        scene.try_all(trials, &room, &key_at(good, slot));
+        scene.try_all(trials, &room, &key_at(good, slot), slot);
     }
 }
 
@@ -238,12 +290,12 @@ fn two_words(scene: &mut Scene, trials: &mut Trials, good: &[u64], times: u64) {
 fn lengths(scene: &mut Scene, trials: &mut Trials, good: &[u64]) {
     let own = key_at(good, 0);
     let (slots, ring, all) = (good[0], good[1], good.len());
-    for length in [0, 1, 2, 3, 4, 9, all - 1, all - 3] {
-        scene.try_all(trials, &good[..length.min(all)], &own);
+    for length in [0, 1, 2, 3, 4, 9, HEADER - 1, HEADER, HEADER + 1, all - 64, all - 1, all - 3] {
+        scene.try_all(trials, &good[..length.min(all)], &own, 0);
     }
     for more in 1..4 {
         let longer: Vec<u64> = good.iter().copied().chain((0..more).map(|_| 0)).collect();
-        scene.try_all(trials, &longer, &own);
+        scene.try_all(trials, &longer, &own, 0);
     }
     // Sums past 2^64 come to the same length at slots 2 or 4, and at a ring of 1.
     let more_slots = [0, slots - 1, slots + 1, 64, 65, slots + (1 << 60), u64::MAX];
@@ -258,13 +310,13 @@ fn lengths(scene: &mut Scene, trials: &mut Trials, good: &[u64]) {
     let mut room = good.to_vec();
     for (n, r) in headers.chain(same_length).filter(|header| *header != (slots, ring)) {
         room[..2].copy_from_slice(&[n, r]);
-        scene.try_all(trials, &room, &own);
+        scene.try_all(trials, &room, &own, 0);
     }
 }
 
 /// Words of which nothing is known, or a header that fits them.
 fn wild(dice: &mut Dice) -> Vec<u64> {
-    let length = dice.below(90);
+    let length = dice.below(160);
     let mut room: Vec<u64> = (0..length).map(|_| dice.any()).collect();
     if dice.once_in(2) {
         let (slots, ring) = (dice.below(4) + 1, dice.below(5) + 1);
@@ -274,9 +326,15 @@ fn wild(dice: &mut Dice) -> Vec<u64> {
         room[..2].copy_from_slice(&[slots, ring]);
         for at in 0..slots as usize {
             room[HEADER + ENTRY * at] = dice.below(5);
+            room[HOLDERS + at] = holder(dice);
         }
     }
     room
+}
+
+/// Mostly a party's word, or nobody's.
+fn holder(dice: &mut Dice) -> u64 {
+    if dice.once_in(12) { dice.pick(&HOLDER_WORDS) } else { dice.pick(&[0, 1, 1, 128, 128]) }
 }
 
 /// Each word drawn for its place, so that a slot is sound now and then.
@@ -284,8 +342,9 @@ fn likely(dice: &mut Dice, settings: &Settings, keys: &[Key]) -> Vec<u64> {
     let (slots, ring) = (dice.below(3) as usize + 1, dice.below(3) as usize + 1);
     let mut room = vec![0; words_of(slots, ring)];
     let last = dice.pick(&[0, 1, 5, 5000, u64::MAX]);
-    room[..HEADER].copy_from_slice(&[slots as u64, ring as u64, last]);
+    room[..HOLDERS].copy_from_slice(&[slots as u64, ring as u64, last]);
     for slot in 0..slots {
+        room[HOLDERS + slot] = holder(dice);
         let entry = HEADER + ENTRY * slot;
         let key = &keys[dice.below(3) as usize].bytes;
         room[entry] = dice.pick(&[0, 1, 1, 1, 2, 3, 3, 4]);
@@ -343,15 +402,21 @@ fn ends(scene: &mut Scene, trials: &mut Trials) {
     for (slots, ring) in [(64, 512), (65, 512), (64, 513), (1, 512), (64, 1), (65, 1), (1, 513)] {
         let mut room = vec![0; words_of(slots, ring)];
         room[..2].copy_from_slice(&[slots as u64, ring as u64]);
-        scene.try_all(trials, &room, b"a");
+        scene.try_all(trials, &room, b"a", 0);
+        // Every slot in use, by words that come to the most that there can be.
+        for mark in [1, 128] {
+            room[HOLDERS..HEADER].fill(mark);
+            scene.try_all(trials, &room, b"a", 0);
+        }
     }
 }
 
-/// A word of the slot: of its entry, of its body before the cells, or of these.
+/// A word of the slot: of its holder, of its entry, of its body before the cells, or of these.
 fn word_of_slot(dice: &mut Dice, room: &[u64], slot: usize) -> usize {
     let (slots, cells) = (room[0] as usize, 3 * room[1] as usize);
     let body = HEADER + ENTRY * slots + slot * (FIXED + cells);
     match dice.below(3) {
+        0 if dice.once_in(4) => HOLDERS + slot,
         0 => HEADER + ENTRY * slot + dice.below(ENTRY as u64) as usize,
         1 => body + dice.below(FIXED as u64) as usize,
         _ => body + FIXED + dice.below(cells as u64) as usize,
@@ -378,7 +443,7 @@ fn long_rings(scene: &mut Scene, trials: &mut Trials, falls: &mut Falls) {
         }
         trials.count_long(room.damage, is_sound(kind, &settings, &room.words, room.slot));
         scene.last = room.words[2];
-        scene.try_all(trials, &room.words, long::KEY);
+        scene.try_all(trials, &room.words, long::KEY, room.slot);
     }
 }
 
@@ -407,7 +472,7 @@ fn around(
             };
             scene.last = room.get(2).copied().unwrap_or_default();
             let own = scene.dice.pick(&[&keys[0], &keys[1], &keys[2]]).bytes.clone();
-            scene.try_all(trials, &room, &own);
+            scene.try_all(trials, &room, &own, 0);
         }
     }
 }
@@ -416,8 +481,10 @@ fn around(
 pub fn run(clock: ClockMode, rooms: u64, seed: u64) -> Trials {
     let mut trials = Trials::new(others());
     let mut dice = Dice::new(seed);
-    let keys = key_pool();
+    let keys = key_pool(1);
     let mut histories = Comparison::new(clock, Others::new());
+    let mut shared =
+        Comparison { shared: Some(Shared::default()), ..Comparison::new(clock, Others::new()) };
     let settings = Settings { clock, ..Settings::default() };
     for kind in [Kind::Absolute, Kind::Suppressed] {
         let beside = twin::room::empty_room(2, 2);
@@ -426,13 +493,15 @@ pub fn run(clock: ClockMode, rooms: u64, seed: u64) -> Trials {
     }
     let mut falls = Falls::new(&mut dice);
     while trials.damaged < rooms && trials.differed < 100 {
-        if let Some((settings, rooms)) = rooms_left(&mut histories, dice.any()) {
+        // Of one party, or of two.
+        let from = if dice.once_in(2) { &mut shared } else { &mut histories };
+        if let Some((settings, rooms)) = rooms_left(from, dice.any()) {
             around(&mut trials, &mut dice, settings, &rooms, &keys, &mut falls);
         }
     }
     together::run(&mut trials, &mut dice, clock);
     #[cfg(archive)]
     trials.count_faces(crate::faces::run());
-    trials.differed += histories.differed;
+    trials.differed += histories.differed + shared.differed;
     trials
 }

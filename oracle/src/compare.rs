@@ -4,10 +4,11 @@ use std::collections::BTreeMap;
 use std::fmt;
 
 use twin::calls::{Answer, Call, Limiters, Op, Rooms, Row, Twin};
+use twin::parties::Caller;
 use twin::room::{Bucket, last_reading};
 use twin::rules::{ClockMode, Kind, Settings};
 
-use crate::expected::{At, Expected, UNUSED, expected, kind};
+use crate::expected::{At, Expected, UNUSED, expected, held, holders, is_sized, kind};
 use crate::original::Original;
 use crate::rate_zero;
 use crate::sample;
@@ -38,6 +39,8 @@ pub struct Comparison {
     /// Histories whose comparison with the original ended before their last call, by the reason.
     pub taken_out: u64,
     pub at_rate_zero: u64,
+    /// Two parties share the rooms of its histories, and what these calls met.
+    pub shared: Option<Shared>,
     pub differed: u64,
     /// The random history under way: `judge history SEED`, with its clock mode, runs it alone.
     pub seed: Option<u64>,
@@ -49,6 +52,52 @@ pub struct Comparison {
     pub most_differing: u64,
     /// How often each kind of call had each kind of answer, if that is kept.
     pub tally: Option<BTreeMap<String, u64>>,
+}
+
+/// What calls of two parties met.
+#[derive(Clone, Copy, Default)]
+pub struct Shared {
+    /// All calls, refused ones included.
+    pub calls: u64,
+    /// Of these: both parties held slots of the room.
+    both_held: u64,
+    /// Refused with 11; of these a slot was free.
+    full: u64,
+    full_beside_free: u64,
+    /// Refused with 15, and with 16.
+    no_party: u64,
+    broken_promise: u64,
+}
+
+impl Shared {
+    fn count(&mut self, room: &[u64], answer: Answer) {
+        self.calls += 1;
+        if !is_sized(room) {
+            return;
+        }
+        let (first, second) = held(room);
+        self.both_held += u64::from(first > 0 && second > 0);
+        match answer {
+            Answer::Refused(11) => {
+                self.full += 1;
+                self.full_beside_free += u64::from(holders(room).contains(&0));
+            }
+            Answer::Refused(15) => self.no_party += 1,
+            Answer::Refused(16) => self.broken_promise += 1,
+            _ => {}
+        }
+    }
+}
+
+impl fmt::Display for Shared {
+    fn fmt(&self, f: &mut fmt::Formatter) -> fmt::Result {
+        let Shared { calls, both_held, full, full_beside_free, no_party, broken_promise } = self;
+        write!(
+            f,
+            "{calls} calls of two parties ({both_held} where both held slots; \
+             11: {full}, {full_beside_free} of them while a slot was free, 15: {no_party}, 16: {broken_promise})"
+        )
+    }
 }
 
 impl fmt::Display for Comparison {
@@ -63,6 +112,9 @@ impl fmt::Display for Comparison {
             ClockMode::Milliseconds => "ended early by 01",
             ClockMode::Nanoseconds => "left the original at an eviction for 10 or 12",
         };
+        if let Some(shared) = self.shared {
+            write!(f, "{shared}, ")?;
+        }
         write!(f, "{histories} histories{short}, {calls} calls compared with the original")?;
         if self.clock == ClockMode::Nanoseconds {
             write!(f, " ({} of them between the two looks)", self.between_looks)?;
@@ -157,7 +209,7 @@ impl<'a> History<'a> {
         let history = History { rooms, ..History::new(settings, slots, ring, keys) };
         for kind in [Kind::Absolute, Kind::Suppressed] {
             for key in keys {
-                let (series, cached) = state::of_key(history.rooms.of(kind), &key.bytes);
+                let (series, cached) = state::of_key(history.rooms.of(kind), key.party, &key.bytes);
                 history.original.put(kind, &key.text, series, cached);
             }
         }
@@ -225,6 +277,7 @@ impl Comparison {
             between_looks: 0,
             taken_out: 0,
             at_rate_zero: 0,
+            shared: None,
             differed: 0,
             seed: None,
             record: None,
@@ -252,8 +305,9 @@ impl Comparison {
             ClockMode::Milliseconds => "",
             ClockMode::Nanoseconds => ", in nanoseconds",
         };
+        let parties = if self.shared.is_some() { ", of two parties" } else { "" };
         for (name, times) in self.tally.iter().flatten() {
-            println!("{times:>10} {name}{clock}");
+            println!("{times:>10} {name}{parties}{clock}");
         }
     }
 
@@ -322,6 +376,9 @@ impl Comparison {
         }
         let answer = history.put(settings, reading, call);
         self.count_kind(&call.op, &answer, wanted);
+        if let Some(shared) = &mut self.shared {
+            shared.count(history.before.of(kind(&call.op)), answer);
+        }
         let verdict = self
             .judge_others(history, settings, reading, call, answer)
             .and_then(|()| self.judge_refusal(history, wanted, answer))
@@ -351,7 +408,7 @@ impl Comparison {
             Err(difference) => {
                 self.differed += 1;
                 if self.differed <= SHOWN {
-                    show(history, self.seed, &difference);
+                    show(history, self.seed, self.shared.is_some(), &difference);
                 }
                 false
             }
@@ -530,16 +587,19 @@ fn judge_by_original(
     Ok(())
 }
 
-fn show(history: &History, seed: Option<u64>, difference: &Difference) {
+fn show(history: &History, seed: Option<u64>, is_shared: bool, difference: &Difference) {
     let (slots, ring) = (history.rooms.absolute[0], history.rooms.absolute[1]);
     eprintln!("differs: {}", difference.0);
     eprintln!("  {:?}, slots {slots}, ring {ring}", history.settings);
     if let Some(seed) = seed {
-        eprintln!("  run it alone: judge history {seed}{}", clock_word(history.settings.clock));
+        let word = if is_shared { "parties" } else { "history" };
+        eprintln!("  run it alone: judge {word} {seed}{}", clock_word(history.settings.clock));
     }
     for given in &history.given {
         let Given { settings, reading, call, answer } = given;
         let note = if *settings == history.settings { "" } else { " (other settings)" };
-        eprintln!("  t={reading} key={:?} {:?}{note} -> {answer:?}", call.key, call.op);
+        let Caller { party, first, second } = call.caller;
+        let who = format!("party {party} of {first} and {second}");
+        eprintln!("  t={reading} {who} key={:?} {:?}{note} -> {answer:?}", call.key, call.op);
     }
 }

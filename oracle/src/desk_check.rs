@@ -2,6 +2,7 @@
 
 use twin::calls::{Answer, Call, Op};
 use twin::desk::desk;
+use twin::parties::{Caller, SOLE};
 use twin::rules::Kind;
 
 use crate::compare::{Comparison, History};
@@ -40,6 +41,7 @@ fn wanted(comparison: &mut Comparison, lines: &[String], keys: &[Key]) -> String
         Err(line) => return line,
     };
     let mut history = History::new(settings, 8, 128, keys);
+    let caller = Caller { party: SOLE, first: 8, second: 0 };
     comparison.begin(&history);
     let mut out = String::new();
     let mut is_compared = true;
@@ -51,7 +53,7 @@ fn wanted(comparison: &mut Comparison, lines: &[String], keys: &[Key]) -> String
         let Some(key) = keys.iter().find(|known| known.text == key) else {
             unreachable!("a key that no line has: {key}");
         };
-        let call = Call { key: &key.bytes, op };
+        let call = Call { caller, key: &key.bytes, op };
         match is_compared {
             true => is_compared = comparison.step(&mut history, &settings, t, call),
             false => comparison.step_without_original(&mut history, t, call),
@@ -74,7 +76,7 @@ pub fn run(comparison: &mut Comparison, inputs: u64, seed: u64) {
         let mut names: Vec<String> = lines.iter().filter_map(|line| Some(call(line)?.1)).collect();
         names.sort();
         names.dedup();
-        let keys: Vec<Key> = names.iter().map(|name| Key::new(name.as_bytes())).collect();
+        let keys: Vec<Key> = names.iter().map(|name| Key::new(SOLE, name.as_bytes())).collect();
         let wanted = wanted(comparison, &lines, &keys);
         if let Some(fault) = differs("desk", &input, &desk(&input), &wanted) {
             comparison.differed += 1;

@@ -1,8 +1,9 @@
-//! Which refusal a call must meet, and where a factor is worked out at perceived rate zero, read from document 01 and tickets 2 and 8 on
-//! lists of buckets.
+//! Which refusal a call must meet, and where a factor is worked out at perceived rate zero, read from document 01 and tickets 2, 6 and 8 on
+//! lists of buckets and of holders.
 
 use twin::calls::{Call, Op, Rooms};
-use twin::room::{Bucket, find, last_reading, slot, slots};
+use twin::parties::Caller;
+use twin::room::{Bucket, last_reading};
 use twin::rules::{ClockMode, Kind, Settings};
 
 use crate::original::Series;
@@ -102,6 +103,7 @@ impl At<'_> {
 struct Met<'a> {
     at: At<'a>,
     room: &'a [u64],
+    caller: Caller,
     key: &'a [u8],
     series: Option<Series>,
     cached: Option<(u64, u64)>,
@@ -122,10 +124,14 @@ impl Met<'_> {
         if !joins && buckets.len() == ring { 12 } else { 0 }
     }
 
-    /// 11 where a slot is needed and none is free.
+    /// 11 where a slot is needed and the party holds as many as it is promised.
     fn no_slot(&self) -> u64 {
-        let full = (0..slots(self.room)).all(|at| slot(self.room, at).in_use());
-        if find(self.room, self.key).is_none() && full { 11 } else { 0 }
+        let Caller { party, first, second } = self.caller;
+        let (held, promised) = match (party, held(self.room)) {
+            (1, (held, _)) => (held, first),
+            (_, (_, held)) => (held, second),
+        };
+        if find(self.room, party, self.key).is_none() && held == promised { 11 } else { 0 }
     }
 
     fn new_series(&self, count: u64) -> u64 {
@@ -184,7 +190,7 @@ impl Met<'_> {
         Expected { at_rate_zero: asks && self.is_at_rate_zero(op), ..Expected::default() }
     }
 
-    /// What a call meets that meets none of 1 to 8.
+    /// What a call meets that meets none of 1 to 8, 15 and 16.
     fn late(&self, op: &Op) -> Expected {
         match *op {
             Op::AbsoluteInc { count, .. } => self.absolute_inc(count),
@@ -230,16 +236,66 @@ fn is_bad_rate(rate: f64) -> bool {
     rate.is_nan() || rate.is_infinite() || rate < 2f64.powi(-900)
 }
 
-const HEADER: usize = 3;
-const ENTRY: usize = 6;
+/// Where the holders' words and the directory entries begin.
+pub const HOLDERS: usize = 3;
+pub const HEADER: usize = HOLDERS + 64;
+pub const ENTRY: usize = 6;
 
 /// Whether the lengths are right.
-fn is_sized(room: &[u64]) -> bool {
+pub fn is_sized(room: &[u64]) -> bool {
     let [slots, ring, _, ..] = room else {
         return false;
     };
     let is_small = (1..=64).contains(slots) && (1..=512).contains(ring);
-    is_small && room.len() as u64 == 3 + slots * (6 + 7 + 3 * ring)
+    is_small && room.len() as u64 == 67 + slots * (6 + 7 + 3 * ring)
+}
+
+/// Who holds each slot of a room.
+pub fn holders(room: &[u64]) -> &[u64] {
+    &room[HOLDERS..][..room[0] as usize]
+}
+
+/// The slots of a room that are in use.
+pub fn used(room: &[u64]) -> impl Iterator<Item = usize> {
+    (0..holders(room).len()).filter(|at| holders(room)[*at] != 0)
+}
+
+/// The word of the slots that a party holds.
+pub fn mark(party: u64) -> u64 {
+    match party {
+        1 => 1,
+        2 => 128,
+        party => unreachable!("{party} holds no slot"),
+    }
+}
+
+/// How many slots the first party holds, and the second.
+pub fn held(room: &[u64]) -> (u64, u64) {
+    let of = |party| holders(room).iter().filter(|word| **word == mark(party)).count() as u64;
+    (of(1), of(2))
+}
+
+/// The lowest slot that a party holds with this key; a party other than 1 and 2 holds none.
+pub fn find(room: &[u64], party: u64, key: &[u8]) -> Option<usize> {
+    if ![1, 2].contains(&party) {
+        return None;
+    }
+    let has_key = |at: &usize| {
+        let entry = entry(room, *at);
+        let bytes = key_bytes(entry);
+        let (own, rest) = bytes.split_at(key.len().min(32));
+        entry[1] == key.len() as u64 && own == key && rest.iter().all(|byte| *byte == 0)
+    };
+    let slots = 0..room[0] as usize;
+    slots.filter(|at| holders(room)[*at] == mark(party)).find(has_key)
+}
+
+/// Whether promises together pass the room's slots, or a party holds more than its own.
+fn is_broken(first: u64, second: u64, room: &[u64]) -> bool {
+    let held = held(room);
+    u128::from(first) + u128::from(second) > u128::from(room[0])
+        || held.0 > first
+        || held.1 > second
 }
 
 /// A directory entry's 32 bytes.
@@ -301,22 +357,16 @@ fn is_unsound(settings: &Settings, kind: Kind, room: &[u64], call: Call) -> bool
     if !is_sized(room) {
         return true;
     }
-    let in_use = |at: &usize| entry(room, *at)[0] != 0;
-    let slots = 0..room[0] as usize;
+    // A slot in use that is neither party's.
+    if holders(room).iter().any(|word| ![0, mark(1), mark(2)].contains(word)) {
+        return true;
+    }
     let sound = |at: usize| is_sound(kind, settings, room, at);
-    if matches!(call.op, Op::Clear { .. }) {
-        return false;
+    match call.op {
+        Op::Clear { .. } => false,
+        op if has_key(&op) => find(room, call.caller.party, call.key).is_some_and(|at| !sound(at)),
+        _ => !used(room).all(sound),
     }
-    if !has_key(&call.op) {
-        return !slots.filter(in_use).all(sound);
-    }
-    let has_key = |at: &usize| {
-        let entry = entry(room, *at);
-        let bytes = key_bytes(entry);
-        let (own, rest) = bytes.split_at(call.key.len().min(32));
-        entry[1] == call.key.len() as u64 && own == call.key && rest.iter().all(|byte| *byte == 0)
-    };
-    slots.filter(in_use).find(has_key).is_some_and(|at| !sound(at))
 }
 
 /// The rate a call gives, if it gives one.
@@ -353,7 +403,7 @@ pub fn has_key(op: &Op) -> bool {
     !matches!(op, Op::Clear { .. } | Op::Cleanup { .. } | Op::CleanupBoth { .. })
 }
 
-/// The first of 1 to 8, or 0.
+/// The first of 1 to 7, 15, 16 and 8, or 0.
 fn early(settings: &Settings, rooms: &Rooms, reading: u64, call: Call) -> u64 {
     let fault = settings_fault(settings);
     if fault != 0 {
@@ -367,13 +417,18 @@ fn early(settings: &Settings, rooms: &Rooms, reading: u64, call: Call) -> u64 {
         return 5;
     }
     let is_read_out = matches!(call.op, Op::ReadOut { .. });
+    let Caller { party, first, second } = call.caller;
     let mut last = last_reading(room);
-    if is_both {
+    let mut is_broken_promise = is_broken(first, second, room);
+    if let Op::CleanupBoth { first, second, .. } = call.op {
         last = last.max(last_reading(&rooms.suppressed));
+        is_broken_promise |= is_broken(first, second, &rooms.suppressed);
     }
     match () {
         _ if reading < last && !is_read_out => 6,
         _ if has_key(&call.op) && call.key.len() > 32 => 7,
+        _ if ![1, 2].contains(&party) => 15,
+        _ if is_broken_promise && !is_read_out => 16,
         _ if rate(&call.op).is_some_and(is_bad_rate) => 8,
         _ => 0,
     }
@@ -385,8 +440,9 @@ pub fn expected(settings: &Settings, rooms: &Rooms, reading: u64, call: Call) ->
         return refused(number);
     }
     let room = rooms.of(kind(&call.op));
-    let (series, cached) = of_key(room, call.key);
-    let met = Met { at: At { settings, reading }, room, key: call.key, series, cached };
+    let Call { caller, key, .. } = call;
+    let (series, cached) = of_key(room, caller.party, key);
+    let met = Met { at: At { settings, reading }, room, caller, key, series, cached };
     let is_read_out = matches!(call.op, Op::ReadOut { .. });
     Expected { between_looks: !is_read_out && met.is_between_looks(), ..met.late(&call.op) }
 }

@@ -1,10 +1,11 @@
 //! A second reading of the programs' lines, and the lines that answers print.
 
 use twin::calls::Answer;
-use twin::room::{find, slot};
+use twin::parties::SOLE;
+use twin::room::slot;
 use twin::rules::Settings;
 
-use crate::expected::settings_fault;
+use crate::expected::{find, settings_fault};
 
 const TOP: u64 = 1 << 53;
 
@@ -79,7 +80,7 @@ pub fn told(t: u64, answer: Answer, total: u64, declined: u64) -> String {
 
 /// The key's totals as its room has them.
 pub fn stored(room: &[u64], key: &[u8]) -> (u64, u64) {
-    let slot = find(room, key).map(|at| slot(room, at)).filter(|slot| slot.has_series());
+    let slot = find(room, SOLE, key).map(|at| slot(room, at)).filter(|slot| slot.has_series());
     slot.map_or((0, 0), |slot| (slot.total(), slot.declined()))
 }
 

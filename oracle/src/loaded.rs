@@ -4,12 +4,11 @@ use twin::calls::Rooms;
 use twin::room::words_of;
 use twin::rules::{Kind, Settings};
 
+use crate::expected::{ENTRY, HEADER, HOLDERS, mark};
 use crate::random::{Dice, rate};
 use crate::state::Key;
 
 const TOP: u64 = 1 << 53;
-const HEADER: usize = 3;
-const ENTRY: usize = 6;
 
 /// Offsets of a room's parts.
 struct Places {
@@ -144,12 +143,15 @@ fn sound_room(
     for at in 0..places.slots {
         let entry = places.entry(at);
         let key = unused.remove(dice.below(unused.len() as u64) as usize);
-        room[entry] = match kind {
+        let uses = match kind {
             Kind::Absolute => dice.below(2),
             Kind::Suppressed => dice.below(4),
         };
+        // A free slot may show any use.
+        room[entry] = if uses == 0 { dice.below(5) } else { uses };
+        room[HOLDERS + at] = if uses == 0 { 0 } else { mark(key.party) };
         room[entry + 1..entry + 6].copy_from_slice(&packed(&key.bytes));
-        let (uses, body) = (room[entry], places.body(at));
+        let body = places.body(at);
         let body = &mut room[body..][..places.size()];
         if uses & 1 != 0 {
             fill_series(dice, kind, settings, body, places.ring, last);
@@ -226,6 +228,18 @@ fn changed(dice: &mut Dice, room: &[u64], at: usize) -> u64 {
     }
 }
 
+/// Words that a holder's may be: of nobody, of a party, of neither.
+pub const HOLDER_WORDS: [u64; 14] =
+    [0, 1, 128, 2, 3, 64, 127, 129, 130, 255, 256, 1 << 63, (1 << 63) + 1, u64::MAX];
+
+/// The holder's word of a slot that the room has, or has not, becomes another.
+fn damage_holder(dice: &mut Dice, room: &mut [u64]) {
+    let slots = if dice.once_in(4) { 64 } else { room[0] };
+    let at = HOLDERS + dice.below(slots) as usize;
+    let (likely, any) = (dice.pick(&HOLDER_WORDS), dice.any());
+    room[at] = dice.pick(&[likely, likely, room[at] ^ (1 << (any % 64)), any]);
+}
+
 /// One word changed to a value at some boundary, a time that falls, or one word more or less.
 pub fn damage(dice: &mut Dice, room: &mut Vec<u64>) {
     if dice.once_in(40) {
@@ -244,7 +258,8 @@ pub fn damage(dice: &mut Dice, room: &mut Vec<u64>) {
         return fall(dice, &mut room[start..][..places.size()], places.ring);
     }
     let at = match dice.below(10) {
-        0 => dice.below(3) as usize,
+        0 if dice.once_in(2) => dice.below(3) as usize,
+        0 => return damage_holder(dice, room),
         1 | 2 => places.entry(slot) + dice.below(6) as usize,
         3..=6 => places.body(slot) + dice.below(7) as usize,
         _ => places.body(slot) + 7 + dice.below(3 * places.ring as u64) as usize,

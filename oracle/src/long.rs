@@ -4,12 +4,10 @@
 use twin::room::{Bucket, words_of};
 use twin::rules::{Kind, Settings};
 
-use crate::expected::ticks;
+use crate::expected::{ENTRY, HEADER, HOLDERS, mark, ticks};
 use crate::loaded::limit;
 use crate::random::Dice;
 
-const HEADER: usize = 3;
-const ENTRY: usize = 6;
 const FIXED: usize = 7;
 
 /// The rings' lengths, and how often each comes.
@@ -276,8 +274,9 @@ impl Long {
         let own = dice.below(slots as u64) as usize;
         let size = FIXED + 3 * self.ring;
         let mut words: Vec<u64> = (0..words_of(slots, self.ring)).map(|_| dice.any()).collect();
-        words[..HEADER].copy_from_slice(&[slots as u64, self.ring as u64, self.last]);
+        words[..HOLDERS].copy_from_slice(&[slots as u64, self.ring as u64, self.last]);
         for slot in 0..slots {
+            words[HOLDERS + slot] = mark(1 + dice.below(2));
             let key = if slot == own { KEY[0] } else { b'b' };
             let uses = if kind == Kind::Suppressed && dice.once_in(3) { 3 } else { 1 };
             words[HEADER + ENTRY * slot..][..ENTRY].copy_from_slice(&[

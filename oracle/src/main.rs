@@ -28,7 +28,9 @@ pub(crate) use common::{
 pub(crate) use error::TrypemaError;
 
 mod all_short;
+mod apart;
 mod broken;
+mod callers;
 mod compare;
 mod desk_check;
 mod expected;
@@ -61,7 +63,8 @@ mod words;
 use std::fmt::Display;
 use std::io::Write;
 
-use compare::Comparison;
+use apart::Apart;
+use compare::{Comparison, Shared};
 use input_lines::Program;
 use shots::Shots;
 use twin::calls::Limiters;
@@ -90,10 +93,16 @@ fn main() {
             show(&both);
             end(both.iter().map(Shots::differed).sum());
         }
-        ["history", seed, ref mode @ ..] => {
-            let mut comparison = Comparison::new(clock(mode), others());
+        [word @ ("history" | "parties"), seed, ref mode @ ..] => {
+            let shared = (word == "parties").then(Shared::default);
+            let mut comparison = Comparison { shared, ..Comparison::new(clock(mode), others()) };
             random::run_one(&mut comparison, number(seed));
             println!("{comparison}");
+        }
+        ["apart", seed, ref mode @ ..] => {
+            let mut apart = Apart::new(clock(mode), 1);
+            apart.pair(number(seed));
+            println!("{apart}");
         }
         ["broken", rooms, seed] => break_rooms(number(rooms), number(seed)),
         [calls, seed, ref wishes @ ..]
@@ -102,8 +111,8 @@ fn main() {
             compare(number(calls), number(seed), wishes);
         }
         _ => panic!(
-            "CALLS SEED [tally] [first] [few], history SEED [nanoseconds], broken ROOMS SEED, shots CALLS SEED [first], \
-             season SEED [nanoseconds], sample CALLS SEED, desk LINES SEED, or shot-lines LINES SEED"
+            "CALLS SEED [tally] [first] [few], history|parties|apart SEED [nanoseconds], broken ROOMS SEED, \
+             shots CALLS SEED [first], season SEED [nanoseconds], sample CALLS SEED, desk LINES SEED, or shot-lines LINES SEED"
         ),
     }
 }
@@ -183,40 +192,94 @@ fn comparison(clock: ClockMode, wishes: &[&str]) -> Comparison {
     comparison
 }
 
-/// A part of the comparison, with the run's calls and seed.
-type Part = fn(&mut Comparison, u64, u64);
+/// Desk inputs and units, which are in milliseconds alone.
+fn compare_desk(comparison: &mut Comparison, calls: u64, seed: u64) {
+    if comparison.clock == ClockMode::Milliseconds {
+        desk_check::run(comparison, calls / 10_000, seed);
+        units_check::run(comparison);
+    }
+}
 
-/// What is compared in each clock mode: random histories and short ones; desk inputs and units in milliseconds alone.
-const PARTS: [Part; 3] = [
-    |comparison, calls, seed| {
-        if comparison.clock == ClockMode::Milliseconds {
-            desk_check::run(comparison, calls / 10_000, seed);
-            units_check::run(comparison);
-        }
-    },
-    random::run,
-    |comparison, _, seed| all_short::run(comparison, seed),
-];
+/// What is compared with two parties.
+struct TwoParties {
+    shared: Comparison,
+    apart: Apart,
+}
 
-/// All parts, and the shots; for each two lines.
-fn compare(calls: u64, seed: u64, wishes: &[&str]) -> ! {
-    let mut both = CLOCKS.map(|clock| comparison(clock, wishes));
-    // Where the first difference is asked for, one is enough, and nanoseconds mostly have it.
-    let goes_on = |both: &[Comparison; 2]| both.iter().all(Comparison::goes_on);
-    for part in PARTS {
-        for at in (0..both.len()).rev() {
-            if goes_on(&both) {
-                part(&mut both[at], calls, seed);
+impl TwoParties {
+    fn new(clock: ClockMode, wishes: &[&str]) -> Self {
+        let shared = Some(Shared::default());
+        let shared = Comparison { shared, ..comparison(clock, wishes) };
+        let apart = Apart::new(clock, shared.most_differing);
+        TwoParties { shared, apart }
+    }
+
+    fn differed(&self) -> u64 {
+        self.shared.differed + self.apart.differed
+    }
+
+    fn goes_on(&self) -> bool {
+        self.shared.goes_on() && self.apart.goes_on()
+    }
+
+    /// As many calls of two parties as the run has, and a tenth as many answers of one of them beside other calls of the other.
+    fn run(&mut self, calls: u64, seed: u64) {
+        random::run_shared(&mut self.shared, calls, seed);
+        apart::run(&mut self.apart, calls / 10, seed);
+    }
+}
+
+/// The whole of a comparison, for each clock mode.
+struct Compared {
+    both: [Comparison; 2],
+    two: [TwoParties; 2],
+}
+
+impl Compared {
+    /// Where the first difference is asked for, one is enough.
+    fn goes_on(&self) -> bool {
+        self.both.iter().all(Comparison::goes_on) && self.two.iter().all(TwoParties::goes_on)
+    }
+
+    /// One part in each clock mode. Nanoseconds mostly have the first difference.
+    fn each(&mut self, part: impl Fn(&mut Comparison, &mut TwoParties)) {
+        for at in (0..self.both.len()).rev() {
+            if self.goes_on() {
+                part(&mut self.both[at], &mut self.two[at]);
             }
         }
     }
-    let shots = match goes_on(&both) {
-        true => compare_shots(both[0].most_differing, calls / 5, seed),
+
+    fn differed(&self) -> u64 {
+        let both: u64 = self.both.iter().map(|one| one.differed).sum();
+        both + self.two.iter().map(TwoParties::differed).sum::<u64>()
+    }
+}
+
+/// All parts, two parties, and the shots; for each two lines.
+fn compare(calls: u64, seed: u64, wishes: &[&str]) -> ! {
+    let both = CLOCKS.map(|clock| comparison(clock, wishes));
+    let two = CLOCKS.map(|clock| TwoParties::new(clock, wishes));
+    let mut compared = Compared { both, two };
+    compared.each(|one, _| compare_desk(one, calls, seed));
+    compared.each(|_, two| two.run(calls, seed));
+    compared.each(|one, _| random::run(one, calls, seed));
+    let shots = match compared.goes_on() {
+        true => compare_shots(compared.both[0].most_differing, calls / 5, seed),
         false => CLOCKS.map(Shots::new),
     };
-    both.iter().for_each(Comparison::show_tally);
+    // The short histories come last, since they are many.
+    if shots.iter().all(Shots::goes_on) {
+        compared.each(|one, two| {
+            all_short::run_shared(&mut two.shared, seed);
+            all_short::run(one, seed);
+        });
+    }
+    let Compared { both, two } = &compared;
+    two.iter().map(|two| &two.shared).chain(both).for_each(Comparison::show_tally);
     show(&shots);
-    show(&both);
-    let in_shots: u64 = shots.iter().map(Shots::differed).sum();
-    end(in_shots + both.iter().map(|one| one.differed).sum::<u64>())
+    show(&two.each_ref().map(|two| &two.apart));
+    show(&two.each_ref().map(|two| &two.shared));
+    show(&both.each_ref());
+    end(shots.iter().map(Shots::differed).sum::<u64>() + compared.differed())
 }

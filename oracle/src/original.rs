@@ -23,9 +23,17 @@ pub struct Original {
     clock: ClockMode,
 }
 
-/// A key's bytes as a text of the same order and length in characters.
-pub fn text(key: &[u8]) -> String {
-    key.iter().map(|byte| char::from(*byte)).collect()
+/// What the texts of the second party's keys begin with, and those of the first never have.
+const SECOND: char = '\u{100}';
+
+/// A key's bytes as a text with a character for each. The original has no parties: the same bytes of the other one are another text.
+pub fn text(party: u64, key: &[u8]) -> String {
+    let second = (party == 2).then_some(SECOND);
+    second.into_iter().chain(key.iter().map(|byte| char::from(*byte))).collect()
+}
+
+fn is_of(party: u64, text: &str) -> bool {
+    text.starts_with(SECOND) == (party == 2)
 }
 
 fn rate_limit(rate: f64) -> RateLimit {
@@ -110,7 +118,7 @@ impl Original {
     pub fn call(&self, reading: u64, call: Call, row: &mut Row) -> Answer {
         set_nanoseconds(self.clock == ClockMode::Nanoseconds);
         set_reading(reading);
-        let text = text(call.key);
+        let text = text(call.caller.party, call.key);
         let key = text.as_str();
         let (absolute, suppressed) = (self.provider.absolute(), self.provider.suppressed());
         match call.op {
@@ -134,8 +142,12 @@ impl Original {
             Op::GetSuppressionFactor => {
                 Answer::Factor(suppressed.get_suppression_factor(key).to_bits())
             }
-            Op::CleanupBoth { stale } => {
+            Op::CleanupBoth { stale, .. } => {
                 self.provider.cleanup(stale);
+                Answer::Done
+            }
+            Op::Clear { kind } => {
+                self.clear(kind, call.caller.party);
                 Answer::Done
             }
             Op::ReadOut { kind } => self.read_out(key, kind, row),
@@ -157,13 +169,6 @@ impl Original {
             }
             Op::Delete { kind: Kind::Absolute } => Answer::Deleted(absolute.delete(key)),
             Op::Delete { kind: Kind::Suppressed } => Answer::Deleted(suppressed.delete(key)),
-            Op::Clear { kind } => {
-                match kind {
-                    Kind::Absolute => absolute.clear(),
-                    Kind::Suppressed => suppressed.clear(),
-                }
-                Answer::Done
-            }
             Op::Set { kind, wanted } => self.set(key, kind, wanted),
             Op::Cleanup { kind, stale } => {
                 match kind {
@@ -173,6 +178,39 @@ impl Original {
                 Answer::Done
             }
             op => unreachable!("the original has no {op:?}"),
+        }
+    }
+
+    /// The texts that a limiter holds a series or a factor for.
+    fn texts(&self, kind: Kind) -> Vec<String> {
+        match kind {
+            Kind::Absolute => self.provider.absolute().series().whole().keys().cloned().collect(),
+            Kind::Suppressed => {
+                let suppressed = self.provider.suppressed();
+                let (series, factors) =
+                    (suppressed.series.whole(), suppressed.suppression_factors.whole());
+                series.keys().chain(factors.keys()).cloned().collect()
+            }
+        }
+    }
+
+    /// A party's keys go: by the original's clear where the other party has none, else by deletes.
+    fn clear(&self, kind: Kind, party: u64) {
+        let (absolute, suppressed) = (self.provider.absolute(), self.provider.suppressed());
+        let (own, others): (Vec<String>, Vec<String>) =
+            self.texts(kind).into_iter().partition(|text| is_of(party, text));
+        if others.is_empty() {
+            match kind {
+                Kind::Absolute => absolute.clear(),
+                Kind::Suppressed => suppressed.clear(),
+            }
+            return;
+        }
+        for key in own {
+            match kind {
+                Kind::Absolute => absolute.delete(&key),
+                Kind::Suppressed => suppressed.delete(&key),
+            };
         }
     }
 

@@ -1,13 +1,14 @@
 //! Random histories that crowd the boundaries, from a generator of our own.
 
 use twin::calls::{Call, Nameless, Op, Rooms};
-use twin::room::{is_room, last_reading, slot, slots};
+use twin::room::{is_room, last_reading, slot};
 use twin::rules::{ClockMode, Comparator, Kind, Mode, Settings};
 use twin::set::Wanted;
 use twin::suppressed::get_suppression_factor;
 
-use crate::compare::{Comparison, History};
-use crate::expected::ticks;
+use crate::callers::Callers;
+use crate::compare::{Comparison, History, Shared};
+use crate::expected::{ticks, used};
 use crate::loaded::{damage, sound_rooms};
 use crate::original::Series;
 use crate::state::{Key, of_key};
@@ -153,9 +154,9 @@ pub fn bad_settings(dice: &mut Dice, good: &Settings) -> Settings {
     bad
 }
 
-const KEY_POOL: [&[u8]; 7] =
+pub const KEY_POOL: [&[u8]; 7] =
     [b"a", b"b", b"", b"abcdefgh", b"abcdefghi", b"a\0", b"0123456789abcdef0123456789abcdef"];
-pub const LONG_KEY: [u8; 33] = [b'k'; 33];
+pub static LONG_KEY: [u8; 33] = [b'k'; 33];
 
 /// What the next call is drawn from.
 pub struct Source {
@@ -165,6 +166,7 @@ pub struct Source {
     pub times: Vec<u64>,
     pub now: u64,
     pub is_suppressed: bool,
+    pub callers: Callers,
     /// Small counts at small rises, so that a key dwells between its limits.
     pub is_steady: bool,
 }
@@ -183,9 +185,9 @@ impl Source {
             return;
         }
         let rooms = [&rooms.absolute, &rooms.suppressed];
-        let all = rooms.iter().flat_map(|room| (0..slots(room)).map(|at| slot(room, at)));
+        let all = rooms.iter().flat_map(|room| used(room).map(|at| slot(room, at)));
         let mut times = Vec::new();
-        for slot in all.filter(|slot| slot.in_use()) {
+        for slot in all {
             let held = if slot.has_series() { slot.buckets() } else { 0 };
             times.extend((0..held).map(|index| slot.bucket(index).time));
             times.extend(slot.has_factor().then(|| slot.factor_time()));
@@ -289,7 +291,7 @@ impl Source {
     }
 
     /// A draw at an end, or beside the chance that the key's factor gives now.
-    pub fn draw(&mut self, settings: &Settings, rooms: &Rooms, key: &[u8]) -> u64 {
+    pub fn draw(&mut self, settings: &Settings, rooms: &Rooms, party: u64, key: &[u8]) -> u64 {
         if self.dice.once_in(100) {
             return self.dice.pick(&[TOP, TOP + 1, u64::MAX]);
         }
@@ -298,7 +300,8 @@ impl Source {
             return self.dice.pick(&ends);
         }
         let mut room = rooms.suppressed.clone();
-        let factor = get_suppression_factor(settings, &mut room, self.now, key);
+        let caller = self.callers.promise(Kind::Suppressed).to(party);
+        let factor = get_suppression_factor(settings, &mut room, self.now, caller, key);
         let chance = (1.0 - factor.unwrap_or(0.5)) * TOP as f64;
         let beside = (chance as u64 + self.dice.below(3)).saturating_sub(1);
         beside.min(TOP - 1)
@@ -328,9 +331,22 @@ impl Source {
         Op::NamelessSet { kind, rate, count, nameless }
     }
 
-    pub fn op(&mut self, settings: &Settings, rooms: &Rooms, key: &[u8]) -> Op {
+    /// The next call with this key: whose it is, and what it asks for.
+    pub fn call<'a>(&mut self, settings: &Settings, rooms: &Rooms, key: &'a [u8]) -> Call<'a> {
+        let party = self.callers.party(&mut self.dice);
+        let op = self.op(settings, rooms, party, key);
+        self.call_of(rooms, party, key, op)
+    }
+
+    /// The call of a party, with what is promised.
+    pub fn call_of<'a>(&mut self, rooms: &Rooms, party: u64, key: &'a [u8], op: Op) -> Call<'a> {
+        let (caller, op) = self.callers.of(&mut self.dice, rooms, party, op);
+        Call { caller, key, op }
+    }
+
+    pub fn op(&mut self, settings: &Settings, rooms: &Rooms, party: u64, key: &[u8]) -> Op {
         let kind = if self.is_suppressed { Kind::Suppressed } else { Kind::Absolute };
-        let series = of_key(rooms.of(kind), key).0.unwrap_or_default();
+        let series = of_key(rooms.of(kind), party, key).0.unwrap_or_default();
         let rate = self.rate();
         let limit = match series.limit {
             0 => settings.limit(kind, rate),
@@ -347,7 +363,8 @@ impl Source {
                 match kind {
                     Kind::Absolute => Op::AbsoluteInc { rate, count },
                     Kind::Suppressed => {
-                        Op::SuppressedInc { rate, count, draw: self.draw(settings, rooms, key) }
+                        let draw = self.draw(settings, rooms, party, key);
+                        Op::SuppressedInc { rate, count, draw }
                     }
                 }
             }
@@ -364,7 +381,8 @@ impl Source {
             76 => Op::Clear { kind },
             77..91 => Op::Set { kind, wanted: self.wanted(&series, &edges) },
             91..95 => Op::Cleanup { kind, stale: self.stale(settings) },
-            95..97 => Op::CleanupBoth { stale: self.stale(settings) },
+            // The callers have the promises.
+            95..97 => Op::CleanupBoth { stale: self.stale(settings), first: 0, second: 0 },
             _ => Op::ReadOut { kind },
         }
     }
@@ -387,8 +405,9 @@ fn start<'a>(
     keys: &'a [Key],
     now: u64,
     empty: bool,
+    is_shared: bool,
 ) -> History<'a> {
-    let slots = dice.pick(&[1, 2, 2, 3, 4]);
+    let slots = dice.pick(if is_shared { &[2, 3, 4, 5, 7] } else { &[1, 2, 2, 3, 4] });
     let is_long = !empty && dice.once_in(80);
     let ring = match is_long {
         true => dice.pick(&[24, 25, 26, 40, 100, 298, 512]),
@@ -423,14 +442,19 @@ fn begun<'a>(comparison: &Comparison, keys: &'a [Key], seed: u64) -> (History<'a
         _ => (0..=dice.below(3)).map(|_| rate(&mut dice, &settings)).collect(),
     };
     let now = first_reading(&mut dice, &settings);
-    let empty = comparison.record.is_some();
-    let history = start(&mut dice, settings, keys, now, empty);
-    let most_keys = if is_steady { 2 } else { history.rooms.absolute[0] + 2 };
+    let (empty, is_shared) = (comparison.record.is_some(), comparison.shared.is_some());
+    let history = start(&mut dice, settings, keys, now, empty, is_shared);
+    let slots = history.rooms.absolute[0];
+    let callers = match is_shared {
+        true => Callers::two(&mut dice, &history.rooms),
+        false => Callers::alone(keys[0].party, &history.rooms),
+    };
+    let most_keys = if is_steady { 2 } else { (slots + 2).min(KEY_POOL.len() as u64) };
     let keys = dice.below(most_keys) + 1;
     let calls = dice.pick(&[3, 10, 20, 40, 80]);
     let rooms = dice.below(3);
-    let source =
-        Source { dice, rates, times: vec![now], now, is_suppressed: rooms == 1, is_steady };
+    let (times, is_suppressed) = (vec![now], rooms == 1);
+    let source = Source { dice, rates, times, now, is_suppressed, callers, is_steady };
     (history, source, Course { keys, calls, both: rooms == 2 })
 }
 
@@ -452,15 +476,18 @@ fn step(
         key = &LONG_KEY;
     }
     // The sample has no refused call: its draws stay as they are.
-    let op = match comparison.record.is_none() && source.dice.once_in(100) {
-        true => source.nameless_set(),
-        false => source.op(&settings, &history.rooms, key),
+    let call = match comparison.record.is_none() && source.dice.once_in(100) {
+        true => {
+            let (party, op) = (source.callers.party(&mut source.dice), source.nameless_set());
+            source.call_of(&history.rooms, party, key, op)
+        }
+        false => source.call(&settings, &history.rooms, key),
     };
     let given = match source.dice.once_in(150) {
         true => bad_settings(&mut source.dice, &settings),
         false => settings,
     };
-    let goes_on = comparison.step(history, &given, reading, Call { key, op });
+    let goes_on = comparison.step(history, &given, reading, call);
     let last = last_reading(&history.rooms.absolute).max(last_reading(&history.rooms.suppressed));
     source.now = source.now.max(last);
     goes_on
@@ -488,7 +515,7 @@ fn on_damaged(comparison: &mut Comparison, mut history: History, mut source: Sou
     let reading = source.reading(&history.settings);
     let keys = history.keys;
     let key: &[u8] = &source.dice.pick(&[&keys[0], &keys[1], &keys[2]]).bytes;
-    let op = source.op(&history.settings, &history.rooms, key);
+    let call = source.call(&history.settings, &history.rooms, key);
     for _ in 0..=source.dice.below(2) {
         damage(&mut source.dice, &mut history.rooms.absolute);
         damage(&mut source.dice, &mut history.rooms.suppressed);
@@ -496,17 +523,32 @@ fn on_damaged(comparison: &mut Comparison, mut history: History, mut source: Sou
             break;
         }
     }
-    comparison.step_without_original(&mut history, reading, Call { key, op });
+    comparison.step_without_original(&mut history, reading, call);
 }
 
-pub fn key_pool() -> Vec<Key> {
-    KEY_POOL.iter().map(|bytes| Key::new(bytes)).collect()
+/// A party's keys.
+pub fn key_pool(party: u64) -> Vec<Key> {
+    KEY_POOL.iter().map(|bytes| Key::new(party, bytes)).collect()
+}
+
+/// The keys of both parties, the first one's before the other's.
+pub fn both_pools() -> Vec<Key> {
+    [1, 2].into_iter().flat_map(key_pool).collect()
+}
+
+/// The keys in play: of both parties, or of the one that a seed's history is of. The sample's is the first.
+fn keys_of(comparison: &Comparison, seed: u64) -> Vec<Key> {
+    match comparison.shared {
+        Some(_) => both_pools(),
+        None if comparison.record.is_none() && seed.is_multiple_of(4) => key_pool(2),
+        None => key_pool(1),
+    }
 }
 
 /// The one history of a seed.
 pub fn run_one(comparison: &mut Comparison, seed: u64) {
     comparison.seed = Some(seed);
-    let keys = key_pool();
+    let keys = keys_of(comparison, seed);
     if let Some((history, source)) = played(comparison, &keys, seed) {
         on_damaged(comparison, history, source);
     }
@@ -515,7 +557,7 @@ pub fn run_one(comparison: &mut Comparison, seed: u64) {
 
 /// The settings of a random history and the rooms that it leaves.
 pub fn rooms_left(comparison: &mut Comparison, seed: u64) -> Option<(Settings, Rooms)> {
-    let keys = key_pool();
+    let keys = keys_of(comparison, seed);
     let (history, _) = played(comparison, &keys, seed)?;
     Some((history.settings, history.rooms))
 }
@@ -525,6 +567,15 @@ pub fn run(comparison: &mut Comparison, calls: u64, seed: u64) {
     let mut seeds = Dice::new(seed);
     let end = comparison.calls + calls;
     while comparison.calls < end && comparison.goes_on() {
+        run_one(comparison, seeds.any());
+    }
+}
+
+/// The same for histories of two parties that share the rooms; each call counts.
+pub fn run_shared(comparison: &mut Comparison, calls: u64, seed: u64) {
+    comparison.shared = Some(Shared::default());
+    let mut seeds = Dice::new(seed);
+    while comparison.shared.is_some_and(|shared| shared.calls < calls) && comparison.goes_on() {
         run_one(comparison, seeds.any());
     }
 }

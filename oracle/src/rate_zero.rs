@@ -40,11 +40,12 @@ pub fn fault(
     if answer != due {
         return Some(format!("{due:?} is due at perceived rate zero"));
     }
-    let series = of_key(&before.suppressed, call.key).0.expect("a key with a bucket");
+    let party = call.caller.party;
+    let series = of_key(&before.suppressed, party, call.key).0.expect("a key with a bucket");
     let at = At { settings, reading };
     let left = at.left(&call.op, &series.buckets);
     let count = if let Op::SuppressedInc { count, .. } = call.op { Some(count) } else { None };
     let due = (Some(at.counted(series.limit, left, count)), Some((0, reading)));
-    let held = of_key(&after.suppressed, call.key);
+    let held = of_key(&after.suppressed, party, call.key);
     (held != due).then(|| format!("at perceived rate zero {due:?} is due, and {held:?} is held"))
 }

@@ -2,12 +2,13 @@
 
 use twin::calls::{Answer, Asked, Call, Limiters, Nameless, Op, Rooms, Row};
 use twin::gateway::Shot;
+use twin::parties::Caller;
 use twin::room::Bucket;
 use twin::rules::{ClockMode, Comparator, Kind, Mode, Settings};
 use twin::set::Wanted;
 
-/// The archive's functions: settings, a room, what the call asks for, mostly with a reading first, and the row of five words for
-/// the answer.
+/// The archive's functions: settings, a room, what the call asks for, mostly with a reading and a caller first, and the row of five
+/// words for the answer.
 macro_rules! faces {
     ($($name:ident($($argument:ident: $type:ty),*);)*) => {
         unsafe extern "C" {
@@ -27,37 +28,65 @@ macro_rules! faces {
 }
 
 faces! {
-    frostaxle_absolute_inc(reading: u64, key: *const u8, length: usize, rate: f64, count: u64);
-    frostaxle_absolute_is_allowed(reading: u64, key: *const u8, length: usize);
-    frostaxle_absolute_get(reading: u64, key: *const u8, length: usize);
-    frostaxle_absolute_set_rate_limit(reading: u64, key: *const u8, length: usize, rate: f64);
-    frostaxle_absolute_delete(reading: u64, key: *const u8, length: usize);
-    frostaxle_absolute_clear(reading: u64);
+    frostaxle_absolute_inc(
+        reading: u64, party: u64, first: u64, second: u64, key: *const u8, length: usize, rate: f64, count: u64
+    );
+    frostaxle_absolute_is_allowed(
+        reading: u64, party: u64, first: u64, second: u64, key: *const u8, length: usize
+    );
+    frostaxle_absolute_get(
+        reading: u64, party: u64, first: u64, second: u64, key: *const u8, length: usize
+    );
+    frostaxle_absolute_set_rate_limit(
+        reading: u64, party: u64, first: u64, second: u64, key: *const u8, length: usize, rate: f64
+    );
+    frostaxle_absolute_delete(
+        reading: u64, party: u64, first: u64, second: u64, key: *const u8, length: usize
+    );
+    frostaxle_absolute_clear(reading: u64, party: u64, first: u64, second: u64);
     frostaxle_absolute_set_if(
-        reading: u64, key: *const u8, length: usize, rate: f64, count: u64, comparator: u64, operand: u64
+        reading: u64, party: u64, first: u64, second: u64, key: *const u8, length: usize, rate: f64, count: u64,
+        comparator: u64, operand: u64
     );
     frostaxle_absolute_set_if_preserve_history(
-        reading: u64, key: *const u8, length: usize, rate: f64, count: u64, comparator: u64, operand: u64, preservation: u64
+        reading: u64, party: u64, first: u64, second: u64, key: *const u8, length: usize, rate: f64, count: u64,
+        comparator: u64, operand: u64, preservation: u64
     );
-    frostaxle_absolute_cleanup(reading: u64, stale: u64);
-    frostaxle_suppressed_inc(reading: u64, key: *const u8, length: usize, rate: f64, count: u64, draw: u64);
-    frostaxle_suppressed_get(reading: u64, key: *const u8, length: usize);
-    frostaxle_suppressed_get_suppression_factor(reading: u64, key: *const u8, length: usize);
-    frostaxle_suppressed_set_rate_limit(reading: u64, key: *const u8, length: usize, rate: f64);
-    frostaxle_suppressed_delete(reading: u64, key: *const u8, length: usize);
-    frostaxle_suppressed_clear(reading: u64);
+    frostaxle_absolute_cleanup(reading: u64, party: u64, first: u64, second: u64, stale: u64);
+    frostaxle_suppressed_inc(
+        reading: u64, party: u64, first: u64, second: u64, key: *const u8, length: usize, rate: f64, count: u64, draw: u64
+    );
+    frostaxle_suppressed_get(
+        reading: u64, party: u64, first: u64, second: u64, key: *const u8, length: usize
+    );
+    frostaxle_suppressed_get_suppression_factor(
+        reading: u64, party: u64, first: u64, second: u64, key: *const u8, length: usize
+    );
+    frostaxle_suppressed_set_rate_limit(
+        reading: u64, party: u64, first: u64, second: u64, key: *const u8, length: usize, rate: f64
+    );
+    frostaxle_suppressed_delete(
+        reading: u64, party: u64, first: u64, second: u64, key: *const u8, length: usize
+    );
+    frostaxle_suppressed_clear(reading: u64, party: u64, first: u64, second: u64);
     frostaxle_suppressed_set_if(
-        reading: u64, key: *const u8, length: usize, rate: f64, count: u64, comparator: u64, operand: u64
+        reading: u64, party: u64, first: u64, second: u64, key: *const u8, length: usize, rate: f64, count: u64,
+        comparator: u64, operand: u64
     );
     frostaxle_suppressed_set_if_preserve_history(
-        reading: u64, key: *const u8, length: usize, rate: f64, count: u64, comparator: u64, operand: u64, preservation: u64
+        reading: u64, party: u64, first: u64, second: u64, key: *const u8, length: usize, rate: f64, count: u64,
+        comparator: u64, operand: u64, preservation: u64
     );
-    frostaxle_suppressed_cleanup(reading: u64, stale: u64);
-    frostaxle_absolute_bucket(key: *const u8, length: usize, at: usize);
-    frostaxle_suppressed_bucket(key: *const u8, length: usize, at: usize);
-    frostaxle_provider_cleanup(suppressed: *mut u64, suppressed_words: usize, reading: u64, stale: u64);
+    frostaxle_suppressed_cleanup(reading: u64, party: u64, first: u64, second: u64, stale: u64);
+    frostaxle_absolute_bucket(party: u64, key: *const u8, length: usize, at: usize);
+    frostaxle_suppressed_bucket(party: u64, key: *const u8, length: usize, at: usize);
+    frostaxle_provider_cleanup(
+        suppressed: *mut u64, suppressed_words: usize, reading: u64, party: u64, absolute_first: u64, absolute_second: u64,
+        suppressed_first: u64, suppressed_second: u64, stale: u64
+    );
     frostaxle_gateway_shot(
-        suppressed: *mut u64, suppressed_words: usize, reading: u64, controller: *const u8, length: usize, number: u64, rate: f64, draw: u64
+        suppressed: *mut u64, suppressed_words: usize, reading: u64, party: u64, first: u64, second: u64,
+        controller: *const u8, length: usize, number: u64, rate: f64, draw: u64
     );
 }
 
@@ -133,10 +162,11 @@ fn clock_number(clock: ClockMode, reading: u64) -> u64 {
     }
 }
 
-/// One call under way: its settings, reading and key, the lent rooms and the row.
+/// One call under way: its settings, reading, caller and key, the lent rooms and the row.
 struct Face<'a> {
     settings: Settings,
     reading: u64,
+    caller: Caller,
     key: &'a [u8],
     absolute: Lent,
     suppressed: Lent,
@@ -157,11 +187,12 @@ macro_rules! ask {
     }};
 }
 
-/// The same, with what follows the reading.
+/// The same, with what follows the reading and the caller.
 macro_rules! call {
-    ($face:ident.$room:ident, $function:ident $(, $argument:expr)*) => {
-        ask!($face.$room, $function, $face.reading $(, $argument)*)
-    };
+    ($face:ident.$room:ident, $function:ident $(, $argument:expr)*) => {{
+        let Caller { party, first, second } = $face.caller;
+        ask!($face.$room, $function, $face.reading, party, first, second $(, $argument)*)
+    }};
 }
 
 /// The function of the room's kind.
@@ -208,13 +239,14 @@ impl<'a> Face<'a> {
     fn new(
         settings: &Settings,
         reading: u64,
+        caller: Caller,
         key: &'a [u8],
         absolute: &[u64],
         suppressed: &[u64],
     ) -> Self {
         let (absolute, suppressed) = (Lent::new(absolute), Lent::new(suppressed));
         let row = Lent::new(&[GUARD; ROW]);
-        Face { settings: *settings, reading, key, absolute, suppressed, row }
+        Face { settings: *settings, reading, caller, key, absolute, suppressed, row }
     }
 
     fn set(&mut self, kind: Kind, numbers: SetNumbers) -> u64 {
@@ -248,11 +280,24 @@ impl<'a> Face<'a> {
         }
     }
 
-    fn cleanup_both(&mut self, stale: u64) -> u64 {
+    /// The provider's cleanup, with what is promised in the suppressed room.
+    fn cleanup_both(&mut self, stale: u64, own_first: u64, own_second: u64) -> u64 {
         let suppressed = self.suppressed.words();
         let (start, words) = (suppressed.as_mut_ptr(), suppressed.len());
-        let reading = self.reading;
-        ask!(self.absolute, frostaxle_provider_cleanup, start, words, reading, stale)
+        let (reading, Caller { party, first, second }) = (self.reading, self.caller);
+        ask!(
+            self.absolute,
+            frostaxle_provider_cleanup,
+            start,
+            words,
+            reading,
+            party,
+            first,
+            second,
+            own_first,
+            own_second,
+            stale
+        )
     }
 
     /// Makes the call; gives the number that the function returns.
@@ -271,7 +316,7 @@ impl<'a> Face<'a> {
             Op::GetSuppressionFactor => {
                 call!(self.suppressed, frostaxle_suppressed_get_suppression_factor, key, length)
             }
-            Op::CleanupBoth { stale } => self.cleanup_both(stale),
+            Op::CleanupBoth { stale, first, second } => self.cleanup_both(stale, first, second),
             op => self.make_shared(op),
         }
     }
@@ -331,11 +376,15 @@ impl<'a> Face<'a> {
 
     /// The bucket at a place of the read-out, none past the newest, or the refusal.
     fn bucket(&mut self, kind: Kind, at: usize) -> Result<Option<Bucket>, u64> {
-        let (key, length) = (self.key.as_ptr(), self.key.len());
+        let (party, key, length) = (self.caller.party, self.key.as_ptr(), self.key.len());
         self.row.words().fill(GUARD);
         let number = match kind {
-            Kind::Absolute => ask!(self.absolute, frostaxle_absolute_bucket, key, length, at),
-            Kind::Suppressed => ask!(self.suppressed, frostaxle_suppressed_bucket, key, length, at),
+            Kind::Absolute => {
+                ask!(self.absolute, frostaxle_absolute_bucket, party, key, length, at)
+            }
+            Kind::Suppressed => {
+                ask!(self.suppressed, frostaxle_suppressed_bucket, party, key, length, at)
+            }
         };
         match self.told(number) {
             [0, 1, count, declined, time] => Ok(Some(Bucket { count, declined, time })),
@@ -432,14 +481,15 @@ fn gateway_row(
     let (table, room) = (table.words(), room.words());
     let (start, words, told) = (table.as_mut_ptr(), table.len(), row.words().as_mut_ptr());
     let number = match asked {
-        Asked::Shot(Shot { controller, number, rate, draw }) => unsafe {
+        Asked::Shot(caller, Shot { controller, number, rate, draw }) => unsafe {
+            let Caller { party, first, second } = caller;
             let Settings { window, bucket, cache, factor, clock } = *settings;
             let clock = clock_number(clock, reading);
             let (name, length) = (controller.as_ptr(), controller.len());
             let (suppressed, many) = (room.as_mut_ptr(), room.len());
             frostaxle_gateway_shot(
                 window, bucket, cache, factor, clock, start, words, suppressed, many, reading,
-                name, length, number, rate, draw, told,
+                party, first, second, name, length, number, rate, draw, told,
             )
         },
         Asked::NewSeason => unsafe { frostaxle_gateway_new_season(start, words, told) },
@@ -460,11 +510,11 @@ fn gateway_row(
 fn gateway_answer(asked: Asked, row: [u64; ROW]) -> Option<Answer> {
     Some(match (asked, row) {
         (_, [number, 0, 0, 0, 0]) if number != 0 => Answer::Refused(number),
-        (Asked::Shot(_), [0, 1, 0, 0, 0]) => Answer::Allowed,
-        (Asked::Shot(_), [0, 3, factor, admitted, 0]) => {
+        (Asked::Shot(..), [0, 1, 0, 0, 0]) => Answer::Allowed,
+        (Asked::Shot(..), [0, 3, factor, admitted, 0]) => {
             Answer::Suppressed { factor, admitted: yes(admitted)? }
         }
-        (Asked::Shot(_), [0, 4, 0, 0, 0]) => Answer::Held,
+        (Asked::Shot(..), [0, 4, 0, 0, 0]) => Answer::Held,
         (Asked::NewSeason | Asked::MakeTable, [0, 1, 0, 0, 0]) => Answer::Done,
         _ => return None,
     })
@@ -486,8 +536,10 @@ impl Limiters for Rattle {
         call: Call,
         row: &mut Row,
     ) -> Answer {
-        let mut face = Face::new(settings, reading, call.key, &rooms.absolute, &rooms.suppressed);
-        let answer = match call.op {
+        let Call { caller, key, op } = call;
+        let (absolute, suppressed) = (&rooms.absolute, &rooms.suppressed);
+        let mut face = Face::new(settings, reading, caller, key, absolute, suppressed);
+        let answer = match op {
             Op::ReadOut { kind } => face.read_out(kind, row),
             op => face.answer(op),
         };

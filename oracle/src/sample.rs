@@ -2,6 +2,7 @@
 //! README.md says what each number is.
 
 use twin::calls::{Answer, Call, Op};
+use twin::parties::SOLE;
 use twin::replay::answer_numbers;
 use twin::rules::{ClockMode, Comparator, Kind, Mode, Settings};
 use twin::set::Wanted;
@@ -77,14 +78,14 @@ fn numbers(op: Op) -> Option<Numbers> {
         Op::Clear { kind } => plain(in_room(kind, 6)),
         Op::Set { kind, wanted } => set_numbers(kind, wanted),
         Op::Cleanup { kind, stale } => Numbers { stale, ..plain(in_room(kind, 8)) },
-        Op::CleanupBoth { stale } => Numbers { stale, ..plain(9) },
+        Op::CleanupBoth { stale, .. } => Numbers { stale, ..plain(9) },
         Op::ReadOut { .. } | Op::NamelessSet { .. } => return None,
     })
 }
 
 /// What the original holds for the key: use, total, declined, buckets, factor, factor time.
 fn key_numbers(original: &Original, kind: Kind, key: &[u8]) -> [u64; 6] {
-    let text = crate::original::text(key);
+    let text = crate::original::text(SOLE, key);
     let series = original.series(kind, &text);
     let cached = if kind == Kind::Suppressed { original.cached(&text) } else { None };
     let uses = u64::from(series.is_some()) + 2 * u64::from(cached.is_some());

@@ -3,13 +3,15 @@
 
 use std::collections::HashSet;
 
-use twin::calls::{Answer, Asked, Call, Op, Rooms};
+use twin::calls::{Answer, Asked, Op, Rooms};
 use twin::gateway::{Shot, TOP_NUMBER, empty_table};
 use twin::room::{empty_room, is_room};
 use twin::rules::{ClockMode, Comparator, Kind, Mode, Settings, TOP};
 use twin::set::Wanted;
 
+use crate::callers::Callers;
 use crate::compare::clock_word;
+use crate::expected::{ENTRY, HEADER, HOLDERS};
 use crate::loaded::{damage, packed, sound_rooms};
 use crate::random::{
     Dice, LONG_KEY, Source, bad_settings, first_reading, key_pool, rate, settings, slow_rate,
@@ -24,9 +26,9 @@ const NUMBERS: u64 = TOP_NUMBER + 1;
 const MOST: usize = 64;
 
 /// What the seasons of a run must come to: each answer, and each refusal that a shot can meet.
-const COMES: [usize; 22] = [
-    HELD, ALLOWED, YES, NO, DONE, RESENT, RATE_ZERO, 1, 2, 3, 4, 5, 6, 7, 8, 9, 10, 11, 12, 19, 20,
-    21,
+const COMES: [usize; 24] = [
+    HELD, ALLOWED, YES, NO, DONE, RESENT, RATE_ZERO, 1, 2, 3, 4, 5, 6, 7, 8, 9, 10, 11, 12, 15, 16,
+    19, 20, 21,
 ];
 
 /// So many calls at least, for all of that to come.
@@ -76,6 +78,7 @@ impl Log {
 pub struct Season {
     pub settings: Settings,
     pub memory: Memory,
+    /// Their names; a key's party tells nothing.
     pub controllers: Vec<Key>,
     source: Source,
     log: Log,
@@ -95,7 +98,7 @@ pub fn extreme_number(dice: &mut Dice) -> u64 {
 /// Names for more controllers than a table knows.
 fn crowd(dice: &mut Dice) -> Vec<Key> {
     let many = MOST as u64 + 1 + dice.below(5);
-    (0..many).map(|at| Key::new(format!("ctl{at}").as_bytes())).collect()
+    (0..many).map(|at| Key::new(1, format!("ctl{at}").as_bytes())).collect()
 }
 
 /// A sound table with some of these controllers, and anything in the entries that are free.
@@ -106,9 +109,11 @@ fn loaded(dice: &mut Dice, controllers: &[Key]) -> Vec<u64> {
     let many = controllers.len() as u64;
     let any = dice.below(many + 1);
     let known = dice.pick(&[any, many, many - 1]).min(MOST as u64) as usize;
-    table[..3].copy_from_slice(&[known as u64, 0, 0]);
+    // Nobody holds an entry that is in use.
+    table[..HOLDERS + known].fill(0);
+    table[0] = known as u64;
     let mut unused: Vec<&Key> = controllers.iter().collect();
-    for (at, entry) in table[3..].chunks_mut(6).enumerate() {
+    for (at, entry) in table[HEADER..].chunks_mut(ENTRY).enumerate() {
         // A free entry may show a controller that another one has.
         let place = dice.below(unused.len() as u64) as usize;
         let controller = if at < known { unused.remove(place) } else { &controllers[0] };
@@ -127,7 +132,7 @@ fn loaded(dice: &mut Dice, controllers: &[Key]) -> Vec<u64> {
 /// The last number that a sound table has of a controller, 0 for none.
 fn last_number(table: &[u64], controller: &[u8]) -> u64 {
     let own = |entry: &&[u64]| controller.len() <= 32 && entry[1..] == packed(controller);
-    let mut known = table[3..].chunks(6).take(table[0] as usize);
+    let mut known = table[HEADER..].chunks(ENTRY).take(table[0] as usize);
     known.find(own).map_or(0, |entry| entry[0])
 }
 
@@ -144,7 +149,7 @@ impl Season {
         };
         let any = rate(&mut dice, &settings);
         let now = first_reading(&mut dice, &settings);
-        let mut controllers = if is_crowd { crowd(&mut dice) } else { key_pool() };
+        let mut controllers = if is_crowd { crowd(&mut dice) } else { key_pool(1) };
         let slots = if is_crowd { dice.pick(&[64, 64, 40]) } else { dice.pick(&[1, 2, 3, 4, 5]) };
         let ring = dice.pick(&[1, 2, 3, 3, 4, 9]);
         if !is_crowd {
@@ -154,15 +159,25 @@ impl Season {
         let mut log = Log::default();
         if dice.once_in(4) {
             table = loaded(&mut dice, &controllers);
-            for entry in table[3..].chunks(6).take(table[0] as usize) {
+            for entry in table[HEADER..].chunks(ENTRY).take(table[0] as usize) {
                 let bytes = entry[2..].iter().flat_map(|word| word.to_le_bytes());
                 log.admitted.insert((bytes.take(entry[1] as usize).collect(), entry[0]));
             }
         }
         let memory = Memory { table, rooms: rooms(slots, ring) };
         let rates = if is_steady { vec![small] } else { vec![small, any] };
-        let source = Source { dice, rates, times: vec![now], now, is_suppressed: true, is_steady };
+        let callers = match dice.below(4) {
+            party @ (1 | 2) => Callers::alone(party, &memory.rooms),
+            _ => Callers::two(&mut dice, &memory.rooms),
+        };
+        let (times, is_suppressed) = (vec![now], true);
+        let source = Source { dice, rates, times, now, is_suppressed, callers, is_steady };
         Season { settings, memory, controllers, source, log, last: (0, 1) }
+    }
+
+    /// Who calls.
+    pub fn callers(&self) -> Callers {
+        self.source.callers
     }
 
     /// The next number of a controller: higher, the same, lower, any, or one of those at the ends.
@@ -205,11 +220,14 @@ impl Season {
             false => self.settings,
         };
         let reading = self.source.reading(&self.settings);
-        let draw = self.source.draw(&self.settings, &self.memory.rooms, controller);
+        let Source { dice, callers, .. } = &mut self.source;
+        let party = callers.party(dice);
+        let caller = callers.given(dice, &self.memory.rooms, Kind::Suppressed).to(party);
+        let draw = self.source.draw(&self.settings, &self.memory.rooms, party, controller);
         let shot = Shot { controller, number: pair.1, rate: self.source.rate(), draw };
         let table = self.memory.table.clone();
         let room = self.memory.rooms.suppressed.clone();
-        let answer = shots.put(&settings, &mut self.memory, reading, Asked::Shot(shot));
+        let answer = shots.put(&settings, &mut self.memory, reading, Asked::Shot(caller, shot));
         let leaves_table = is_admitted(answer) || self.memory.table == table;
         let leaves_room = !matches!(answer, Answer::Held | Answer::Refused(_))
             || self.memory.rooms.suppressed == room;
@@ -233,6 +251,7 @@ impl Season {
         let key: &[u8] = &self.controllers[at].bytes;
         let reading = self.source.reading(&self.settings);
         let rate = self.source.rates[0];
+        let party = self.source.callers.party(&mut self.source.dice);
         let op = match self.source.dice.below(40) {
             0 => {
                 let (comparator, mode) = (Comparator::Always, Mode::Replace);
@@ -240,9 +259,10 @@ impl Season {
                 Op::Set { kind: Kind::Suppressed, wanted }
             }
             1..10 => Op::SuppressedInc { rate, count: 0, draw: 0 },
-            _ => self.source.op(&self.settings, &self.memory.rooms, key),
+            _ => self.source.op(&self.settings, &self.memory.rooms, party, key),
         };
-        shots.beside.put(&self.settings, &mut self.memory.rooms, reading, Call { key, op });
+        let call = self.source.call_of(&self.memory.rooms, party, key, op);
+        shots.beside.put(&self.settings, &mut self.memory.rooms, reading, call);
     }
 
     /// Another room in the old one's place, empty or loaded; or a damaged one for a shot or two.
@@ -251,11 +271,15 @@ impl Season {
         let slots = dice.pick(&[1, 2, 5]).min(self.controllers.len());
         let ring = dice.pick(&[1, 2, 3, 5]);
         match dice.below(4) {
-            0 => self.memory.rooms = rooms(slots, ring),
+            0 => {
+                self.memory.rooms = rooms(slots, ring);
+                self.source.callers.moved(dice, &self.memory.rooms);
+            }
             1 => {
                 let now = self.source.now;
-                let keys = &self.controllers;
-                self.memory.rooms = sound_rooms(dice, &self.settings, slots, ring, keys, now);
+                let keys = self.source.callers.keys(&self.controllers);
+                self.memory.rooms = sound_rooms(dice, &self.settings, slots, ring, &keys, now);
+                self.source.callers.moved(dice, &self.memory.rooms);
             }
             _ => {
                 let good = self.memory.rooms.suppressed.clone();

@@ -2,8 +2,10 @@
 
 use twin::calls::{Asked, Call, Op};
 use twin::gateway::{Shot, empty_table};
+use twin::parties::Caller;
 use twin::rules::{ClockMode, Kind, Settings};
 
+use crate::callers::Promise;
 use crate::expected::ticks;
 use crate::seasons::{Log, rooms};
 use crate::shots::{ALLOWED, DONE, HELD, Memory, NO, RESENT, Shots, YES};
@@ -64,13 +66,28 @@ fn letters(clock: ClockMode) -> Vec<Letter> {
 struct Stand {
     settings: Settings,
     memory: Memory,
+    who: Who,
     log: Log,
     now: u64,
 }
 
+/// Whose the shots are: one party's, or of those that share the room the one's of even numbers and the other's of odd ones.
+#[derive(Clone, Copy)]
+struct Who {
+    alone: Option<u64>,
+    promise: Promise,
+}
+
+impl Who {
+    fn caller(&self, number: u64) -> Caller {
+        self.promise.to(self.alone.unwrap_or(1 + number % 2))
+    }
+}
+
 impl Stand {
     fn shoot(&mut self, shots: &mut Shots, shot: Shot, reading: u64) {
-        let answer = shots.put(&self.settings, &mut self.memory, reading, Asked::Shot(shot));
+        let asked = Asked::Shot(self.who.caller(shot.number), shot);
+        let answer = shots.put(&self.settings, &mut self.memory, reading, asked);
         self.log.judge(shots, shot, answer);
     }
 
@@ -89,7 +106,7 @@ impl Stand {
                 self.log = Log::default();
             }
             Letter::Room(op) => {
-                let call = Call { key: b"a", op };
+                let call = Call { caller: self.who.caller(1), key: b"a", op };
                 shots.beside.put(&self.settings, &mut self.memory.rooms, self.now, call);
             }
         }
@@ -111,13 +128,16 @@ fn follow(shots: &mut Shots, letters: &[Letter], stand: &Stand, left: u64) {
     }
 }
 
-/// Every season, in rooms of one slot and of two; of four calls in a run of many.
+/// Every season, of one party in rooms of one slot and of two, and of two parties with a slot each; of four calls in a run of many.
 pub fn run(shots: &mut Shots, calls: u64) {
     let length = if calls < MANY { 3 } else { 4 };
-    for slots in [1, 2] {
+    for (slots, alone) in [(1, Some(1)), (2, Some(2)), (2, None)] {
+        let shared = Promise { first: 1, second: 1 };
+        let promise = alone.map_or(shared, |party| Promise::all(party, slots as u64));
         let memory = Memory { table: empty_table(), rooms: rooms(slots, 2) };
         let settings = settings(shots.clock);
-        let begun = Stand { settings, memory, log: Log::default(), now: 0 };
+        let who = Who { alone, promise };
+        let begun = Stand { settings, memory, who, log: Log::default(), now: 0 };
         follow(shots, &letters(shots.clock), &begun, length);
     }
     shots.end_part("short seasons", &COMES);

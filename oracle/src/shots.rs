@@ -1,4 +1,4 @@
-//! One call of the gateway on any words: the twin, the others and the second reading of ticket 12 must agree.
+//! One call of the gateway on any words: the twin, the others and the second reading of tickets 12 and 6 must agree.
 
 use std::fmt;
 

@@ -2,6 +2,7 @@
 
 use twin::calls::Asked;
 use twin::gateway::{Shot, empty_table};
+use twin::parties::{Caller, SOLE};
 use twin::shots::shots as program;
 
 use crate::input_lines::{Program, input};
@@ -31,6 +32,7 @@ fn wanted(shots: &mut Shots, lines: &[String]) -> String {
         Err(line) => return line,
     };
     let mut memory = Memory { table: empty_table(), rooms: rooms(64, 128) };
+    let caller = Caller { party: SOLE, first: 64, second: 0 };
     let mut out = String::new();
     for line in &lines[1..] {
         let Some((t, name, number, rate, draw)) = call(line) else {
@@ -38,7 +40,7 @@ fn wanted(shots: &mut Shots, lines: &[String]) -> String {
             continue;
         };
         let shot = Shot { controller: name.as_bytes(), number, rate, draw };
-        let answer = shots.put(&settings, &mut memory, t, Asked::Shot(shot));
+        let answer = shots.put(&settings, &mut memory, t, Asked::Shot(caller, shot));
         let (total, declined) = stored(&memory.rooms.suppressed, name.as_bytes());
         out.push_str(&told(t, answer, total, declined));
     }

@@ -1,8 +1,9 @@
-//! What ticket 12 says of a call of the gateway, read a second time: from a table's entries as bytes, with the limiter asked as it is, but
-//! for its refusals and its answer at perceived rate zero, which are read a second time too.
+//! What tickets 12 and 6 say of a call of the gateway, read a second time: from a table's entries as bytes, with the limiter asked as it is,
+//! but for its refusals and its answer at perceived rate zero, which are read a second time too.
 
 use twin::calls::{Answer, Asked, Call, Limiters, Op, Twin};
 use twin::gateway::Shot;
+use twin::parties::Caller;
 use twin::rules::Settings;
 
 use crate::expected::{expected, settings_fault};
@@ -12,6 +13,7 @@ use crate::shots::Memory;
 
 const ENTRY: usize = 6;
 const MOST: u64 = 64;
+const WORDS: usize = 3 + 64 + 64 * ENTRY;
 const NUMBERS: u64 = 1 << 32;
 
 /// What a table says of a controller.
@@ -21,18 +23,23 @@ enum Says {
     New { at: usize },
 }
 
-/// A table's entries that are in use, if it has the length and the header of one.
-fn entries(table: &[u64]) -> Option<&[u64]> {
+/// The entries of a table that are in use, each with its holder's word, if it has the length and the header of one.
+fn entries(table: &[u64]) -> Option<impl Iterator<Item = (u64, &[u64])>> {
     match table {
-        [known @ 0..=MOST, 0, 0, entries @ ..] if entries.len() == ENTRY * MOST as usize => {
-            Some(&entries[..ENTRY * *known as usize])
+        [known @ 0..=MOST, 0, 0, ..] if table.len() == WORDS => {
+            let (holders, entries) = table[3..].split_at(MOST as usize);
+            let all = holders.iter().copied().zip(entries.chunks(ENTRY));
+            Some(all.take(*known as usize))
         }
         _ => None,
     }
 }
 
-/// Whether an entry's key is the controller's name, and zeros behind it.
-fn is_of(entry: &[u64], controller: &[u8]) -> bool {
+/// Whether an entry's key is the controller's name, and zeros behind it; one that is held has no controller's.
+fn is_of(holder: u64, entry: &[u64], controller: &[u8]) -> bool {
+    if holder != 0 {
+        return false;
+    }
     let bytes = entry[2..].iter().flat_map(|word| word.to_le_bytes());
     let padded = controller.iter().copied().chain(std::iter::repeat(0)).take(32);
     controller.len() <= 32 && entry[1] == controller.len() as u64 && bytes.eq(padded)
@@ -43,13 +50,12 @@ fn says(table: &[u64], controller: &[u8]) -> Says {
         return Says::Unsound;
     };
     let own: Vec<(usize, u64)> = entries
-        .chunks(ENTRY)
         .enumerate()
-        .filter(|(_, entry)| is_of(entry, controller))
-        .map(|(at, entry)| (at, entry[0]))
+        .filter(|(_, (holder, entry))| is_of(*holder, entry, controller))
+        .map(|(at, (_, entry))| (at, entry[0]))
         .collect();
     match own[..] {
-        [] => Says::New { at: entries.len() / ENTRY },
+        [] => Says::New { at: table[0] as usize },
         [(at, number @ 1..NUMBERS)] => Says::Last { at, number },
         _ => Says::Unsound,
     }
@@ -69,9 +75,15 @@ impl From<Answer> for Foreseen {
 }
 
 /// The limiter's answer to an increment of 1, which leaves its words in the room.
-fn limiter(settings: &Settings, memory: &mut Memory, reading: u64, shot: Shot) -> Foreseen {
+fn limiter(
+    settings: &Settings,
+    memory: &mut Memory,
+    reading: u64,
+    caller: Caller,
+    shot: Shot,
+) -> Foreseen {
     let op = Op::SuppressedInc { rate: shot.rate, count: 1, draw: shot.draw };
-    let call = Call { key: shot.controller, op };
+    let call = Call { caller, key: shot.controller, op };
     let wanted = expected(settings, &memory.rooms, reading, call);
     if wanted.refusal != 0 {
         return Answer::Refused(wanted.refusal).into();
@@ -83,7 +95,13 @@ fn limiter(settings: &Settings, memory: &mut Memory, reading: u64, shot: Shot) -
     }
 }
 
-fn shot(settings: &Settings, memory: &mut Memory, reading: u64, shot: Shot) -> Foreseen {
+fn shot(
+    settings: &Settings,
+    memory: &mut Memory,
+    reading: u64,
+    caller: Caller,
+    shot: Shot,
+) -> Foreseen {
     let Shot { controller, number, .. } = shot;
     if number == 0 || number >= NUMBERS {
         return Answer::Refused(19).into();
@@ -98,14 +116,13 @@ fn shot(settings: &Settings, memory: &mut Memory, reading: u64, shot: Shot) -> F
         Says::New { at } if at == MOST as usize => return Answer::Refused(21).into(),
         Says::Last { at, .. } | Says::New { at } => at,
     };
-    let foreseen = limiter(settings, memory, reading, shot);
+    let foreseen = limiter(settings, memory, reading, caller, shot);
     if is_admitted(foreseen.answer) {
-        let [known, _, _, entries @ ..] = &mut memory.table[..] else {
-            unreachable!("the table is sound");
-        };
+        let (header, entries) = memory.table.split_at_mut(3 + MOST as usize);
         entries[ENTRY * at] = number;
         entries[ENTRY * at + 1..][..5].copy_from_slice(&packed(controller));
-        *known = (*known).max(at as u64 + 1);
+        header[3 + at] = 0;
+        header[0] = header[0].max(at as u64 + 1);
     }
     foreseen
 }
@@ -117,13 +134,13 @@ pub fn is_admitted(answer: Answer) -> bool {
 /// The answer; the memory becomes what the call must leave.
 pub fn foreseen(settings: &Settings, memory: &mut Memory, reading: u64, asked: Asked) -> Foreseen {
     let is_table = match asked {
-        Asked::Shot(given) => return shot(settings, memory, reading, given),
+        Asked::Shot(caller, given) => return shot(settings, memory, reading, caller, given),
         Asked::NewSeason => entries(&memory.table).is_some(),
-        Asked::MakeTable => memory.table.len() == 387,
+        Asked::MakeTable => memory.table.len() == WORDS,
     };
     if !is_table {
         return Answer::Refused(5).into();
     }
-    memory.table = vec![0; 387];
+    memory.table = vec![0; WORDS];
     Answer::Done.into()
 }

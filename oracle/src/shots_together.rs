@@ -1,15 +1,19 @@
-//! Refusals of a shot met together: every set of 1 to 12, with and without 19, at perceived rate zero and not, for a controller of each
-//! standing in the table. The first in the order 19, 20, 21, 1, 2, .. must be given, and held before 1.
+//! Refusals of a shot met together: every set of 1 to 12, 15 and 16, with and without 19, at perceived rate zero and not, for a controller of
+//! each standing in the table. The first in the order 19, 20, 21, 1 to 7, 15, 16, 8, .. must be given, and held before 1.
 
 use twin::calls::{Answer, Asked, Rooms};
 use twin::gateway::{Shot, empty_table};
 use twin::rules::{ClockMode, Kind};
 
+use crate::expected::{ENTRY, HEADER};
 use crate::loaded::packed;
 use crate::random::{Dice, bad_rate};
 use crate::seasons::rooms;
 use crate::shots::{HELD, Memory, NO, RATE_ZERO, Shots, YES};
-use crate::together::{Faults, NO_RATE, RATE, TOP, Unfit, key, reading, room, settings, spoil};
+use crate::together::{
+    Faults, NO_RATE, ORDER, PARTIES, RATE, Shares, TOP, Unfit, body_start, key, reading, room,
+    settings, spoil,
+};
 
 /// How the shot's number and its controller stand to the table.
 #[derive(Clone, Copy, PartialEq)]
@@ -30,8 +34,8 @@ const STANDINGS: [Standing; 5] =
 const NUMBER: u64 = 17;
 
 /// What the sets of a run must come to.
-const COMES: [usize; 19] =
-    [HELD, YES, NO, RATE_ZERO, 1, 2, 3, 4, 5, 6, 7, 8, 9, 10, 11, 12, 19, 20, 21];
+const COMES: [usize; 21] =
+    [HELD, YES, NO, RATE_ZERO, 1, 2, 3, 4, 5, 6, 7, 8, 9, 10, 11, 12, 15, 16, 19, 20, 21];
 
 /// A table of 64 or of fewer controllers, with this one where it is to be known.
 fn table(dice: &mut Dice, standing: Standing, controller: &[u8]) -> Vec<u64> {
@@ -43,7 +47,7 @@ fn table(dice: &mut Dice, standing: Standing, controller: &[u8]) -> Vec<u64> {
     for at in 0..known {
         let name = format!("other{at}");
         let name = if is_known && at == own { controller } else { name.as_bytes() };
-        let entry = &mut table[3 + 6 * at as usize..][..6];
+        let entry = &mut table[HEADER + ENTRY * at as usize..][..ENTRY];
         entry[0] = NUMBER;
         entry[1..].copy_from_slice(&packed(name));
     }
@@ -54,16 +58,16 @@ fn table(dice: &mut Dice, standing: Standing, controller: &[u8]) -> Vec<u64> {
 fn spoil_table(dice: &mut Dice, table: &mut Vec<u64>, controller: &[u8]) {
     let known = table[0] as usize;
     let has_name = |entry: &[u64]| controller.len() <= 32 && entry[1..] == packed(controller);
-    let own = table[3..].chunks(6).take(known).position(has_name);
+    let own = table[HEADER..].chunks(ENTRY).take(known).position(has_name);
     match (dice.below(6), own) {
         (0, _) => drop(table.pop()),
         (1, _) => table.push(0),
         (2, _) => table[0] = dice.pick(&[65, 1 << 32, u64::MAX]),
-        (3, Some(own)) => table[3 + 6 * own] = dice.pick(&[0, 1 << 32, u64::MAX]),
+        (3, Some(own)) => table[HEADER + ENTRY * own] = dice.pick(&[0, 1 << 32, u64::MAX]),
         (4, Some(own)) if known > 1 => {
-            let start = 3 + 6 * own;
+            let start = HEADER + ENTRY * own;
             let other = (own + 1) % known;
-            table.copy_within(start..start + 6, 3 + 6 * other);
+            table.copy_within(start..start + ENTRY, HEADER + ENTRY * other);
         }
         _ => table[dice.pick(&[1, 2])] = dice.pick(&[1, u64::MAX]),
     }
@@ -84,7 +88,7 @@ fn due(faults: Faults, standing: Standing, is_table_unfit: bool) -> Option<u64> 
     // A slot that is not there is not full, and has no total.
     let has_slot = !is_long && !faults.has(11);
     let is_met = |number: &u64| faults.has(*number) && (has_slot || ![10, 12].contains(number));
-    Some((1..13).find(is_met).unwrap_or(0))
+    Some(ORDER.into_iter().find(is_met).unwrap_or(0))
 }
 
 /// What the limiter decides: at perceived rate zero the factor is 0, else 1 - 0.
@@ -95,11 +99,12 @@ fn decided(faults: Faults) -> Answer {
 }
 
 /// The suppressed room of refusals met together; for 10 the first slot's total is at the top.
-fn room_of(clock: ClockMode, faults: Faults) -> Vec<u64> {
-    let mut room = room(clock, Kind::Suppressed, faults);
+fn room_of(clock: ClockMode, faults: Faults, shares: Shares) -> Vec<u64> {
+    let mut room = room(clock, Kind::Suppressed, faults, shares);
     if faults.has(10) {
+        let start = body_start(&room, 0);
         for at in [1, 2, 8, 10] {
-            room[15 + at] = TOP;
+            room[start + at] = TOP;
         }
     }
     room
@@ -119,18 +124,19 @@ fn one(shots: &mut Shots, dice: &mut Dice, faults: Faults, standing: Standing) {
     let (clock, controller) = (shots.clock, key(faults));
     let is_long = faults.has(7);
     let in_table: &[u8] = if is_long { b"a" } else { controller };
+    let shares = Shares::new(dice);
     let mut memory = Memory {
         table: table(dice, standing, in_table),
-        rooms: Rooms { suppressed: room_of(clock, faults), ..rooms(1, 1) },
+        rooms: Rooms { suppressed: room_of(clock, faults, shares), ..rooms(1, 1) },
     };
-    let is_named = !is_long && !faults.has(11);
+    let is_named = !is_long && !faults.has(11) && !faults.has(15);
     let is_table_unfit = faults.has(5) && dice.once_in(2);
     match is_table_unfit {
         true => spoil_table(dice, &mut memory.table, controller),
         false if faults.has(5) => {
-            // Only a slot that the call addresses is judged.
-            let unfit =
-                if is_named { dice.pick(&[Unfit::Lengths, Unfit::Slot]) } else { Unfit::Lengths };
+            // Only a slot that the call addresses is judged, but for its holder.
+            let all = [Unfit::Lengths, Unfit::Holder, Unfit::Slot];
+            let unfit = dice.pick(if is_named { &all } else { &all[..2] });
             spoil(dice, &mut memory.rooms.suppressed, unfit);
         }
         false => {}
@@ -142,7 +148,8 @@ fn one(shots: &mut Shots, dice: &mut Dice, faults: Faults, standing: Standing) {
     let shot = Shot { controller, number, rate, draw };
     let due = due(faults, standing, is_table_unfit);
     let settings = settings(dice, clock, faults);
-    let told = shots.put(&settings, &mut memory, reading, Asked::Shot(shot));
+    let caller = shares.caller(dice, faults);
+    let told = shots.put(&settings, &mut memory, reading, Asked::Shot(caller, shot));
     let is_due = match due {
         None => told == Answer::Held,
         Some(0) => told == decided(faults),
@@ -156,11 +163,12 @@ fn one(shots: &mut Shots, dice: &mut Dice, faults: Faults, standing: Standing) {
 /// Every set of refusals, for every standing.
 pub fn run(shots: &mut Shots, dice: &mut Dice) {
     for standing in STANDINGS {
-        for set in 0..1u64 << 14 {
-            // The first bit is perceived rate zero, the last one 19's.
-            let faults = Faults((set & 0x1fff) | ((set >> 13) << 19));
+        // The last bit is 19's.
+        let sets = (0..1u64 << 14).flat_map(|set| PARTIES.map(|parties| (set, parties)));
+        for (set, (no_party, broken_promise)) in sets {
+            let set = (set & 0x1fff) | (set >> 13 << 19);
             if shots.goes_on() {
-                one(shots, dice, faults, standing);
+                one(shots, dice, Faults::new(set, no_party, broken_promise), standing);
             }
         }
     }

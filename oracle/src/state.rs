@@ -1,21 +1,22 @@
 //! A limiter's whole state as one list of numbers, from the original and from a room's words.
 
-use twin::room::{Bucket, find, slot, slots};
+use twin::room::{Bucket, slot};
 use twin::rules::Kind;
 
-use crate::expected::At;
-use crate::original::{Original, Series};
+use crate::expected::{At, find, used};
+use crate::original::{Original, Series, text};
 
-/// A key as bytes, for rooms, and as a text, for the original.
+/// A party's key as bytes, for rooms, and as a text, for the original.
 #[derive(Clone, Debug)]
 pub struct Key {
+    pub party: u64,
     pub bytes: Vec<u8>,
     pub text: String,
 }
 
 impl Key {
-    pub fn new(bytes: &[u8]) -> Self {
-        Key { bytes: bytes.to_vec(), text: crate::original::text(bytes) }
+    pub fn new(party: u64, bytes: &[u8]) -> Self {
+        Key { party, bytes: bytes.to_vec(), text: text(party, bytes) }
     }
 }
 
@@ -63,9 +64,9 @@ pub fn of_original(
     out.extend([series as u64, factors as u64]);
 }
 
-/// What a room holds for a key, as plain values.
-pub fn of_key(room: &[u64], key: &[u8]) -> (Option<Series>, Option<(u64, u64)>) {
-    let Some(at) = find(room, key) else {
+/// What a room holds for a party's key, as plain values.
+pub fn of_key(room: &[u64], party: u64, key: &[u8]) -> (Option<Series>, Option<(u64, u64)>) {
+    let Some(at) = find(room, party, key) else {
         return (None, None);
     };
     let slot = slot(room, at);
@@ -83,10 +84,10 @@ pub fn of_key(room: &[u64], key: &[u8]) -> (Option<Series>, Option<(u64, u64)>) 
 pub fn of_room(room: &[u64], keys: &[Key], live: Option<At>, out: &mut Vec<u64>) {
     out.clear();
     for key in keys {
-        let (series, cached) = of_key(room, &key.bytes);
+        let (series, cached) = of_key(room, key.party, &key.bytes);
         put_key(series, cached, live, out);
     }
-    let all = || (0..slots(room)).map(|at| slot(room, at)).filter(|slot| slot.in_use());
+    let all = || used(room).map(|at| slot(room, at));
     let series = all().filter(|slot| slot.has_series()).count();
     let factors = all().filter(|slot| slot.has_factor()).count();
     out.extend([series as u64, factors as u64]);

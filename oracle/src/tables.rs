@@ -3,9 +3,10 @@
 
 use twin::calls::Asked;
 use twin::gateway::Shot;
-use twin::rules::Settings;
+use twin::rules::{Kind, Settings};
 
-use crate::loaded::damage;
+use crate::expected::{ENTRY, HEADER, HOLDERS};
+use crate::loaded::{HOLDER_WORDS, damage};
 use crate::random::{Dice, bad_rate, bad_settings, rate};
 use crate::seasons::{Season, extreme_number, played};
 use crate::shots::{ALLOWED, DONE, HELD, Memory, NO, Shots, YES};
@@ -13,11 +14,10 @@ use crate::shots_together;
 
 const TOP: u64 = 1 << 53;
 const NUMBERS: u64 = 1 << 32;
-const HEADER: usize = 3;
-const ENTRY: usize = 6;
 
 /// What the damaged tables of a run must come to.
-const COMES: [usize; 17] = [HELD, ALLOWED, YES, NO, DONE, 1, 2, 3, 4, 5, 6, 7, 8, 9, 19, 20, 21];
+const COMES: [usize; 19] =
+    [HELD, ALLOWED, YES, NO, DONE, 1, 2, 3, 4, 5, 6, 7, 8, 9, 15, 16, 19, 20, 21];
 
 /// So many tables at least, for all of that to come.
 const LEAST: u64 = 6_000;
@@ -100,7 +100,10 @@ impl Scene<'_> {
         let within = self.dice.below(TOP);
         let draw = self.dice.pick(&[0, within, within, within, within, TOP - 1, TOP, u64::MAX]);
         let shot = Shot { controller: &controller, number, rate, draw };
-        self.shots.put(&settings, memory, reading, Asked::Shot(shot));
+        let mut callers = self.season.callers();
+        let party = callers.party(self.dice);
+        let caller = callers.given(self.dice, &memory.rooms, Kind::Suppressed).to(party);
+        self.shots.put(&settings, memory, reading, Asked::Shot(caller, shot));
     }
 
     /// Shots, a new season and a table made anew, each on the words as they are, or now and then one after another.
@@ -169,16 +172,22 @@ fn entries(dice: &mut Dice, table: &[u64]) -> Vec<usize> {
     }
 }
 
-/// One word changed, in the header and in entries, to each value.
+/// One word changed, in the header and in entries, to each value; and that of an entry's holder.
 fn one_word(scene: &mut Scene, good: &[u64]) {
     let entries = entries(scene.dice, good);
-    let words = entries.iter().flat_map(|at| (0..ENTRY).map(|word| HEADER + ENTRY * *at + word));
+    let words = |entry: &usize| {
+        let start = HEADER + ENTRY * entry;
+        [HOLDERS + entry].into_iter().chain(start..start + ENTRY)
+    };
     let mut table = good.to_vec();
-    for at in (0..HEADER).chain(words.collect::<Vec<_>>()) {
-        for value in values(good[at]) {
+    for at in (0..HOLDERS).chain(entries.iter().flat_map(words)) {
+        let values =
+            if (HOLDERS..HEADER).contains(&at) { HOLDER_WORDS.into() } else { values(good[at]) };
+        for value in values {
             table[at] = value;
             let entry = match at {
-                0..HEADER => scene.dice.pick(&entries),
+                0..HOLDERS => scene.dice.pick(&entries),
+                HOLDERS..HEADER => at - HOLDERS,
                 _ => (at - HEADER) / ENTRY,
             };
             scene.try_entry(good, &table, entry);
@@ -195,9 +204,10 @@ fn more_words(scene: &mut Scene, good: &[u64]) {
         let own = scene.dice.below(known) as usize;
         for _ in 0..2 + scene.dice.below(2) {
             let entry = if scene.dice.once_in(2) { own } else { scene.dice.below(known) as usize };
-            let at = match scene.dice.once_in(4) {
-                true => scene.dice.below(HEADER as u64) as usize,
-                false => HEADER + ENTRY * entry + scene.dice.below(ENTRY as u64) as usize,
+            let at = match scene.dice.below(8) {
+                0 | 1 => scene.dice.below(HOLDERS as u64) as usize,
+                2 => HOLDERS + entry,
+                _ => HEADER + ENTRY * entry + scene.dice.below(ENTRY as u64) as usize,
             };
             table[at] = scene.dice.pick(&values(good[at]));
         }
@@ -217,6 +227,11 @@ fn twice(scene: &mut Scene, good: &[u64]) {
             let entry = scene.dice.pick(&[own, other]);
             table[HEADER + ENTRY * entry] = extreme_number(scene.dice);
         }
+        // Of the two one that is held has no controller's key.
+        if scene.dice.once_in(4) {
+            let entry = scene.dice.pick(&[own, other]);
+            table[HOLDERS + entry] = scene.dice.pick(&HOLDER_WORDS);
+        }
         scene.try_entry(good, &table, own);
     }
 }
@@ -226,7 +241,7 @@ fn lengths(scene: &mut Scene, good: &[u64]) {
     let room = scene.season.memory.rooms.suppressed.clone();
     let longer: Vec<u64> = good.iter().copied().chain([0; 6]).collect();
     let own = shown(&good[HEADER..][..ENTRY]);
-    for length in [0, 1, 2, 3, 9, 381, 386, 388, 393] {
+    for length in [0, 1, 2, 3, 9, 67, 387, 445, 450, 452, 457] {
         scene.try_all(&longer[..length], &own, good[HEADER]);
     }
     scene.try_all(&room, &own, good[HEADER]);
@@ -244,7 +259,10 @@ fn wild(scene: &mut Scene, length: usize) {
             (0..length).map(|_| if dice.once_in(2) { dice.any() } else { dice.below(3) }).collect();
         if !dice.once_in(4) {
             let known = dice.pick(&[0, 1, 2, 63, 64, 64, 65]);
-            table[..HEADER].copy_from_slice(&[known, 0, 0]);
+            table[..HOLDERS].copy_from_slice(&[known, 0, 0]);
+        }
+        if !dice.once_in(4) {
+            table[HOLDERS..HEADER].fill(0);
         }
         let own = shown(&table[HEADER + ENTRY * dice.below(64) as usize..][..ENTRY]);
         let last = dice.pick(&[0, 1, 2, 3]);

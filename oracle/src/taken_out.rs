@@ -19,10 +19,11 @@ pub fn fault(
     let Op::AbsoluteInc { count, .. } = call.op else {
         unreachable!("{:?} takes nothing out", call.op);
     };
-    let series = of_key(&before.absolute, call.key).0.expect("a key with a bucket");
+    let party = call.caller.party;
+    let series = of_key(&before.absolute, party, call.key).0.expect("a key with a bucket");
     let at = At { settings, reading };
     let live = at.live(&series.buckets);
     let due = (Answer::Allowed, Some(at.counted(series.limit, live, Some(count))));
-    let told = (answer, of_key(&after.absolute, call.key).0);
+    let told = (answer, of_key(&after.absolute, party, call.key).0);
     (told != due).then(|| format!("once the expired are out {due:?} is due, and {told:?} is told"))
 }

@@ -26,7 +26,7 @@ pub struct Trials {
     /// Rooms made by the C face.
     faces: u64,
     /// Calls by the refusal they met; not refused at 0.
-    by_number: [u64; 15],
+    by_number: [u64; 17],
     /// Of those not refused: a factor is worked out at perceived rate zero.
     at_rate_zero: u64,
     pub differed: u64,
@@ -68,7 +68,7 @@ impl Trials {
             calls: 0,
             with_others: 0,
             faces: 0,
-            by_number: [0; 15],
+            by_number: [0; 17],
             at_rate_zero: 0,
             differed: 0,
             before: none.clone(),

@@ -1,8 +1,10 @@
 //! The absolute limiter's calls over its room.
 
-use crate::room::{Gone, Slot, SlotMut, crowded, cut_limit, judge, slot, slot_mut, store_reading};
+use crate::parties::Caller;
+use crate::room::{
+    Gone, Slot, SlotMut, crowded, cut_limit, judge, own_slot, slot, slot_mut, store_reading,
+};
 use crate::rules::{Decision, Kind, Refusal, Settings, TOP, judge_rate, refuse_if};
-use crate::shared::series_slot;
 
 const KIND: Kind = Kind::Absolute;
 
@@ -60,17 +62,19 @@ pub fn inc(
     settings: &Settings,
     room: &mut [u64],
     reading: u64,
+    caller: Caller,
     key: &[u8],
     rate: f64,
     count: u64,
 ) -> Result<Decision, Refusal> {
-    let found = judge(KIND, settings, room, reading, key)?;
+    let found = judge(KIND, settings, room, reading, caller, key)?;
     judge_rate(rate)?;
     let decision = match found.slot {
         Some(at) => inc_known(&mut slot_mut(room, at), found.expired, settings, reading, count)?,
         None => {
             refuse_if(count > TOP, 10)?;
-            let mut slot = series_slot(room, None, key)?;
+            found.judge_share(caller)?;
+            let mut slot = own_slot(room, None, caller.party, key);
             slot.open(settings.limit(KIND, rate));
             slot.add(count, 0, reading);
             Decision::Allowed
@@ -85,9 +89,10 @@ pub fn is_allowed(
     settings: &Settings,
     room: &mut [u64],
     reading: u64,
+    caller: Caller,
     key: &[u8],
 ) -> Result<Decision, Refusal> {
-    let found = judge(KIND, settings, room, reading, key)?;
+    let found = judge(KIND, settings, room, reading, caller, key)?;
     let decision = match found.slot {
         None => Decision::Allowed,
         Some(at) => {
@@ -110,9 +115,10 @@ pub fn get(
     settings: &Settings,
     room: &mut [u64],
     reading: u64,
+    caller: Caller,
     key: &[u8],
 ) -> Result<u64, Refusal> {
-    let found = judge(KIND, settings, room, reading, key)?;
+    let found = judge(KIND, settings, room, reading, caller, key)?;
     if let Some(at) = found.slot {
         slot_mut(room, at).cut(found.expired);
     }

@@ -1,6 +1,7 @@
 //! Every call as a value, so that one list of calls can be put to several implementations.
 
 use crate::gateway::{self, Shot, ShotAnswer};
+use crate::parties::Caller;
 use crate::room::{Bucket, empty_room};
 use crate::rules::{Decision, Kind, Refusal, SetOutcome, Settings};
 use crate::set::Wanted;
@@ -9,10 +10,12 @@ use crate::{absolute, provider, set, shared, suppressed};
 /// A call without its settings and reading.
 #[derive(Clone, Copy, Debug)]
 pub struct Call<'a> {
+    pub caller: Caller,
     pub key: &'a [u8],
     pub op: Op,
 }
 
+/// What is asked for. A cleanup of both rooms has the absolute room's promises in its caller, and the suppressed room's here.
 #[derive(Clone, Copy, Debug)]
 pub enum Op {
     AbsoluteInc { rate: f64, count: u64 },
@@ -27,7 +30,7 @@ pub enum Op {
     Set { kind: Kind, wanted: Wanted },
     NamelessSet { kind: Kind, rate: f64, count: u64, nameless: Nameless },
     Cleanup { kind: Kind, stale: u64 },
-    CleanupBoth { stale: u64 },
+    CleanupBoth { stale: u64, first: u64, second: u64 },
     ReadOut { kind: Kind },
 }
 
@@ -41,7 +44,7 @@ pub struct Nameless {
 /// A call of the gateway, without settings and reading; what has no key looks at neither.
 #[derive(Clone, Copy, Debug)]
 pub enum Asked<'a> {
-    Shot(Shot<'a>),
+    Shot(Caller, Shot<'a>),
     NewSeason,
     MakeTable,
 }
@@ -182,42 +185,47 @@ impl Limiters for Twin {
         call: Call,
         row: &mut Row,
     ) -> Answer {
-        let key = call.key;
+        let Call { caller, key, op } = call;
         let Rooms { absolute: a, suppressed: s } = rooms;
-        match call.op {
+        match op {
             Op::AbsoluteInc { rate, count } => {
-                told(absolute::inc(settings, a, t, key, rate, count))
+                told(absolute::inc(settings, a, t, caller, key, rate, count))
             }
-            Op::IsAllowed => told(absolute::is_allowed(settings, a, t, key)),
-            Op::AbsoluteGet => told(absolute::get(settings, a, t, key).map(Answer::Total)),
+            Op::IsAllowed => told(absolute::is_allowed(settings, a, t, caller, key)),
+            Op::AbsoluteGet => told(absolute::get(settings, a, t, caller, key).map(Answer::Total)),
             Op::SuppressedInc { rate, count, draw } => {
-                told(suppressed::inc(settings, s, t, key, rate, count, draw))
+                told(suppressed::inc(settings, s, t, caller, key, rate, count, draw))
             }
-            Op::SuppressedGet => told(suppressed::get(settings, s, t, key)),
+            Op::SuppressedGet => told(suppressed::get(settings, s, t, caller, key)),
             Op::GetSuppressionFactor => told(
-                suppressed::get_suppression_factor(settings, s, t, key)
+                suppressed::get_suppression_factor(settings, s, t, caller, key)
                     .map(|factor| Answer::Factor(factor.to_bits())),
             ),
             Op::SetRateLimit { kind, rate } => told(
-                shared::set_rate_limit(kind, settings, rooms.of_mut(kind), t, key, rate)
+                shared::set_rate_limit(kind, settings, rooms.of_mut(kind), t, caller, key, rate)
                     .map(|old| Answer::OldRate(old.map(f64::to_bits))),
             ),
             Op::Delete { kind } => told(
-                shared::delete(kind, settings, rooms.of_mut(kind), t, key).map(Answer::Deleted),
+                shared::delete(kind, settings, rooms.of_mut(kind), t, caller, key)
+                    .map(Answer::Deleted),
             ),
-            Op::Clear { kind } => told(shared::clear(settings, rooms.of_mut(kind), t)),
+            Op::Clear { kind } => told(shared::clear(settings, rooms.of_mut(kind), t, caller)),
             Op::Set { kind, wanted } => {
-                told(set::set(kind, settings, rooms.of_mut(kind), t, key, wanted))
+                told(set::set(kind, settings, rooms.of_mut(kind), t, caller, key, wanted))
             }
             Op::NamelessSet { kind, rate, count, .. } => {
-                told(set::nameless(kind, settings, rooms.of(kind), t, key, rate, count))
+                told(set::nameless(kind, settings, rooms.of(kind), t, caller, key, rate, count))
             }
             Op::Cleanup { kind, stale } => {
-                told(shared::cleanup(kind, settings, rooms.of_mut(kind), t, stale))
+                told(shared::cleanup(kind, settings, rooms.of_mut(kind), t, caller, stale))
             }
-            Op::CleanupBoth { stale } => told(provider::cleanup(settings, a, s, t, stale)),
+            Op::CleanupBoth { stale, first, second } => {
+                let callers = [caller, Caller { first, second, ..caller }];
+                told(provider::cleanup(settings, a, s, t, callers, stale))
+            }
             Op::ReadOut { kind } => told(
-                shared::read_out(kind, settings, rooms.of(kind), key, row).map(Answer::Buckets),
+                shared::read_out(kind, settings, rooms.of(kind), caller.party, key, row)
+                    .map(Answer::Buckets),
             ),
         }
     }
@@ -231,7 +239,9 @@ impl Limiters for Twin {
         asked: Asked,
     ) -> Answer {
         match asked {
-            Asked::Shot(shot) => told(gateway::shot(settings, table, room, reading, shot)),
+            Asked::Shot(caller, shot) => {
+                told(gateway::shot(settings, table, room, reading, caller, shot))
+            }
             Asked::NewSeason => told(gateway::new_season(table)),
             Asked::MakeTable if gateway::make_table(table) => Answer::Done,
             Asked::MakeTable => Answer::Refused(5),

@@ -1,6 +1,7 @@
 //! The desk program: lines of calls in, lines of answers out.
 
 use crate::lines::{BAD_LINE, Line, Program, Told, printed};
+use crate::parties::Caller;
 use crate::room::empty_room;
 use crate::rules::{Refusal, Settings};
 use crate::{absolute, suppressed};
@@ -61,19 +62,21 @@ impl Program for Desk {
     fn ask(&mut self, reading: u64, key: &[u8], wish: &DeskWish) -> Result<Told, Refusal> {
         let DeskWish { op, rate, count, draw } = *wish;
         let Desk { settings, absolute: a, suppressed: s } = self;
+        let caller = Caller::alone(SLOTS);
         match op {
             DeskOp::AbsoluteInc => {
-                absolute::inc(settings, a, reading, key, rate, count).map(Told::from)
+                absolute::inc(settings, a, reading, caller, key, rate, count).map(Told::from)
             }
             DeskOp::SuppressedInc => {
-                suppressed::inc(settings, s, reading, key, rate, count, draw).map(Told::from)
+                suppressed::inc(settings, s, reading, caller, key, rate, count, draw)
+                    .map(Told::from)
             }
             DeskOp::AbsoluteGet => {
-                absolute::get(settings, a, reading, key)?;
+                absolute::get(settings, a, reading, caller, key)?;
                 Ok(Told::new("value", 0.0))
             }
             DeskOp::SuppressedGet => {
-                let got = suppressed::get(settings, s, reading, key)?;
+                let got = suppressed::get(settings, s, reading, caller, key)?;
                 Ok(Told::new("value", got.factor))
             }
         }

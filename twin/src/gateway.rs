@@ -1,12 +1,13 @@
 //! The gateway: a shot is known by its controller and its number. Its table has a room's header and directory, with nothing behind: word 0 says
-//! how many controllers it knows, and an entry has the last admitted number where a room's has its use.
+//! how many controllers it knows, nobody holds an entry, and an entry has the last admitted number where a room's has its use.
 
-use crate::room::{ENTRY, HEADER, LENGTH, entry_start, packed};
+use crate::parties::{Caller, NOBODY};
+use crate::room::{ENTRY, HEADER, HOLDERS, LENGTH, MOST_SLOTS, entry_start, packed};
 use crate::rules::{Decision, Refusal, Settings, refuse_if};
 use crate::suppressed;
 
 /// How many controllers a table knows at most.
-const MOST: usize = 64;
+const MOST: usize = MOST_SLOTS;
 
 /// How many words a table has.
 pub const TABLE: usize = HEADER + ENTRY * MOST;
@@ -38,9 +39,9 @@ pub fn empty_table() -> Vec<u64> {
     vec![0; TABLE]
 }
 
-/// Whether the words have a table's length and header.
+/// Whether the words have a table's length and the first words of its header.
 fn is_table(table: &[u64]) -> bool {
-    table.len() == TABLE && table[0] <= MOST as u64 && table[1..HEADER] == [0, 0]
+    table.len() == TABLE && table[0] <= MOST as u64 && table[1..HOLDERS] == [0, 0]
 }
 
 fn is_number(number: u64) -> bool {
@@ -64,7 +65,9 @@ fn place(table: &[u64], controller: &[u8]) -> Option<Place> {
         return Some(new);
     }
     let wanted = packed(controller);
-    let mut own = (0..known).filter(|at| table[entry_start(*at)..][LENGTH..ENTRY] == wanted);
+    let mut own = (0..known).filter(|at| {
+        table[entry_start(*at)..][LENGTH..ENTRY] == wanted && table[HOLDERS + at] == NOBODY
+    });
     let Some(at) = own.next() else {
         return Some(new);
     };
@@ -73,8 +76,9 @@ fn place(table: &[u64], controller: &[u8]) -> Option<Place> {
     (is_alone && is_number(last)).then_some(Place { at, last })
 }
 
-/// The entry gets the number, a new one behind the others.
+/// The entry gets the number, a new one behind the others, where any words may stand.
 fn remember(table: &mut [u64], at: usize, controller: &[u8], number: u64) {
+    table[HOLDERS + at] = NOBODY;
     let entry = &mut table[entry_start(at)..][..ENTRY];
     entry[NUMBER] = number;
     entry[LENGTH..].copy_from_slice(&packed(controller));
@@ -85,12 +89,14 @@ fn is_admitted(decision: Decision) -> bool {
     matches!(decision, Decision::Allowed | Decision::Suppressed { admitted: true, .. })
 }
 
-/// The last admitted number again is held and changes nothing; a higher one goes to the suppressed limiter and is remembered if it is admitted.
+/// The last admitted number again is held and changes nothing; a higher one goes to the suppressed limiter, with its caller, and is
+/// remembered if it is admitted.
 pub fn shot(
     settings: &Settings,
     table: &mut [u64],
     room: &mut [u64],
     reading: u64,
+    caller: Caller,
     shot: Shot,
 ) -> Result<ShotAnswer, Refusal> {
     let Shot { controller, number, rate, draw } = shot;
@@ -105,7 +111,7 @@ pub fn shot(
         return Ok(ShotAnswer::Held);
     }
     refuse_if(at == MOST, 21)?;
-    let decision = suppressed::inc(settings, room, reading, controller, rate, 1, draw)?;
+    let decision = suppressed::inc(settings, room, reading, caller, controller, rate, 1, draw)?;
     if is_admitted(decision) {
         remember(table, at, controller, number);
     }

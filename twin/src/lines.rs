@@ -1,5 +1,6 @@
 //! The lines of desk and of shots: how they are read, and the line that an answer prints.
 
+use crate::parties::SOLE;
 use crate::rules::{Decision, Refusal, Settings, TOP, refuse_if};
 use crate::shared::stored;
 
@@ -179,7 +180,7 @@ fn answer<P: Program>(program: &mut P, line: &[u8]) -> Told {
     match program.ask(reading, key, &wish) {
         Err(refusal) => refused(reading, refusal),
         Ok(told) => {
-            let (total, declined) = stored(program.room(&wish), key);
+            let (total, declined) = stored(program.room(&wish), SOLE, key);
             Told { reading, total, declined, ..told }
         }
     }

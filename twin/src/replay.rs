@@ -1,7 +1,8 @@
 //! Replays the list of the original's answers: every answer, and the key's words after every call.
 
 use crate::calls::{Answer, Call, Limiters, Op, Rooms};
-use crate::room::{find, is_room, slot};
+use crate::parties::{Caller, SOLE};
+use crate::room::{find, is_room, slot, slots};
 use crate::rules::{Comparator, Kind, Mode, Settings};
 use crate::set::Wanted;
 
@@ -36,8 +37,9 @@ fn mode(number: u64) -> Mode {
     }
 }
 
-/// The call of a line's op and its seven numbers: rate, count, draw, comparator, operand, mode, stale.
-fn op(op: u64, given: &[u64]) -> Op {
+/// The call of a line's op and its seven numbers: rate, count, draw, comparator, operand, mode, stale. The sole party is
+/// promised every slot, of which the suppressed room has so many.
+fn op(op: u64, given: &[u64], slots: u64) -> Op {
     let (rate, count, draw, stale) = (f64::from_bits(given[0]), given[1], given[2], given[6]);
     let kind = if op > 10 { Kind::Suppressed } else { Kind::Absolute };
     let wanted =
@@ -46,7 +48,7 @@ fn op(op: u64, given: &[u64]) -> Op {
         1 => Op::AbsoluteInc { rate, count },
         2 => Op::IsAllowed,
         3 => Op::AbsoluteGet,
-        9 => Op::CleanupBoth { stale },
+        9 => Op::CleanupBoth { stale, first: slots, second: 0 },
         11 => Op::SuppressedInc { rate, count, draw },
         12 => Op::GetSuppressionFactor,
         13 => Op::SuppressedGet,
@@ -83,7 +85,7 @@ pub fn answer_numbers(answer: Answer) -> [u64; 4] {
 /// Use, total, declined, buckets, factor and factor time of the key's slot, 0 where it has none.
 fn key_numbers(room: &[u64], key: &[u8]) -> [u64; 6] {
     let mut numbers = [0; 6];
-    let Some(slot) = find(room, key).map(|at| slot(room, at)) else {
+    let Some(slot) = find(room, SOLE, key).map(|at| slot(room, at)) else {
         return numbers;
     };
     if slot.has_series() {
@@ -107,9 +109,10 @@ fn outcome(
     let mut bytes: Vec<u8> = given[3..7].iter().flat_map(|word| word.to_le_bytes()).collect();
     bytes.resize(64, b'x');
     let key = &bytes[..given[2] as usize];
-    let call = Call { key, op: op(given[0], &given[7..14]) };
-    let answer = limiters.call(settings, rooms, given[1], call, &mut vec![]);
     let kind = if given[0] > 10 { Kind::Suppressed } else { Kind::Absolute };
+    let caller = Caller::alone(slots(rooms.of(kind)));
+    let call = Call { caller, key, op: op(given[0], &given[7..14], rooms.suppressed[0]) };
+    let answer = limiters.call(settings, rooms, given[1], call, &mut vec![]);
     let mut numbers = [0; 10];
     numbers[..4].copy_from_slice(&answer_numbers(answer));
     if is_room(rooms.of(kind)) {

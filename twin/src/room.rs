@@ -1,11 +1,15 @@
 //! The lent room: where its words lie, how a slot is found and judged, and the changes of docs/WORDS.md.
 
+use crate::parties::{Caller, Held, NOBODY, held, mark};
 use crate::rules::{Kind, Refusal, Settings, TOP, cut, refuse_if};
 #[cfg(trusting)]
 pub use crate::trusting::scan_slot;
 
 const LAST: usize = 2;
-pub const HEADER: usize = 3;
+pub const HOLDERS: usize = 3;
+pub const MOST_SLOTS: usize = 64;
+/// How many words stand before the entries: every room has a holder's word for as many slots as there can be.
+pub const HEADER: usize = HOLDERS + MOST_SLOTS;
 pub const ENTRY: usize = 6;
 const FIXED: usize = 7;
 const CELL: usize = 3;
@@ -41,13 +45,23 @@ pub fn empty_room(slots: usize, ring: usize) -> Vec<u64> {
 /// Whether the lengths are right.
 pub fn is_room(room: &[u64]) -> bool {
     room.len() >= HEADER
-        && (1..=64).contains(&room[0])
+        && (1..=MOST_SLOTS as u64).contains(&room[0])
         && (1..=512).contains(&room[1])
         && room.len() == words_of(room[0] as usize, room[1] as usize)
 }
 
 pub fn slots(room: &[u64]) -> usize {
     room[0] as usize
+}
+
+/// Who holds each of the room's slots.
+pub fn holders(room: &[u64]) -> &[u64] {
+    &room[HOLDERS..][..slots(room)]
+}
+
+pub fn holders_mut(room: &mut [u64]) -> &mut [u64] {
+    let slots = slots(room);
+    &mut room[HOLDERS..][..slots]
 }
 
 fn ring(room: &[u64]) -> usize {
@@ -90,21 +104,21 @@ fn is_packed(entry: &[u64]) -> bool {
         })
 }
 
-/// The lowest slot in use with this key.
-pub fn find(room: &[u64], key: &[u8]) -> Option<usize> {
+/// The lowest slot that the party holds with this key.
+pub fn find(room: &[u64], party: u64, key: &[u8]) -> Option<usize> {
+    let mark = mark(party)?;
     if key.len() > 32 {
         return None;
     }
     let wanted = packed(key);
-    (0..slots(room)).find(|slot| {
-        let entry = &room[entry_start(*slot)..][..ENTRY];
-        entry[USE] != 0 && entry[LENGTH..] == wanted
-    })
+    let (entries, _) = room[HEADER..].as_chunks::<ENTRY>();
+    let mut slots = holders(room).iter().zip(entries);
+    slots.position(|(holder, entry)| *holder == mark && entry[LENGTH..] == wanted)
 }
 
-/// The lowest free slot, or refusal 11.
-pub fn vacant(room: &[u64]) -> Result<usize, Refusal> {
-    (0..slots(room)).find(|slot| room[entry_start(*slot)] == 0).ok_or(Refusal(11))
+/// The lowest free slot. There is one wherever a party holds less than it is promised.
+fn vacant(room: &[u64]) -> usize {
+    holders(room).iter().position(|holder| *holder == NOBODY).expect("a slot that is promised")
 }
 
 /// One bucket of a ring.
@@ -116,10 +130,11 @@ pub struct Bucket {
     pub time: u64,
 }
 
-/// A slot's words, to read: its directory entry, the fixed words of its body, and of the ring's cells all counts, then all
-/// declined counts, then all times.
+/// A slot's words, to read: its holder's, its directory entry, the fixed words of its body, and of the ring's cells all counts,
+/// then all declined counts, then all times.
 #[derive(Clone, Copy)]
 pub struct Slot<'a> {
+    holder: u64,
     entry: &'a [u64],
     fixed: &'a [u64],
     counts: &'a [u64],
@@ -128,11 +143,12 @@ pub struct Slot<'a> {
 }
 
 pub fn slot(room: &[u64], at: usize) -> Slot<'_> {
+    let holder = room[HOLDERS + at];
     let entry = &room[entry_start(at)..][..ENTRY];
     let (fixed, cells) = room[body_start(room, at)..].split_at(FIXED);
     let (counts, cells) = cells.split_at(ring(room));
     let (declines, cells) = cells.split_at(ring(room));
-    Slot { entry, fixed, counts, declines, times: &cells[..ring(room)] }
+    Slot { holder, entry, fixed, counts, declines, times: &cells[..ring(room)] }
 }
 
 fn wrap(index: u64, ring: u64) -> u64 {
@@ -141,7 +157,7 @@ fn wrap(index: u64, ring: u64) -> u64 {
 
 impl<'a> Slot<'a> {
     pub fn in_use(&self) -> bool {
-        self.entry[USE] != 0
+        self.holder != NOBODY
     }
 
     pub fn has_series(&self) -> bool {
@@ -314,7 +330,7 @@ pub fn scan_slot(
     reading: u64,
 ) -> Option<Gone> {
     let most_use = if kind == Kind::Absolute { 1 } else { 3 };
-    if slot.entry[USE] > most_use || !is_packed(slot.entry) {
+    if !(1..=most_use).contains(&slot.entry[USE]) || !is_packed(slot.entry) {
         return None;
     }
     if slot.has_factor() && (slot.factor_bits() > 1f64.to_bits() || slot.factor_time() > last) {
@@ -327,14 +343,20 @@ pub fn scan_slot(
     }
 }
 
-/// The slot a call addresses, and its expired buckets.
+/// The slot a call addresses, its expired buckets, and what the parties hold.
 #[derive(Clone, Copy, Debug)]
 pub struct Found {
     pub slot: Option<usize>,
     pub expired: Gone,
+    held: Held,
 }
 
 impl Found {
+    /// Refusal 11: the call needs a slot, and its party holds as many as it is promised.
+    pub fn judge_share(&self, caller: Caller) -> Result<(), Refusal> {
+        refuse_if(self.slot.is_none() && !caller.has_share_left(self.held), 11)
+    }
+
     /// The slot, if its key has a series.
     pub fn series(&self, room: &[u64]) -> Option<usize> {
         self.slot.filter(|at| slot(room, *at).has_series())
@@ -352,36 +374,45 @@ impl Found {
     }
 }
 
+/// What the parties hold, once 1 to 4 are judged, and 5 but for the slots' words.
+pub fn judge_room(settings: &Settings, room: &[u64]) -> Result<Held, Refusal> {
+    settings.judge()?;
+    refuse_if(!is_room(room), 5)?;
+    held(holders(room)).ok_or(Refusal(5))
+}
+
 /// Refusals 1 to 5 of a call with a key.
 pub fn judge_slot(
     kind: Kind,
     settings: &Settings,
     room: &[u64],
     reading: u64,
+    party: u64,
     key: &[u8],
 ) -> Result<Found, Refusal> {
-    settings.judge()?;
-    refuse_if(!is_room(room), 5)?;
-    let at = find(room, key);
+    let held = judge_room(settings, room)?;
+    let at = find(room, party, key);
     let expired = match at {
         Some(at) => scan_slot(kind, settings, slot(room, at), last_reading(room), reading)
             .ok_or(Refusal(5))?,
         None => Gone::default(),
     };
-    Ok(Found { slot: at, expired })
+    Ok(Found { slot: at, expired, held })
 }
 
-/// Refusals 1 to 7 of a call with a key and a reading.
+/// Refusals 1 to 7, 15 and 16 of a call with a key and a reading.
 pub fn judge(
     kind: Kind,
     settings: &Settings,
     room: &[u64],
     reading: u64,
+    caller: Caller,
     key: &[u8],
 ) -> Result<Found, Refusal> {
-    let found = judge_slot(kind, settings, room, reading, key)?;
+    let found = judge_slot(kind, settings, room, reading, caller.party, key)?;
     refuse_if(reading < last_reading(room), 6)?;
     judge_key(key)?;
+    caller.judge(slots(room), found.held)?;
     Ok(found)
 }
 
@@ -392,6 +423,7 @@ pub fn judge_key(key: &[u8]) -> Result<(), Refusal> {
 
 /// A slot's words, to change.
 pub struct SlotMut<'a> {
+    holder: &'a mut u64,
     entry: &'a mut [u64],
     fixed: &'a mut [u64],
     counts: &'a mut [u64],
@@ -402,25 +434,47 @@ pub struct SlotMut<'a> {
 pub fn slot_mut(room: &mut [u64], at: usize) -> SlotMut<'_> {
     let (ring, start) = (ring(room), body_start(room, at));
     let (front, bodies) = room.split_at_mut(start);
-    let entry = &mut front[entry_start(at)..][..ENTRY];
+    let (header, entries) = front.split_at_mut(HEADER);
+    let (holder, entry) = (&mut header[HOLDERS + at], &mut entries[ENTRY * at..][..ENTRY]);
     let (fixed, cells) = bodies.split_at_mut(FIXED);
     let (counts, cells) = cells.split_at_mut(ring);
     let (declines, cells) = cells.split_at_mut(ring);
-    SlotMut { entry, fixed, counts, declines, times: &mut cells[..ring] }
+    SlotMut { holder, entry, fixed, counts, declines, times: &mut cells[..ring] }
+}
+
+/// The slot of a call whose share is judged: the key's own, or the lowest free one, taken.
+pub fn own_slot<'a>(
+    room: &'a mut [u64],
+    own: Option<usize>,
+    party: u64,
+    key: &[u8],
+) -> SlotMut<'a> {
+    match own {
+        Some(at) => slot_mut(room, at),
+        None => {
+            let at = vacant(room);
+            let mut slot = slot_mut(room, at);
+            slot.take(mark(party).expect("a party that is judged"), key);
+            slot
+        }
+    }
 }
 
 impl SlotMut<'_> {
     pub fn read(&self) -> Slot<'_> {
-        let SlotMut { entry, fixed, counts, declines, times } = self;
-        Slot { entry, fixed, counts, declines, times }
+        let SlotMut { holder, entry, fixed, counts, declines, times } = self;
+        Slot { holder: **holder, entry, fixed, counts, declines, times }
     }
 
+    /// Nobody holds the slot any more; its other words stay.
     pub fn free(&mut self) {
-        self.entry[USE] = 0;
+        *self.holder = NOBODY;
     }
 
-    /// A free slot gets its directory entry and fixed words; its cells stay.
-    pub fn take(&mut self, key: &[u8]) {
+    /// A free slot gets its holder, its directory entry and fixed words; its cells stay. It holds nothing yet.
+    fn take(&mut self, mark: u64, key: &[u8]) {
+        *self.holder = mark;
+        self.entry[USE] = 0;
         self.entry[LENGTH..].copy_from_slice(&packed(key));
         self.fixed.fill(0);
     }
@@ -543,8 +597,12 @@ impl SlotMut<'_> {
         self.entry[USE] &= !FACTOR_BIT;
     }
 
-    pub fn drop_series(&mut self) {
-        self.entry[USE] &= !SERIES_BIT;
+    /// What stays of a slot in use. Where nothing does, nobody holds it any more, and its use stays.
+    pub fn keep(&mut self, series: bool, factor: bool) {
+        if !series && !factor {
+            return self.free();
+        }
+        self.entry[USE] = SERIES_BIT * u64::from(series) + FACTOR_BIT * u64::from(factor);
     }
 }
 

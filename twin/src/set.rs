@@ -1,10 +1,10 @@
 //! `set_if` and `set_if_preserve_history`, alike in both limiters.
 
-use crate::room::{Found, Slot, SlotMut, judge, slot, slot_mut, store_reading};
+use crate::parties::Caller;
+use crate::room::{Found, Slot, SlotMut, judge, own_slot, slot, slot_mut, store_reading};
 use crate::rules::{
     Comparator, Kind, Mode, Refusal, SetOutcome, Settings, TOP, judge_rate, refuse_if,
 };
-use crate::shared::series_slot;
 
 /// What a set is asked to do.
 #[derive(Clone, Copy, Debug)]
@@ -45,17 +45,18 @@ impl Wanted {
     }
 }
 
-/// The key's slot, once all is judged that a set is refused for before its comparator is looked at: 1 to 8 and 10.
+/// The key's slot, once all is judged that a set is refused for before its comparator is looked at: 1 to 7, 15, 16, 8 and 10.
 fn judge_set(
     kind: Kind,
     settings: &Settings,
     room: &[u64],
     reading: u64,
+    caller: Caller,
     key: &[u8],
     rate: f64,
     count: u64,
 ) -> Result<Found, Refusal> {
-    let found = judge(kind, settings, room, reading, key)?;
+    let found = judge(kind, settings, room, reading, caller, key)?;
     judge_rate(rate)?;
     refuse_if(count > TOP, 10)?;
     Ok(found)
@@ -67,11 +68,12 @@ pub fn nameless(
     settings: &Settings,
     room: &[u64],
     reading: u64,
+    caller: Caller,
     key: &[u8],
     rate: f64,
     count: u64,
 ) -> Result<SetOutcome, Refusal> {
-    judge_set(kind, settings, room, reading, key, rate, count)?;
+    judge_set(kind, settings, room, reading, caller, key, rate, count)?;
     Err(Refusal(14))
 }
 
@@ -81,17 +83,18 @@ pub fn set(
     settings: &Settings,
     room: &mut [u64],
     reading: u64,
+    caller: Caller,
     key: &[u8],
     wanted: Wanted,
 ) -> Result<SetOutcome, Refusal> {
     let Wanted { rate, count, .. } = wanted;
-    let found = judge_set(kind, settings, room, reading, key, rate, count)?;
+    let found = judge_set(kind, settings, room, reading, caller, key, rate, count)?;
     let limit = settings.limit(kind, wanted.rate);
     let known = found.series(room).map(|at| slot(room, at));
     let live = known.map_or(0, |slot| slot.total() - found.expired.count);
     let mut current = live;
     if !wanted.changes_nothing(known, &found, live, limit) {
-        change(room, &found, key, limit, wanted, live, reading)?;
+        change(room, &found, caller, key, limit, wanted, live, reading)?;
         current = wanted.count;
     }
     store_reading(room, reading);
@@ -102,6 +105,7 @@ pub fn set(
 fn change(
     room: &mut [u64],
     found: &Found,
+    caller: Caller,
     key: &[u8],
     limit: f64,
     wanted: Wanted,
@@ -117,7 +121,8 @@ fn change(
             slot.forget();
         }
         None => {
-            let mut slot = series_slot(room, found.slot, key)?;
+            found.judge_share(caller)?;
+            let mut slot = own_slot(room, found.slot, caller.party, key);
             slot.open(limit);
             slot.add(wanted.count, 0, reading);
             slot.forget();

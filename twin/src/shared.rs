@@ -1,27 +1,11 @@
 //! The calls that both limiters have in common; the room's kind tells limits and soundness.
 
+use crate::parties::{Caller, Held, NOBODY, judge_party, mark};
 use crate::room::{
-    Bucket, Gone, Slot, SlotMut, find, is_room, judge, judge_key, judge_slot, last_reading,
-    scan_slot, slot, slot_mut, slots, store_reading, vacant,
+    Bucket, Gone, Slot, find, holders_mut, is_room, judge, judge_key, judge_room, judge_slot,
+    last_reading, scan_slot, slot, slot_mut, slots, store_reading,
 };
 use crate::rules::{ClockMode, Kind, Refusal, Settings, judge_rate, refuse_if};
-
-/// The slot a new series goes to: the key's own, or the lowest free one, taken.
-pub fn series_slot<'a>(
-    room: &'a mut [u64],
-    own: Option<usize>,
-    key: &[u8],
-) -> Result<SlotMut<'a>, Refusal> {
-    match own {
-        Some(at) => Ok(slot_mut(room, at)),
-        None => {
-            let at = vacant(room)?;
-            let mut slot = slot_mut(room, at);
-            slot.take(key);
-            Ok(slot)
-        }
-    }
-}
 
 /// Setting a rate touches only a known series and gives the old rate back.
 pub fn set_rate_limit(
@@ -29,10 +13,11 @@ pub fn set_rate_limit(
     settings: &Settings,
     room: &mut [u64],
     reading: u64,
+    caller: Caller,
     key: &[u8],
     rate: f64,
 ) -> Result<Option<f64>, Refusal> {
-    let found = judge(kind, settings, room, reading, key)?;
+    let found = judge(kind, settings, room, reading, caller, key)?;
     judge_rate(rate)?;
     let old = found.series(room).map(|at| {
         let mut slot = slot_mut(room, at);
@@ -53,9 +38,10 @@ pub fn delete(
     settings: &Settings,
     room: &mut [u64],
     reading: u64,
+    caller: Caller,
     key: &[u8],
 ) -> Result<Option<u64>, Refusal> {
-    let found = judge(kind, settings, room, reading, key)?;
+    let found = judge(kind, settings, room, reading, caller, key)?;
     let accepted = found.slot.map(|at| {
         let mut slot = slot_mut(room, at);
         let accepted = live_accepted(slot.read(), found.expired);
@@ -73,33 +59,46 @@ fn live_accepted(slot: Slot, expired: Gone) -> u64 {
     (slot.total() - expired.count) - (slot.declined() - expired.declined)
 }
 
-/// Every slot becomes free; lengths only are judged.
-pub fn clear(settings: &Settings, room: &mut [u64], reading: u64) -> Result<(), Refusal> {
-    settings.judge()?;
-    refuse_if(!is_room(room), 5)?;
-    refuse_if(reading < last_reading(room), 6)?;
-    for at in 0..slots(room) {
-        slot_mut(room, at).free();
+/// Every slot that the caller's party holds becomes free; lengths and holders only are judged.
+pub fn clear(
+    settings: &Settings,
+    room: &mut [u64],
+    reading: u64,
+    caller: Caller,
+) -> Result<(), Refusal> {
+    let held = judge_room(settings, room)?;
+    judge_caller(room, reading, caller, held)?;
+    let own = mark(caller.party);
+    for holder in holders_mut(room) {
+        if Some(*holder) == own {
+            *holder = NOBODY;
+        }
     }
     store_reading(room, reading);
     Ok(())
 }
 
-/// Refusals 1 to 6 of a cleanup, which judges every slot in use.
+/// Refusals 6, 15 and 16 of a call without a key.
+fn judge_caller(room: &[u64], reading: u64, caller: Caller, held: Held) -> Result<(), Refusal> {
+    refuse_if(reading < last_reading(room), 6)?;
+    caller.judge(slots(room), held)
+}
+
+/// The refusals of a cleanup, which judges every slot in use.
 pub fn judge_cleanup(
     kind: Kind,
     settings: &Settings,
     room: &[u64],
     reading: u64,
+    caller: Caller,
 ) -> Result<(), Refusal> {
-    settings.judge()?;
-    refuse_if(!is_room(room), 5)?;
+    let shares = judge_room(settings, room)?;
     let last = last_reading(room);
     let sound = (0..slots(room))
         .map(|at| slot(room, at))
         .all(|slot| !slot.in_use() || scan_slot(kind, settings, slot, last, reading).is_some());
     refuse_if(!sound, 5)?;
-    refuse_if(reading < last, 6)
+    judge_caller(room, reading, caller, shares)
 }
 
 /// Whether a series has a newest bucket whose cut age is not over the stale time.
@@ -107,33 +106,33 @@ fn is_fresh(slot: Slot, clock: ClockMode, reading: u64, stale: u64) -> bool {
     slot.newest(0).is_some_and(|newest| clock.whole(reading - newest.time) <= stale)
 }
 
-/// The cleanup of a room that is judged. Any stale time may be asked for: ages are divided, since it may be too great to be multiplied.
+/// The cleanup of a room that is judged, whoever holds its slots. Any stale time may be asked for: ages are divided, since it may be too
+/// great to be multiplied.
 pub fn sweep(clock: ClockMode, room: &mut [u64], reading: u64, stale: u64) {
     for at in 0..slots(room) {
         let mut slot = slot_mut(room, at);
         let stands = slot.read();
-        let drops_series = stands.has_series() && !is_fresh(stands, clock, reading, stale);
-        let drops_factor =
-            stands.has_factor() && clock.whole(reading - stands.factor_time()) >= stale;
-        if drops_series {
-            slot.drop_series();
+        if !stands.in_use() {
+            continue;
         }
-        if drops_factor {
-            slot.forget();
-        }
+        let keeps_series = stands.has_series() && is_fresh(stands, clock, reading, stale);
+        let keeps_factor =
+            stands.has_factor() && clock.whole(reading - stands.factor_time()) < stale;
+        slot.keep(keeps_series, keeps_factor);
     }
     store_reading(room, reading);
 }
 
-/// Drops stale series and stale cached factors.
+/// Drops stale series and stale cached factors, of both parties.
 pub fn cleanup(
     kind: Kind,
     settings: &Settings,
     room: &mut [u64],
     reading: u64,
+    caller: Caller,
     stale: u64,
 ) -> Result<(), Refusal> {
-    judge_cleanup(kind, settings, room, reading)?;
+    judge_cleanup(kind, settings, room, reading, caller)?;
     sweep(settings.clock, room, reading, stale);
     Ok(())
 }
@@ -143,12 +142,14 @@ pub fn read_out(
     kind: Kind,
     settings: &Settings,
     room: &[u64],
+    party: u64,
     key: &[u8],
     row: &mut [Bucket],
 ) -> Result<u64, Refusal> {
     let last = if is_room(room) { last_reading(room) } else { 0 };
-    let found = judge_slot(kind, settings, room, last, key)?;
+    let found = judge_slot(kind, settings, room, last, party, key)?;
     judge_key(key)?;
+    judge_party(party)?;
     let Some(at) = found.series(room) else {
         return Ok(0);
     };
@@ -160,8 +161,8 @@ pub fn read_out(
 }
 
 /// The key's stored total and declined count, zeros for an unknown key.
-pub fn stored(room: &[u64], key: &[u8]) -> (u64, u64) {
-    match find(room, key).map(|at| slot(room, at)) {
+pub fn stored(room: &[u64], party: u64, key: &[u8]) -> (u64, u64) {
+    match find(room, party, key).map(|at| slot(room, at)) {
         Some(slot) if slot.has_series() => (slot.total(), slot.declined()),
         _ => (0, 0),
     }

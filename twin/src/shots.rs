@@ -2,6 +2,7 @@
 
 use crate::gateway::{self, Shot, ShotAnswer, empty_table};
 use crate::lines::{Line, Program, Told, printed};
+use crate::parties::Caller;
 use crate::room::empty_room;
 use crate::rules::{Refusal, Settings};
 
@@ -41,7 +42,7 @@ impl Program for Shots {
         let ShotWish { number, rate, draw } = *wish;
         let Shots { settings, table, room } = self;
         let shot = Shot { controller, number, rate, draw };
-        Ok(match gateway::shot(settings, table, room, reading, shot)? {
+        Ok(match gateway::shot(settings, table, room, reading, Caller::alone(SLOTS), shot)? {
             ShotAnswer::Held => Told::new("held", 0.0),
             ShotAnswer::Decided(decision) => decision.into(),
         })

@@ -1,10 +1,10 @@
 //! The suppressed limiter's calls over its room.
 
-use crate::room::{Found, Gone, SlotMut, crowded, judge, slot, slot_mut, store_reading, vacant};
+use crate::parties::Caller;
+use crate::room::{Found, Gone, SlotMut, crowded, judge, own_slot, slot, slot_mut, store_reading};
 use crate::rules::{
     Decision, Kind, Refusal, Settings, Standing, TOP, Worked, admits, cut, judge_rate, refuse_if,
 };
-use crate::shared::series_slot;
 
 const KIND: Kind = Kind::Suppressed;
 
@@ -96,12 +96,13 @@ pub fn inc(
     settings: &Settings,
     room: &mut [u64],
     reading: u64,
+    caller: Caller,
     key: &[u8],
     rate: f64,
     count: u64,
     draw: u64,
 ) -> Result<Decision, Refusal> {
-    let found = judge(KIND, settings, room, reading, key)?;
+    let found = judge(KIND, settings, room, reading, caller, key)?;
     judge_rate(rate)?;
     refuse_if(draw >= TOP, 9)?;
     let found = found.at_first_look(settings, room, reading);
@@ -109,15 +110,13 @@ pub fn inc(
         Some(at) => crowded(slot(room, at), found.expired, settings, reading, count)?,
         None => refuse_if(count > TOP, 10)?,
     }
-    if found.slot.is_none() {
-        vacant(room)?;
-    }
+    found.judge_share(caller)?;
     let limit = settings.limit(KIND, rate);
     let stands = standing(settings, room, &found, reading, limit);
     let last_second = || last_second(settings, room, &found, reading);
     let outcome = decide(settings, &stands, last_second, count, draw);
     let is_new = found.series(room).is_none();
-    let mut slot = series_slot(room, found.slot, key)?;
+    let mut slot = own_slot(room, found.slot, caller.party, key);
     if is_new {
         slot.open(limit);
     }
@@ -152,9 +151,10 @@ pub fn get(
     settings: &Settings,
     room: &mut [u64],
     reading: u64,
+    caller: Caller,
     key: &[u8],
 ) -> Result<Snapshot, Refusal> {
-    let found = judge(KIND, settings, room, reading, key)?;
+    let found = judge(KIND, settings, room, reading, caller, key)?;
     let snapshot = match found.series(room) {
         None => Snapshot::default(),
         Some(at) => {
@@ -172,13 +172,16 @@ pub fn get_suppression_factor(
     settings: &Settings,
     room: &mut [u64],
     reading: u64,
+    caller: Caller,
     key: &[u8],
 ) -> Result<f64, Refusal> {
-    let found = judge(KIND, settings, room, reading, key)?.at_first_look(settings, room, reading);
+    let judged = judge(KIND, settings, room, reading, caller, key)?;
+    let found = judged.at_first_look(settings, room, reading);
+    found.judge_share(caller)?;
     let factor = match found.slot {
         Some(at) => factor_of(settings, room, &found, at, reading),
         None => {
-            series_slot(room, None, key)?.cache(0.0, reading);
+            own_slot(room, None, caller.party, key).cache(0.0, reading);
             0.0
         }
     };

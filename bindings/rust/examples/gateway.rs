@@ -1,7 +1,8 @@
 //! A gateway admits a controller's shots: 3 in a second. A shot that is told no waits as long as it was told, and asks
 //! again. After that twenty shots go to the suppressed limiter, whose factor rises between its two limits; the draws
-//! come from a small generator. Then shots are numbered, and every other answer is lost on its way back.
-use frostaxle::{Decision, Gateway, Provider, Refusal, Room, Settings, Shot, Table};
+//! come from a small generator. Then shots are numbered, and every other answer is lost on its way back. At last the lock
+//! keepers come into the survey's room.
+use frostaxle::{Absolute, Decision, Gateway, Party, Promises, Provider, Refusal, Room, Settings, Shot, Table};
 use std::thread;
 use std::time::{Duration, Instant};
 
@@ -64,6 +65,25 @@ fn send_numbered(gateway: &mut Gateway, clock: &Clock, draws: &mut Draws, number
     Ok(())
 }
 
+/// Of 3 slots 2 are promised to the survey, the first party, and 1 to the lock keepers: neither takes the other's.
+fn two_parties(settings: Settings, clock: &Clock) -> Result<(), Refusal> {
+    let promises = Promises { first: 2, second: 1 };
+    let mut limiter = Absolute::new(settings, Room::new(3, 128)?).promises(promises);
+    for gate in [b"gate1", b"gate2"] {
+        let name = String::from_utf8_lossy(gate);
+        match limiter.party(Party::Second).inc(clock.reading(), gate, 3.0, 1) {
+            Err(refusal) => println!("the lock keepers' {name}: {refusal}"),
+            Ok(decision) => println!("the lock keepers' {name}: {decision:?}"),
+        }
+    }
+    // the same name under the other party is another key
+    let decision = limiter.inc(clock.reading(), b"gate1", 3.0, 1)?;
+    limiter.party(Party::Second).clear(clock.reading())?;
+    let total = limiter.get(clock.reading(), b"gate1")?;
+    println!("the survey's gate1: {decision:?}, and after the lock keepers' clear {total} counted");
+    Ok(())
+}
+
 fn main() -> Result<(), Refusal> {
     let settings = Settings { window_seconds: 1, cache_millis: 10, hard_limit_factor: 2.0, ..Settings::default() };
     let mut gateway = Provider::new(settings, Room::new(8, 128)?, Room::new(8, 128)?);
@@ -95,5 +115,5 @@ fn main() -> Result<(), Refusal> {
     }
     let counted = gateway.suppressed().get(clock.reading(), CONTROLLER)?;
     println!("in the last second: {} counted, {} of them turned away", counted.total, counted.total_declined);
-    Ok(())
+    two_parties(settings, &clock)
 }

@@ -17,6 +17,7 @@ extern "C" {
         clock: u64,
         room: *const u64,
         room_len: usize,
+        party: u64,
         key: *const u8,
         key_len: usize,
         at: usize,
@@ -31,6 +32,7 @@ extern "C" {
         clock: u64,
         room: *const u64,
         room_len: usize,
+        party: u64,
         key: *const u8,
         key_len: usize,
         at: usize,
@@ -48,6 +50,11 @@ extern "C" {
         suppressed: *mut u64,
         suppressed_len: usize,
         reading: u64,
+        party: u64,
+        absolute_first: u64,
+        absolute_second: u64,
+        suppressed_first: u64,
+        suppressed_second: u64,
         stale: u64,
         row: *mut Row,
     ) -> u64;
@@ -65,6 +72,9 @@ extern "C" {
         room: *mut u64,
         room_len: usize,
         reading: u64,
+        party: u64,
+        first: u64,
+        second: u64,
         controller: *const u8,
         controller_len: usize,
         number: u64,
@@ -76,7 +86,7 @@ extern "C" {
     pub fn frostaxle_gateway_new_season(table: *mut u64, table_len: usize, row: *mut Row) -> u64;
 }
 
-/// Declares faces that differ only in what follows the settings, the room, the reading and perhaps the key.
+/// Declares faces that differ only in what follows the settings, the room, the reading and the caller.
 macro_rules! faces {
     ($($name:ident($($own:ident: $type:ty),*);)*) => {
         #[link(name = "abi", kind = "static")]
@@ -90,6 +100,9 @@ macro_rules! faces {
                 room: *mut u64,
                 room_len: usize,
                 reading: u64,
+                party: u64,
+                first: u64,
+                second: u64,
                 $($own: $type,)*
                 row: *mut Row,
             ) -> u64;)*
@@ -122,25 +135,33 @@ faces! {
 mod tests {
     use super::*;
 
+    /// An empty room of one slot, with a ring of one bucket.
+    fn made() -> [u64; 83] {
+        let mut room = [7; 83];
+        // SAFETY: the pointer and the length are those of a live slice.
+        assert_eq!(unsafe { frostaxle_make(room.as_mut_ptr(), room.len(), 1, 1) }, 0);
+        room
+    }
+
     /// Numbers that name nothing are 14 where nothing is refused that can be judged without them, and the room stays. The safe
     /// types cannot say them.
     #[test]
     fn no_call() {
-        let mut room = [0_u64; 19];
-        // SAFETY: the pointer and the length are those of a live slice.
-        assert_eq!(unsafe { frostaxle_make(room.as_mut_ptr(), room.len(), 1, 1) }, 0);
+        let mut room = made();
         let made = room;
         let mut row = [9_u64; 5];
         let name = [0_u8; 40];
         let many = u64::MAX;
         let calls = [
-            (10, 1, 1.0, 1, 14),
-            (10, 1, 1.0, many, 10),
-            (10, 1, 0.0, many, 8),
-            (10, 40, 0.0, many, 7),
-            (0, 40, 0.0, many, 1),
+            (10, 1, 1, 1, 1.0, 1, 14),
+            (10, 1, 1, 1, 1.0, many, 10),
+            (10, 1, 1, 1, 0.0, many, 8),
+            (10, 1, 1, 2, 0.0, many, 16),
+            (10, 1, 3, 2, 0.0, many, 15),
+            (10, 40, 3, 2, 0.0, many, 7),
+            (0, 40, 3, 2, 0.0, many, 1),
         ];
-        for (window, key_len, rate, count, lowest) in calls {
+        for (window, key_len, party, first, rate, count, refusal) in calls {
             for (comparator, preservation) in [(5, 0), (u64::MAX, 1), (0, 2), (4, u64::MAX)] {
                 // SAFETY: the pointers and lengths are those of live slices that do not overlap.
                 let number = unsafe {
@@ -153,6 +174,9 @@ mod tests {
                         room.as_mut_ptr(),
                         room.len(),
                         0,
+                        party,
+                        first,
+                        0,
                         name.as_ptr(),
                         key_len,
                         rate,
@@ -163,7 +187,7 @@ mod tests {
                         &mut row,
                     )
                 };
-                assert_eq!((number, row, room), (lowest, [lowest, 0, 0, 0, 0], made));
+                assert_eq!((number, row, room), (refusal, [refusal, 0, 0, 0, 0], made));
             }
             // SAFETY: as above.
             let number = unsafe {
@@ -176,6 +200,9 @@ mod tests {
                     room.as_mut_ptr(),
                     room.len(),
                     0,
+                    party,
+                    first,
+                    0,
                     name.as_ptr(),
                     key_len,
                     rate,
@@ -185,7 +212,7 @@ mod tests {
                     &mut row,
                 )
             };
-            assert_eq!((number, row, room), (lowest, [lowest, 0, 0, 0, 0], made));
+            assert_eq!((number, row, room), (refusal, [refusal, 0, 0, 0, 0], made));
         }
     }
 
@@ -193,30 +220,104 @@ mod tests {
     #[test]
     fn clocks() {
         for (clock, live) in [(0, 0), (1, 3), (2, 3), (u64::MAX, 3)] {
-            let mut room = [0_u64; 19];
+            let mut room = made();
             let (at, len) = (room.as_mut_ptr(), room.len());
             let key = b"ctl7";
             let mut row = [9_u64; 5];
             // SAFETY: the pointers and lengths are those of live slices that do not overlap.
             unsafe {
-                frostaxle_make(at, len, 1, 1);
-                frostaxle_absolute_inc(10, 100, 100, 1.0, clock, at, len, 0, key.as_ptr(), 4, 1.0, 3, &mut row);
+                frostaxle_absolute_inc(
+                    10,
+                    100,
+                    100,
+                    1.0,
+                    clock,
+                    at,
+                    len,
+                    0,
+                    1,
+                    1,
+                    0,
+                    key.as_ptr(),
+                    4,
+                    1.0,
+                    3,
+                    &mut row,
+                );
                 assert_eq!(row, [0, 1, 0, 0, 0]);
                 // just past the window in milliseconds, and far from its end in nanoseconds
-                frostaxle_absolute_get(10, 100, 100, 1.0, clock, at, len, 10_001, key.as_ptr(), 4, &mut row);
+                frostaxle_absolute_get(10, 100, 100, 1.0, clock, at, len, 10_001, 1, 1, 0, key.as_ptr(), 4, &mut row);
             }
             assert_eq!(row, [0, 1, live, 0, 0]);
         }
     }
 
-    /// Words become an empty table where they are 387, whatever they held; others stay.
+    /// A party other than 1 and 2 is 15, before 16 and 8, and the words stay. The safe types cannot say one.
+    #[test]
+    fn no_party() {
+        let (mut room, mut table, key) = (made(), [0_u64; 451], b"ctl7".as_ptr());
+        let made = (room, table);
+        for party in [0, 3, 128, u64::MAX] {
+            let mut rows = [[9_u64; 5]; 5];
+            let [inc, clear, cleanup, bucket, shot] = &mut rows;
+            let (at, len) = (room.as_mut_ptr(), room.len());
+            let (table_at, table_len) = (table.as_mut_ptr(), table.len());
+            // SAFETY: the pointers and lengths are those of live slices that do not overlap.
+            unsafe {
+                frostaxle_suppressed_inc(10, 100, 100, 1.0, 0, at, len, 0, party, 2, 0, key, 4, 0.0, 1, 0, inc);
+                frostaxle_suppressed_clear(10, 100, 100, 1.0, 0, at, len, 0, party, 2, 0, clear);
+                frostaxle_suppressed_cleanup(10, 100, 100, 1.0, 0, at, len, 0, party, 2, 0, 0, cleanup);
+                frostaxle_suppressed_bucket(10, 100, 100, 1.0, 0, at, len, party, key, 4, 0, bucket);
+                frostaxle_gateway_shot(
+                    10, 100, 100, 1.0, 0, table_at, table_len, at, len, 0, party, 2, 0, key, 4, 1, 0.0, 0, shot,
+                );
+            }
+            assert_eq!((rows, (room, table)), ([[15, 0, 0, 0, 0]; 5], made));
+        }
+    }
+
+    /// The same of both rooms at once.
+    #[test]
+    fn no_party_of_both() {
+        let (mut absolute, mut suppressed) = (made(), made());
+        let mut row = [9_u64; 5];
+        // SAFETY: the pointers and lengths are those of live slices that do not overlap.
+        let mut cleanup = |party: u64, first: u64, second: u64| unsafe {
+            let (one, other) = (absolute.as_mut_ptr(), suppressed.as_mut_ptr());
+            frostaxle_provider_cleanup(
+                10, 100, 100, 1.0, 0, one, 83, other, 83, 0, party, first, 0, second, 0, 0, &mut row,
+            )
+        };
+        assert_eq!([cleanup(3, 2, 1), cleanup(0, 1, 2), cleanup(3, 1, 1)], [15, 15, 15]);
+        assert_eq!([cleanup(1, 2, 1), cleanup(2, 1, 2), cleanup(2, 1, 1)], [16, 16, 0]);
+    }
+
+    /// A key that is too long goes before the party, and a shot's number before all.
+    #[test]
+    fn before_the_party() {
+        let (mut room, mut table, name) = (made(), [0_u64; 451], [0_u8; 40]);
+        let (at, len) = (room.as_mut_ptr(), room.len());
+        let (table_at, table_len, key) = (table.as_mut_ptr(), table.len(), name.as_ptr());
+        let mut rows = [[9_u64; 5]; 2];
+        let [bucket, shot] = &mut rows;
+        // SAFETY: the pointers and lengths are those of live slices that do not overlap.
+        unsafe {
+            frostaxle_absolute_bucket(10, 100, 100, 1.0, 0, at, len, 3, key, 40, 0, bucket);
+            frostaxle_gateway_shot(
+                10, 100, 100, 1.0, 0, table_at, table_len, at, len, 0, 3, 2, 0, key, 40, 0, 1.0, 0, shot,
+            );
+        }
+        assert_eq!(rows, [[7, 0, 0, 0, 0], [19, 0, 0, 0, 0]]);
+    }
+
+    /// Words become an empty table where they are 451, whatever they held; others stay.
     #[test]
     fn tables() {
-        for len in [0, 1, 386, 387, 388] {
+        for len in [0, 1, 387, 450, 451, 452] {
             let mut words = vec![7_u64; len];
             // SAFETY: the pointer and the length are those of a live slice.
             let number = unsafe { frostaxle_gateway_make_table(words.as_mut_ptr(), words.len()) };
-            let (expected, word) = if len == 387 { (0, 0) } else { (5, 7) };
+            let (expected, word) = if len == 451 { (0, 0) } else { (5, 7) };
             assert_eq!((number, words), (expected, vec![word; len]));
         }
     }

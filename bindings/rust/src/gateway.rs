@@ -1,10 +1,12 @@
-//! A gateway over a table and a suppressed limiter's room that it owns.
+//! A gateway over a table and a suppressed limiter's room that it owns, or that are lent to it.
 use crate::answer::{self, Shot};
 use crate::clock::Reading;
 use crate::faces::{self, Row};
 use crate::limiters::{Settings, Suppressed};
+use crate::parties::{Party, Promises};
 use crate::refusal::Refusal;
 use crate::room::{Room, Table};
+use std::borrow::BorrowMut;
 
 /// Knows a controller's shots by their numbers, in front of a suppressed limiter. A controller numbers its shots from 1
 /// upwards; one that hears nothing sends the same shot again under the same number:
@@ -20,20 +22,46 @@ use crate::room::{Room, Table};
 /// assert_eq!(gateway.suppressed().get(700, b"ctl7")?.total, 1);
 /// # Ok::<(), frostaxle::Refusal>(())
 /// ```
+///
+/// Of two parties each has its shots counted under keys of its own. The table knows a controller by its bytes alone: where
+/// both parties may have a controller of the same name, or more than 64 together, let each have a table.
+///
+/// ```
+/// use frostaxle::{Gateway, Party, Promises, Room, Settings, Shot, Table};
+///
+/// let promises = Promises { first: 6, second: 2 };
+/// let mut gateway = Gateway::new(Settings::default(), Table::new(), Room::new(8, 128)?).promises(promises);
+/// assert_eq!(gateway.shot(0, b"boat7", 1, 1.5, 0)?, Shot::Allowed);
+/// assert_eq!(gateway.party(Party::Second).shot(0, b"gate1", 1, 1.5, 0)?, Shot::Allowed);
+/// assert_eq!(gateway.party(Party::Second).suppressed().get(0, b"gate1")?.total, 1);
+/// assert_eq!(gateway.suppressed().get(0, b"gate1")?.total, 0);
+/// # Ok::<(), frostaxle::Refusal>(())
+/// ```
 #[derive(Clone, Debug)]
-pub struct Gateway {
-    table: Table,
-    suppressed: Suppressed,
+pub struct Gateway<T = Table, R = Room> {
+    table: T,
+    suppressed: Suppressed<R>,
 }
 
-impl Gateway {
-    /// A gateway over a table and a room. Settings, table and room are judged by each shot.
-    pub fn new(settings: Settings, table: Table, room: Room) -> Gateway {
+impl<T: BorrowMut<Table>, R: BorrowMut<Room>> Gateway<T, R> {
+    /// A gateway over a table and a room, of one party, the first, that is promised every slot. Settings, table and room are
+    /// judged by each shot.
+    pub fn new(settings: Settings, table: T, room: R) -> Self {
         Gateway { table, suppressed: Suppressed::new(settings, room) }
     }
 
+    /// The same with these promises, which are given with each shot.
+    pub fn promises(self, promises: Promises) -> Self {
+        Gateway { suppressed: self.suppressed.promises(promises), ..self }
+    }
+
+    /// This gateway for shots of this party, over the same table and room and with the same promises.
+    pub fn party(&mut self, party: Party) -> Gateway<&mut Table, &mut Room> {
+        Gateway { table: self.table.borrow_mut(), suppressed: self.suppressed.party(party) }
+    }
+
     pub fn table(&self) -> &Table {
-        &self.table
+        self.table.borrow()
     }
 
     pub fn room(&self) -> &Room {
@@ -41,11 +69,11 @@ impl Gateway {
     }
 
     /// The limiter behind the table: none of its calls, cleanup and clear among them, touches what is held.
-    pub fn suppressed(&mut self) -> &mut Suppressed {
+    pub fn suppressed(&mut self) -> &mut Suppressed<R> {
         &mut self.suppressed
     }
 
-    pub fn into_parts(self) -> (Table, Room) {
+    pub fn into_parts(self) -> (T, R) {
         (self.table, self.suppressed.into_room())
     }
 
@@ -85,8 +113,10 @@ impl Gateway {
         rate: f64,
         draw: u64,
     ) -> Result<Shot, Refusal> {
-        let table = self.table.words_mut();
-        let room = self.suppressed.room.words_mut();
+        let caller = self.suppressed.caller;
+        let table: &mut Table = self.table.borrow_mut();
+        let room: &mut Room = self.suppressed.room.borrow_mut();
+        let (table, room) = (table.words_mut(), room.words_mut());
         let mut row: Row = [0; 5];
         // SAFETY: the face is proved to read and write only within the lent lengths, for any words and numbers. Each
         // pointer and length is of a live slice; `table`, `room` and `row` are lent mutably, so nothing overlaps them.
@@ -102,6 +132,9 @@ impl Gateway {
                 room.as_mut_ptr(),
                 room.len(),
                 reading,
+                caller.party.number(),
+                caller.promises.first,
+                caller.promises.second,
                 controller.as_ptr(),
                 controller.len(),
                 number,
@@ -115,7 +148,8 @@ impl Gateway {
 
     /// Empties the table, and leaves the room: every controller may begin at 1 again.
     pub fn new_season(&mut self) -> Result<(), Refusal> {
-        let table = self.table.words_mut();
+        let table: &mut Table = self.table.borrow_mut();
+        let table = table.words_mut();
         let mut row: Row = [0; 5];
         // SAFETY: as in `ask`.
         unsafe { faces::frostaxle_gateway_new_season(table.as_mut_ptr(), table.len(), &mut row) };

@@ -16,6 +16,32 @@
 //! bytes; a longer one is refused. A rate is per second; a key's limit is stored at its first increment or set. Every
 //! call returns: with its answer, or with a [`Refusal`], and then the room is as it was.
 //!
+//! Two parties may share a room. Each is promised a number of its slots, and its keys are its own: the same bytes under the
+//! other party are another key, and a clear forgets the caller's alone. While the [`Promises`] stay the same, nothing that
+//! one [`Party`] does alters a decision, a total or a refusal of a slot of the other; they share cleanups and the clock.
+//! Unless it is said, a call is the first party's, which is promised every slot.
+//!
+//! ```
+//! use frostaxle::{Absolute, Decision, Party, Promises, Refusal, Room, Settings};
+//!
+//! // of 8 slots the survey, the first party, is promised 6, and the lock keepers 2
+//! let promises = Promises { first: 6, second: 2 };
+//! let mut survey = Absolute::new(Settings::default(), Room::new(8, 128)?).promises(promises);
+//! assert_eq!(survey.inc(0, b"gate1", 1.5, 1)?, Decision::Allowed);
+//!
+//! let mut locks = survey.party(Party::Second);
+//! assert_eq!(locks.get(0, b"gate1")?, 0);
+//! locks.inc(0, b"gate1", 1.5, 7)?;
+//! locks.inc(0, b"gate2", 1.5, 1)?;
+//! // it holds as many as it is promised, and the others are not its own
+//! assert_eq!(locks.inc(0, b"gate3", 1.5, 1), Err(Refusal::NoFreeSlot));
+//! locks.clear(0)?;
+//! assert_eq!(locks.get(0, b"gate1")?, 0);
+//!
+//! assert_eq!(survey.get(0, b"gate1")?, 1);
+//! # Ok::<(), frostaxle::Refusal>(())
+//! ```
+//!
 //! A [`Gateway`] knows a controller's shots by their numbers: one that is sent again because its answer was lost is not
 //! admitted twice.
 //!
@@ -33,6 +59,7 @@ mod clock;
 mod faces;
 mod gateway;
 mod limiters;
+mod parties;
 mod refusal;
 mod room;
 
@@ -40,5 +67,6 @@ pub use answer::{Bucket, Comparator, Decision, Preservation, SetOutcome, Shot, S
 pub use clock::{ClockMode, Reading};
 pub use gateway::Gateway;
 pub use limiters::{Absolute, Provider, Settings, Suppressed};
+pub use parties::{Party, Promises};
 pub use refusal::Refusal;
 pub use room::{Room, Table};

@@ -1,9 +1,11 @@
-//! The limiters over rooms that they own.
+//! The limiters over rooms that they own, or that are lent to them.
 use crate::answer::{self, Bucket, Comparator, Decision, Preservation, SetOutcome, Snapshot};
 use crate::clock::{ClockMode, Reading};
 use crate::faces::{self, Row};
+use crate::parties::{Caller, Party, Promises};
 use crate::refusal::Refusal;
 use crate::room::Room;
+use std::borrow::BorrowMut;
 
 /// A room's settings: the same for its whole life.
 #[derive(Clone, Copy, Debug, PartialEq)]
@@ -39,13 +41,14 @@ impl Default for Settings {
     }
 }
 
-/// Calls a face with the settings and the room of `$self` and a reading, and gives the answer row. A reading that is too
-/// large is refused at once.
+/// Calls a face with the settings, the room and the caller of `$self` and a reading, and gives the answer row. A reading that
+/// is too large is refused at once.
 macro_rules! call {
     ($self:ident, $face:ident, $reading:expr $(, $own:expr)*) => {{
-        let settings = $self.settings;
+        let (settings, caller) = ($self.settings, $self.caller);
         let reading = Reading::ticks($reading.into(), settings.clock_mode)?;
-        let room = $self.room.words_mut();
+        let room: &mut Room = $self.room.borrow_mut();
+        let room = room.words_mut();
         let mut row: Row = [0; 5];
         // SAFETY: the face is proved to read and write only within the lent lengths, for any words and numbers. Each
         // pointer and length is of a live slice; `room` and `row` are lent mutably, so nothing overlaps them.
@@ -59,6 +62,9 @@ macro_rules! call {
                 room.as_mut_ptr(),
                 room.len(),
                 reading,
+                caller.party.number(),
+                caller.promises.first,
+                caller.promises.second,
                 $($own,)*
                 &mut row,
             )
@@ -70,17 +76,30 @@ macro_rules! call {
 /// The calls that both limiters have, under their faces' names.
 macro_rules! shared {
     ($limiter:ident, $set_rate_limit:ident, $delete:ident, $clear:ident, $set_if:ident, $preserve:ident, $cleanup:ident, $bucket:ident) => {
-        impl $limiter {
-            /// A limiter over a room. Settings and room are judged by each call.
-            pub fn new(settings: Settings, room: Room) -> Self {
-                $limiter { settings, room }
+        impl<R: BorrowMut<Room>> $limiter<R> {
+            /// A limiter over a room, of one party, the first, that is promised every slot. Settings and room are judged by
+            /// each call.
+            pub fn new(settings: Settings, room: R) -> Self {
+                let caller = Caller::alone(room.borrow().slots());
+                $limiter { settings, room, caller }
+            }
+
+            /// The same with these promises, which are given with each call: keep them for the room's whole life.
+            pub fn promises(self, promises: Promises) -> Self {
+                $limiter { caller: Caller { promises, ..self.caller }, ..self }
+            }
+
+            /// This limiter for calls of this party, over the same room and with the same promises.
+            pub fn party(&mut self, party: Party) -> $limiter<&mut Room> {
+                let caller = Caller { party, ..self.caller };
+                $limiter { settings: self.settings, room: self.room.borrow_mut(), caller }
             }
 
             pub fn room(&self) -> &Room {
-                &self.room
+                self.room.borrow()
             }
 
-            pub fn into_room(self) -> Room {
+            pub fn into_room(self) -> R {
                 self.room
             }
 
@@ -95,7 +114,7 @@ macro_rules! shared {
 
             fn bucket(&self, key: &[u8], at: usize) -> Result<Option<Bucket>, Refusal> {
                 let settings = self.settings;
-                let room = self.room.words();
+                let room = self.room().words();
                 let mut row: Row = [0; 5];
                 // SAFETY: as in `call`; the room is only read.
                 unsafe {
@@ -107,6 +126,7 @@ macro_rules! shared {
                         settings.clock_mode.number(),
                         room.as_ptr(),
                         room.len(),
+                        self.caller.party.number(),
                         key.as_ptr(),
                         key.len(),
                         at,
@@ -132,7 +152,7 @@ macro_rules! shared {
                 answer::known(call!(self, $delete, reading, key.as_ptr(), key.len()))
             }
 
-            /// Forgets every key.
+            /// Forgets every key of the caller's party; the other party's stay.
             pub fn clear(&mut self, reading: impl Into<Reading>) -> Result<(), Refusal> {
                 answer::values(call!(self, $clear, reading)).map(|_| ())
             }
@@ -175,7 +195,8 @@ macro_rules! shared {
                 ))
             }
 
-            /// Forgets keys without a bucket, or whose newest one is older than `stale` milliseconds.
+            /// Forgets keys without a bucket, or whose newest one is older than `stale` milliseconds: of both parties, whichever
+            /// calls.
             pub fn cleanup(&mut self, reading: impl Into<Reading>, stale: u64) -> Result<(), Refusal> {
                 answer::values(call!(self, $cleanup, reading, stale)).map(|_| ())
             }
@@ -183,14 +204,15 @@ macro_rules! shared {
     };
 }
 
-/// Lets a key through while its total is below its limit, rate * window.
+/// Lets a key through while its total is below its limit, rate * window. `R` is a [`Room`] of its own, or a lent `&mut Room`.
 #[derive(Clone, Debug)]
-pub struct Absolute {
+pub struct Absolute<R = Room> {
     settings: Settings,
-    room: Room,
+    room: R,
+    caller: Caller,
 }
 
-impl Absolute {
+impl<R: BorrowMut<Room>> Absolute<R> {
     /// Counts `count` for a key, where it is allowed.
     pub fn inc(&mut self, reading: impl Into<Reading>, key: &[u8], rate: f64, count: u64) -> Result<Decision, Refusal> {
         answer::decision(call!(self, frostaxle_absolute_inc, reading, key.as_ptr(), key.len(), rate, count))
@@ -219,14 +241,16 @@ shared!(
     frostaxle_absolute_bucket
 );
 
-/// Lets a share of calls through between a soft limit, rate * window, and a hard one.
+/// Lets a share of calls through between a soft limit, rate * window, and a hard one. `R` is a [`Room`] of its own, or a
+/// lent `&mut Room`.
 #[derive(Clone, Debug)]
-pub struct Suppressed {
+pub struct Suppressed<R = Room> {
     pub(crate) settings: Settings,
-    pub(crate) room: Room,
+    pub(crate) room: R,
+    pub(crate) caller: Caller,
 }
 
-impl Suppressed {
+impl<R: BorrowMut<Room>> Suppressed<R> {
     /// Counts, and decides by the forecast and `draw`, evenly drawn from 0 to 2^53 - 1.
     pub fn inc(
         &mut self,
@@ -275,6 +299,11 @@ impl Provider {
         Provider { absolute: Absolute::new(settings, absolute), suppressed: Suppressed::new(settings, suppressed) }
     }
 
+    /// The same with these promises of each room, which are given with each call.
+    pub fn promises(self, absolute: Promises, suppressed: Promises) -> Provider {
+        Provider { absolute: self.absolute.promises(absolute), suppressed: self.suppressed.promises(suppressed) }
+    }
+
     pub fn absolute(&mut self) -> &mut Absolute {
         &mut self.absolute
     }
@@ -283,9 +312,11 @@ impl Provider {
         &mut self.suppressed
     }
 
-    /// Cleans both rooms or neither.
+    /// Cleans both rooms or neither, whichever party's the keys are. A refusal is the first, in their order, that either room
+    /// meets.
     pub fn cleanup(&mut self, reading: impl Into<Reading>, stale: u64) -> Result<(), Refusal> {
-        let settings = self.absolute.settings;
+        let (settings, party) = (self.absolute.settings, self.absolute.caller.party);
+        let (of_absolute, of_suppressed) = (self.absolute.caller.promises, self.suppressed.caller.promises);
         let reading = reading.into().ticks(settings.clock_mode)?;
         let absolute = self.absolute.room.words_mut();
         let suppressed = self.suppressed.room.words_mut();
@@ -303,6 +334,11 @@ impl Provider {
                 suppressed.as_mut_ptr(),
                 suppressed.len(),
                 reading,
+                party.number(),
+                of_absolute.first,
+                of_absolute.second,
+                of_suppressed.first,
+                of_suppressed.second,
                 stale,
                 &mut row,
             )

@@ -2,7 +2,9 @@
 use std::error::Error;
 use std::fmt;
 
-/// Why a call was turned away. A refused call leaves the room, and a gateway's table, as they were.
+/// Why a call was turned away. A refused call leaves the room, and a gateway's table, as they were. Of several the first is
+/// told, in the order of their numbers; but [`BadParty`](Refusal::BadParty) and [`BadPromise`](Refusal::BadPromise) go
+/// between [`LongKey`](Refusal::LongKey) and [`BadRate`](Refusal::BadRate), and those of a shot's number before all.
 ///
 /// No call is refused with 13, and its number is not used again: it was a factor worked out at perceived rate zero, which
 /// is 0 now.
@@ -13,15 +15,23 @@ pub enum Refusal {
     BadBucket,
     BadCache,
     BadFactor,
+    /// The lengths of the room or the table are wrong; or the slot of the key is damaged (at a cleanup, any slot in use); or
+    /// any slot in use is neither party's, which every call looks for, clear and the read-out too.
     BadRoom,
     ClockWentBack,
     LongKey,
     BadRate,
     BadDraw,
     TotalTooLarge,
+    /// A slot is needed, and the party already holds as many as it is promised. Others may be free: they are promised to
+    /// the other party, or to none. A party that is promised every slot meets this where all are in use.
     NoFreeSlot,
     RingFull,
     NoCall,
+    /// A party other than the two, which [`Party`](crate::Party) cannot say.
+    BadParty,
+    /// The promises together pass the room's slots, or either party holds more slots than it is promised.
+    BadPromise,
     BadNumber,
     OldNumber,
     TableFull,
@@ -33,7 +43,7 @@ pub enum Refusal {
 }
 
 impl Refusal {
-    const NAMED: [Refusal; 16] = [
+    const NAMED: [Refusal; 18] = [
         Refusal::BadWindow,
         Refusal::BadBucket,
         Refusal::BadCache,
@@ -47,6 +57,8 @@ impl Refusal {
         Refusal::NoFreeSlot,
         Refusal::RingFull,
         Refusal::NoCall,
+        Refusal::BadParty,
+        Refusal::BadPromise,
         Refusal::BadNumber,
         Refusal::OldNumber,
         Refusal::TableFull,
@@ -72,6 +84,8 @@ impl Refusal {
             Refusal::NoFreeSlot => 11,
             Refusal::RingFull => 12,
             Refusal::NoCall => 14,
+            Refusal::BadParty => 15,
+            Refusal::BadPromise => 16,
             Refusal::BadNumber => 19,
             Refusal::OldNumber => 20,
             Refusal::TableFull => 21,
@@ -86,15 +100,21 @@ impl Refusal {
             Refusal::BadBucket => "the bucket is not 1 to 4294967296 milliseconds",
             Refusal::BadCache => "the cache period is not 1 to 4294967296 milliseconds",
             Refusal::BadFactor => "the hard limit factor is not a finite number of at least 1",
-            Refusal::BadRoom => "the lengths of the room or the table are wrong, or what it has of the key is damaged",
+            Refusal::BadRoom => {
+                "the lengths of room or table are wrong, its words of the key are damaged, or a slot is neither party's"
+            }
             Refusal::ClockWentBack => "the reading is below that of an earlier call",
             Refusal::LongKey => "the key is longer than 32 bytes",
             Refusal::BadRate => "the rate is not a finite number of at least 2^-900 per second",
             Refusal::BadDraw => "the draw is over 2^53 - 1",
             Refusal::TotalTooLarge => "the key's total would pass 2^53",
-            Refusal::NoFreeSlot => "every slot of the room is in use",
+            Refusal::NoFreeSlot => "a slot is needed, and the party holds as many as it is promised",
             Refusal::RingFull => "the key's ring of buckets is full",
             Refusal::NoCall => "a number that stands for no comparator or preservation",
+            Refusal::BadParty => "the party is neither 1 nor 2",
+            Refusal::BadPromise => {
+                "the promises together pass the room's slots, or a party holds more than it is promised"
+            }
             Refusal::BadNumber => "the shot's number is not 1 to 2^32 - 1",
             Refusal::OldNumber => "the shot's number is below the last admitted of its controller",
             Refusal::TableFull => "the controller is not in the table, which has 64",
@@ -121,13 +141,13 @@ mod tests {
 
     #[test]
     fn numbers_and_words() {
-        for number in (1..=12).chain([14]).chain(19..=21) {
+        for number in (1..=12).chain(14..=16).chain(19..=21) {
             let refusal = Refusal::of(number);
             assert_ne!(refusal, Refusal::Other(number));
             assert_eq!(refusal.number(), number);
             assert!(refusal.to_string().ends_with(&format!("(refusal {number})")));
         }
-        for number in (15..=18).chain([0, 13, 22]) {
+        for number in [0, 13, 17, 18, 22] {
             assert_eq!(Refusal::of(number), Refusal::Other(number));
         }
         assert_eq!(Refusal::ReadingTooLarge.number(), 0);

@@ -26,15 +26,15 @@ macro_rules! words {
     };
 }
 
-/// Everything that one limiter knows, in plain words without pointers: it may be copied, stored and read back, by the version that
-/// wrote it (where `docs/CHANGES.md` says that words moved, an old room may be read as something else).
+/// Everything that one limiter knows, of one party or of two, in plain words without pointers: it may be copied, stored and read
+/// back, by the version that wrote it (where `docs/CHANGES.md` says that words moved, an old room may be read as something else).
 #[derive(Clone, Debug, PartialEq, Eq)]
 pub struct Room {
     words: Box<[u64]>,
 }
 
 impl Room {
-    /// How many words a room of 1 to 64 slots with rings of 1 to 512 buckets has: 3 + slots * (6 + 7 + 3 * ring).
+    /// How many words a room of 1 to 64 slots with rings of 1 to 512 buckets has: 67 + slots * (6 + 7 + 3 * ring).
     pub fn words_for(slots: u64, ring: u64) -> Option<usize> {
         // SAFETY: takes and gives numbers.
         match unsafe { faces::frostaxle_room_words(slots, ring) } {
@@ -53,12 +53,18 @@ impl Room {
             number => Err(Refusal::of(number)),
         }
     }
+
+    /// What its first word says, 0 without one: of damaged words any number, which calls refuse.
+    pub(crate) fn slots(&self) -> u64 {
+        self.words.first().copied().unwrap_or(0)
+    }
 }
 
 words!(Room);
 
 /// The last admitted shot number of up to 64 controllers, in plain words: it may be copied, stored and read back as a
-/// [`Room`] may. Only shots of a [`Gateway`](crate::Gateway) write numbers into it, and only a new season takes them out.
+/// [`Room`] may. Only shots of a [`Gateway`](crate::Gateway) write numbers into it, and only a new season takes them out. It
+/// knows a controller by its bytes alone, whichever party sends the shot.
 #[derive(Clone, Debug, PartialEq, Eq)]
 pub struct Table {
     words: Box<[u64]>,
@@ -66,7 +72,7 @@ pub struct Table {
 
 impl Table {
     /// How many words a table has.
-    pub const WORDS: usize = 387;
+    pub const WORDS: usize = 451;
 
     /// An empty table: it knows no controller.
     pub fn new() -> Table {

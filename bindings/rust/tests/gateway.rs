@@ -4,6 +4,9 @@ use frostaxle::{Comparator, Gateway, Refusal, Room, Settings, Shot, Table};
 const CONTROLLER: &[u8] = b"ctl7";
 const MOST: u64 = (1 << 32) - 1;
 
+/// Where a table's entries begin, six words each.
+const ENTRIES: usize = 67;
+
 /// One shot in 10 s soft, two hard.
 const RATE: f64 = 0.1;
 
@@ -55,7 +58,7 @@ fn damaged(words: &[u64], at: usize, word: u64) -> Table {
 fn an_empty_table() {
     assert_eq!(Table::new().words(), [0; Table::WORDS]);
     assert_eq!(Table::default(), Table::new());
-    assert_eq!(Table::from_words(vec![0; 387]).into_words(), Table::new().into_words());
+    assert_eq!(Table::from_words(vec![0; 451]).into_words(), Table::new().into_words());
 }
 
 #[test]
@@ -65,9 +68,11 @@ fn the_words_of_a_table() {
     gateway.shot(0, &[b'b'; 32], MOST, RATE, 0).unwrap();
     let words = gateway.into_parts().0.into_words();
     assert_eq!(words[..3], [2, 0, 0]);
-    assert_eq!(words[3..9], [7, 1, u64::from(b'a'), 0, 0, 0]);
-    assert_eq!(words[9..11], [MOST, 32]);
-    assert!(words[15..].iter().all(|&word| word == 0));
+    // nobody holds an entry
+    assert_eq!(words[3..ENTRIES], [0; 64]);
+    assert_eq!(words[ENTRIES..][..6], [7, 1, u64::from(b'a'), 0, 0, 0]);
+    assert_eq!(words[ENTRIES + 6..][..2], [MOST, 32]);
+    assert!(words[ENTRIES + 12..].iter().all(|&word| word == 0));
 }
 
 #[test]
@@ -244,7 +249,7 @@ fn damaged_tables() {
     let words = table.into_words();
     let mut tables = vec![
         Table::from_words(vec![]),
-        Table::from_words(words[..386].to_vec()),
+        Table::from_words(words[..450].to_vec()),
         Table::from_words([&words[..], &[0]].concat()),
     ];
     // too many controllers; a room's ring, or its reading
@@ -268,9 +273,10 @@ fn damaged_tables() {
 fn damaged_entries() {
     let (table, room) = with(3).into_parts();
     let words = table.into_words();
-    let twice = [&words[..3], &words[3..9], &words[3..9], &words[15..]].concat();
+    let (header, entries) = words.split_at(ENTRIES);
+    let twice = [header, &entries[..6], &entries[..6], &entries[12..]].concat();
     // no number; one that is too large; the key standing twice
-    for table in [damaged(&words, 3, 0), damaged(&words, 3, MOST + 1), Table::from_words(twice)] {
+    for table in [damaged(&words, ENTRIES, 0), damaged(&words, ENTRIES, MOST + 1), Table::from_words(twice)] {
         let mut gateway = over(table, room.clone());
         refuses(&mut gateway, 0, &key(0), 5, RATE, 0, Refusal::BadRoom);
         refuses(&mut gateway, 0, &key(0), 4, RATE, 0, Refusal::BadRoom);

@@ -8,6 +8,8 @@ use Rattle.answers.specs.Rows.{refusedRow, doneRow, setRow, shotRow, numberOf}
 use Rattle.common.specs.declared.units.RateLimit.{RateLimit}
 use Rattle.settings.specs.declared.Settings.{Settings}
 use Rattle.room.specs.Room.{lengthOf, fits}
+use Rattle.parties.specs.declared.Caller.{Caller}
+use Rattle.parties.specs.Parties.{Sent}
 use Rattle.rules.specs.declared.RoomKind.{RoomKind}
 use Rattle.judge.specs.Verdict.{Verdict}
 use Rattle.provider.specs.Provider as Provider
@@ -35,6 +37,11 @@ pub record Faced {W : Type 0} (f : Face W) (n : ℕ) (a : List ℕ) (w : W) : Ty
   pub answer : a ≡ f .row
   pub left : w ≡ f .words
 
+-- ---- who calls, by plain numbers
+
+abbrev pub callerOf : ℕ → ℕ → ℕ → Caller
+callerOf party first second = record { party = party; first = first; second = second }
+
 -- ---- verdicts as faces show them
 
 abbrev pub shown : {A : Type 0} → (A → List ℕ) → Verdict A → Face (List ℕ)
@@ -47,7 +54,7 @@ abbrev pub shownGateway : Gateway.Verdict → Face (List ℕ × List ℕ)
 shownGateway v = face (shotRow (v .answer)) (v .table, v .room)
 
 -- a set whose numbers name a comparator and a mode; else it is no call, is judged without them, and every word stays
-unfoldable pub shownSet : RoomKind → Settings → List ℕ → ℕ → List ℕ → RateLimit → Comparison → ℕ → Mode → Face (List ℕ)
+unfoldable pub shownSet : RoomKind → Settings → List ℕ → ℕ → Sent → RateLimit → Comparison → ℕ → Mode → Face (List ℕ)
 shownSet kind s w t key rate (compared.Named c) count (chosen.Named m) = shown setRow (Set.set kind s w t key rate c count m)
 shownSet kind s w t key rate (compared.Named c) count chosen.Unnamed = face (refusedRow (Unnamed.refusal kind s w t key rate count)) w
 shownSet kind s w t key rate compared.Unnamed count m = face (refusedRow (Unnamed.refusal kind s w t key rate count)) w

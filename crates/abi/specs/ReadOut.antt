@@ -13,6 +13,7 @@ use Rattle.settings.specs.declared.Settings.{Settings}
 use Rattle.ring.specs.declared.Bucket.{Bucket}
 use Rattle.ring.specs.Ring.{noBucket, buckets}
 use Rattle.room.specs.Room.{slotsOf, ringOf, useOf, bodyOf}
+use Rattle.parties.specs.Parties.{Sent}
 use Rattle.rules.specs.declared.RoomKind.{RoomKind}
 use Rattle.opened.specs.Sound.{hasSeries, addressed}
 use Rattle.finding.specs.declared.Found.{Found}
@@ -27,12 +28,12 @@ cellRow b = row 0 1 (b .count) (b .declined) (b .time)
 abbrev pub placeRow : List Bucket → ℕ → List ℕ
 placeRow xs i = cond (ltb i (length xs)) (cellRow (getD xs i noBucket)) (row 0 2 0 0 0)
 
-unfoldable pub bucketRow : RoomKind → Settings → List ℕ → List ℕ → ℕ → List ℕ
+unfoldable pub bucketRow : RoomKind → Settings → List ℕ → Sent → ℕ → List ℕ
 bucketRow kind s w key i = cond (eqb (refusal kind s w key) 0) (placeRow (bucketsOf w key) i) (refusedRow (refusal kind s w key))
 
 -- ---- what the code has found, turned into what the definition says
 
-module _ (kind : RoomKind) (s : Settings) (w key : List ℕ) (x : Found) (is : x ≡ found kind s w key) where
+module _ (kind : RoomKind) (s : Settings) (w : List ℕ) (key : Sent) (x : Found) (is : x ≡ found kind s w key) where
   code-is : x .code ≡ refusal kind s w key
   unfolding found
   code-is = ap (λ (y : Found). y .code) is

@@ -6,12 +6,14 @@ ghost use lib.Dec.{eqb};
 ghost use lib.ListN.{length};
 ghost use Rattle.answers.specs.Rows.{refusedRow, decisionRow, totalRow, snapshotRow, factorRow, oldRateRow, deleteRow, doneRow};
 ghost use Rattle.room.specs.Room.{fits, empty};
+ghost use Rattle.parties.specs.Parties.{sent};
 ghost use Rattle.rules.specs.declared.RoomKind.the-variants.{Absolute, Suppressed};
 ghost use Rattle.clearing.specs.Clear as Clear;
 ghost use Rattle.calls.specs.Delete as Delete;
 ghost use Rattle.calls.specs.Rate.{setRateLimit};
 ghost use Rattle.unnamed_set.specs.Unnamed as Unnamed;
 ghost use Rattle.cleanup.specs.Cleanup as Cleanup;
+ghost use Rattle.finding.specs.Finding.{asked};
 ghost use Rattle.absolute_verdicts.specs.Calls as AbsoluteCalls;
 ghost use Rattle.suppressed_verdicts.specs.Calls as SuppressedCalls;
 ghost use Rattle.provider.specs.Provider as Provider;
@@ -19,12 +21,13 @@ ghost use Rattle.table.specs.Table.{tableWords, emptyTable};
 ghost use Rattle.gateway.specs.Gateway as Gateway;
 ghost use Rattle.rows.specs.Plain.{Given};
 ghost use Rattle.inputs.specs.Inputs.{settings, rated, comparisonOf, replacing, preserving};
-ghost use Rattle.abi.specs.Faces.{Faced, shown, shownBoth, shownGateway, shownSet, roomWords, makeNumber};
+ghost use Rattle.abi.specs.Faces.{Faced, callerOf, shown, shownBoth, shownGateway, shownSet, roomWords, makeNumber};
 ghost use Rattle.abi.specs.ReadOut.{bucketRow};
 use answers::HistoryUpdateMode;
 use common::RateLimit;
 use inputs::Comparison;
 use inputs::Mode;
+use parties::Caller;
 use rules::RoomKind;
 use settings::Settings;
 
@@ -67,21 +70,42 @@ pub extern "C" fn frostaxle_make(room: &mut [u64], slots: u64, ring: u64) -> u64
     WRONG_LENGTHS
 }
 
+// Who calls, by the numbers that a face is given.
+fn caller_of(party: u64, first: u64, second: u64) -> Caller
+    ensures { λ x. ⌜ x ≡ callerOf party first second ⌝ }
+{
+    Caller {
+        party,
+        first,
+        second,
+    }
+}
+
 // A set whose numbers name no comparator or no mode.
 fn unnamed(
     kind: RoomKind,
     settings: Settings,
     room: &[u64],
     reading: u64,
+    caller: Caller,
     key: &[u8],
     rate: f64,
     count: u64,
     row: &mut [u64; 5],
 ) -> u64
-    ensures { λ n. ⌜ Given (refusedRow (Unnamed.refusal kind settings (now (room .entry)) reading (now (key .entry)) (rated rate) count)) n
+    ensures { λ n. ⌜ Given (refusedRow (Unnamed.refusal kind settings (now (room .entry)) reading (sent caller (now (key .entry))) (rated rate) count)) n
         (now (row .exit)) ⌝ }
 {
-    let number = unnamed_set::refusal(kind, settings, room, reading, key, RateLimit(rate), count);
+    let number = unnamed_set::refusal(
+        kind,
+        settings,
+        room,
+        reading,
+        caller,
+        key,
+        RateLimit(rate),
+        count,
+    );
     rows::give(rows::refused_row(number), row)
 }
 
@@ -91,6 +115,7 @@ fn set(
     settings: Settings,
     room: &mut [u64],
     reading: u64,
+    caller: Caller,
     key: &[u8],
     rate: f64,
     count: u64,
@@ -98,20 +123,21 @@ fn set(
     mode: Mode,
     row: &mut [u64; 5],
 ) -> u64
-    ensures { λ n. ⌜ Faced (shownSet kind settings (now (room .entry)) reading (now (key .entry)) (rated rate) comparison count mode) n (now (row .exit))
-        (now (room .exit)) ⌝ }
+    ensures { λ n. ⌜ Faced (shownSet kind settings (now (room .entry)) reading (sent caller (now (key .entry))) (rated rate) comparison count mode) n
+        (now (row .exit)) (now (room .exit)) ⌝ }
 {
     let Comparison::Named(c) = comparison else {
-        return unnamed(kind, settings, room, reading, key, rate, count, row);
+        return unnamed(kind, settings, room, reading, caller, key, rate, count, row);
     };
     let Mode::Named(m) = mode else {
-        return unnamed(kind, settings, room, reading, key, rate, count, row);
+        return unnamed(kind, settings, room, reading, caller, key, rate, count, row);
     };
     let answer = calls::set(
         kind,
         settings,
         room,
         reading,
+        caller,
         key,
         RateLimit(rate),
         c,
@@ -133,17 +159,20 @@ pub extern "C" fn frostaxle_absolute_inc(
     clock: u64,
     room: &mut [u64],
     reading: u64,
+    party: u64,
+    first: u64,
+    second: u64,
     key: &[u8],
     rate: f64,
     count: u64,
     row: &mut [u64; 5],
 ) -> u64
-    ensures { λ n. ⌜ Faced (shown decisionRow
-        (AbsoluteCalls.inc (settings window bucket cache factor clock) (now (room .entry)) reading (now (key .entry)) (rated rate) count)) n (now (row .exit))
-        (now (room .exit)) ⌝ }
+    ensures { λ n. ⌜ Faced (shown decisionRow (AbsoluteCalls.inc (settings window bucket cache factor clock) (now (room .entry)) reading
+        (sent (callerOf party first second) (now (key .entry))) (rated rate) count)) n (now (row .exit)) (now (room .exit)) ⌝ }
 {
     let settings = inputs::settings(window, bucket, cache, factor, clock);
-    let answer = absolute::inc(settings, room, reading, key, RateLimit(rate), count);
+    let caller = caller_of(party, first, second);
+    let answer = absolute::inc(settings, room, reading, caller, key, RateLimit(rate), count);
     rows::give(rows::decision_row(answer), row)
 }
 
@@ -157,15 +186,18 @@ pub extern "C" fn frostaxle_absolute_is_allowed(
     clock: u64,
     room: &mut [u64],
     reading: u64,
+    party: u64,
+    first: u64,
+    second: u64,
     key: &[u8],
     row: &mut [u64; 5],
 ) -> u64
-    ensures { λ n. ⌜ Faced (shown decisionRow
-        (AbsoluteCalls.isAllowed (settings window bucket cache factor clock) (now (room .entry)) reading (now (key .entry)))) n (now (row .exit))
-        (now (room .exit)) ⌝ }
+    ensures { λ n. ⌜ Faced (shown decisionRow (AbsoluteCalls.isAllowed (settings window bucket cache factor clock) (now (room .entry)) reading
+        (sent (callerOf party first second) (now (key .entry))))) n (now (row .exit)) (now (room .exit)) ⌝ }
 {
     let settings = inputs::settings(window, bucket, cache, factor, clock);
-    let answer = absolute::is_allowed(settings, room, reading, key);
+    let caller = caller_of(party, first, second);
+    let answer = absolute::is_allowed(settings, room, reading, caller, key);
     rows::give(rows::decision_row(answer), row)
 }
 
@@ -179,14 +211,18 @@ pub extern "C" fn frostaxle_absolute_get(
     clock: u64,
     room: &mut [u64],
     reading: u64,
+    party: u64,
+    first: u64,
+    second: u64,
     key: &[u8],
     row: &mut [u64; 5],
 ) -> u64
-    ensures { λ n. ⌜ Faced (shown totalRow (AbsoluteCalls.get (settings window bucket cache factor clock) (now (room .entry)) reading (now (key .entry)))) n
-        (now (row .exit)) (now (room .exit)) ⌝ }
+    ensures { λ n. ⌜ Faced (shown totalRow (AbsoluteCalls.get (settings window bucket cache factor clock) (now (room .entry)) reading
+        (sent (callerOf party first second) (now (key .entry))))) n (now (row .exit)) (now (room .exit)) ⌝ }
 {
     let settings = inputs::settings(window, bucket, cache, factor, clock);
-    let answer = absolute::get(settings, room, reading, key);
+    let caller = caller_of(party, first, second);
+    let answer = absolute::get(settings, room, reading, caller, key);
     rows::give(rows::total_row(answer), row)
 }
 
@@ -199,15 +235,19 @@ pub extern "C" fn frostaxle_absolute_set_rate_limit(
     clock: u64,
     room: &mut [u64],
     reading: u64,
+    party: u64,
+    first: u64,
+    second: u64,
     key: &[u8],
     rate: f64,
     row: &mut [u64; 5],
 ) -> u64
-    ensures { λ n. ⌜ Faced (shown oldRateRow (setRateLimit Absolute (settings window bucket cache factor clock) (now (room .entry)) reading (now (key .entry))
-        (rated rate))) n (now (row .exit)) (now (room .exit)) ⌝ }
+    ensures { λ n. ⌜ Faced (shown oldRateRow (setRateLimit Absolute (settings window bucket cache factor clock) (now (room .entry)) reading
+        (sent (callerOf party first second) (now (key .entry))) (rated rate))) n (now (row .exit)) (now (room .exit)) ⌝ }
 {
     let settings = inputs::settings(window, bucket, cache, factor, clock);
-    let answer = absolute::set_rate_limit(settings, room, reading, key, RateLimit(rate));
+    let caller = caller_of(party, first, second);
+    let answer = absolute::set_rate_limit(settings, room, reading, caller, key, RateLimit(rate));
     rows::give(rows::old_rate_row(answer), row)
 }
 
@@ -220,14 +260,18 @@ pub extern "C" fn frostaxle_absolute_delete(
     clock: u64,
     room: &mut [u64],
     reading: u64,
+    party: u64,
+    first: u64,
+    second: u64,
     key: &[u8],
     row: &mut [u64; 5],
 ) -> u64
     ensures { λ n. ⌜ Faced (shown deleteRow (Delete.delete Absolute (settings window bucket cache factor clock) (now (room .entry)) reading
-        (now (key .entry)))) n (now (row .exit)) (now (room .exit)) ⌝ }
+        (sent (callerOf party first second) (now (key .entry))))) n (now (row .exit)) (now (room .exit)) ⌝ }
 {
     let settings = inputs::settings(window, bucket, cache, factor, clock);
-    let answer = absolute::delete(settings, room, reading, key);
+    let caller = caller_of(party, first, second);
+    let answer = absolute::delete(settings, room, reading, caller, key);
     rows::give(rows::delete_row(answer), row)
 }
 
@@ -240,13 +284,17 @@ pub extern "C" fn frostaxle_absolute_clear(
     clock: u64,
     room: &mut [u64],
     reading: u64,
+    party: u64,
+    first: u64,
+    second: u64,
     row: &mut [u64; 5],
 ) -> u64
-    ensures { λ n. ⌜ Faced (shown doneRow (Clear.clear (settings window bucket cache factor clock) (now (room .entry)) reading)) n (now (row .exit))
-        (now (room .exit)) ⌝ }
+    ensures { λ n. ⌜ Faced (shown doneRow (Clear.clear (settings window bucket cache factor clock) (now (room .entry)) reading (callerOf party first second)))
+        n (now (row .exit)) (now (room .exit)) ⌝ }
 {
     let settings = inputs::settings(window, bucket, cache, factor, clock);
-    let answer = absolute::clear(settings, room, reading);
+    let caller = caller_of(party, first, second);
+    let answer = absolute::clear(settings, room, reading, caller);
     rows::give(rows::done_row(answer), row)
 }
 
@@ -259,6 +307,9 @@ pub extern "C" fn frostaxle_absolute_set_if(
     clock: u64,
     room: &mut [u64],
     reading: u64,
+    party: u64,
+    first: u64,
+    second: u64,
     key: &[u8],
     rate: f64,
     count: u64,
@@ -266,8 +317,8 @@ pub extern "C" fn frostaxle_absolute_set_if(
     operand: u64,
     row: &mut [u64; 5],
 ) -> u64
-    ensures { λ n. ⌜ Faced (shownSet Absolute (settings window bucket cache factor clock) (now (room .entry)) reading (now (key .entry)) (rated rate)
-        (comparisonOf comparator operand) count replacing) n (now (row .exit)) (now (room .exit)) ⌝ }
+    ensures { λ n. ⌜ Faced (shownSet Absolute (settings window bucket cache factor clock) (now (room .entry)) reading (sent (callerOf party first second)
+        (now (key .entry))) (rated rate) (comparisonOf comparator operand) count replacing) n (now (row .exit)) (now (room .exit)) ⌝ }
 {
     let settings = inputs::settings(window, bucket, cache, factor, clock);
     let comparison = inputs::comparison_of(comparator, operand);
@@ -277,6 +328,7 @@ pub extern "C" fn frostaxle_absolute_set_if(
         settings,
         room,
         reading,
+        caller_of(party, first, second),
         key,
         rate,
         count,
@@ -295,6 +347,9 @@ pub extern "C" fn frostaxle_absolute_set_if_preserve_history(
     clock: u64,
     room: &mut [u64],
     reading: u64,
+    party: u64,
+    first: u64,
+    second: u64,
     key: &[u8],
     rate: f64,
     count: u64,
@@ -303,8 +358,8 @@ pub extern "C" fn frostaxle_absolute_set_if_preserve_history(
     preservation: u64,
     row: &mut [u64; 5],
 ) -> u64
-    ensures { λ n. ⌜ Faced (shownSet Absolute (settings window bucket cache factor clock) (now (room .entry)) reading (now (key .entry)) (rated rate)
-        (comparisonOf comparator operand) count (preserving preservation)) n (now (row .exit)) (now (room .exit)) ⌝ }
+    ensures { λ n. ⌜ Faced (shownSet Absolute (settings window bucket cache factor clock) (now (room .entry)) reading (sent (callerOf party first second)
+        (now (key .entry))) (rated rate) (comparisonOf comparator operand) count (preserving preservation)) n (now (row .exit)) (now (room .exit)) ⌝ }
 {
     let settings = inputs::settings(window, bucket, cache, factor, clock);
     let comparison = inputs::comparison_of(comparator, operand);
@@ -314,6 +369,7 @@ pub extern "C" fn frostaxle_absolute_set_if_preserve_history(
         settings,
         room,
         reading,
+        caller_of(party, first, second),
         key,
         rate,
         count,
@@ -333,14 +389,18 @@ pub extern "C" fn frostaxle_absolute_cleanup(
     clock: u64,
     room: &mut [u64],
     reading: u64,
+    party: u64,
+    first: u64,
+    second: u64,
     stale: u64,
     row: &mut [u64; 5],
 ) -> u64
-    ensures { λ n. ⌜ Faced (shown doneRow (Cleanup.cleanup Absolute (settings window bucket cache factor clock) (now (room .entry)) reading stale)) n
-        (now (row .exit)) (now (room .exit)) ⌝ }
+    ensures { λ n. ⌜ Faced (shown doneRow (Cleanup.cleanup Absolute (settings window bucket cache factor clock) (now (room .entry)) reading
+        (callerOf party first second) stale)) n (now (row .exit)) (now (room .exit)) ⌝ }
 {
     let settings = inputs::settings(window, bucket, cache, factor, clock);
-    let answer = absolute::cleanup(settings, room, reading, stale);
+    let caller = caller_of(party, first, second);
+    let answer = absolute::cleanup(settings, room, reading, caller, stale);
     rows::give(rows::done_row(answer), row)
 }
 
@@ -356,18 +416,30 @@ pub extern "C" fn frostaxle_suppressed_inc(
     clock: u64,
     room: &mut [u64],
     reading: u64,
+    party: u64,
+    first: u64,
+    second: u64,
     key: &[u8],
     rate: f64,
     count: u64,
     draw: u64,
     row: &mut [u64; 5],
 ) -> u64
-    ensures { λ n. ⌜ Faced (shown decisionRow
-        (SuppressedCalls.inc (settings window bucket cache factor clock) (now (room .entry)) reading (now (key .entry)) (rated rate) count draw)) n
-        (now (row .exit)) (now (room .exit)) ⌝ }
+    ensures { λ n. ⌜ Faced (shown decisionRow (SuppressedCalls.inc (settings window bucket cache factor clock) (now (room .entry)) reading
+        (sent (callerOf party first second) (now (key .entry))) (rated rate) count draw)) n (now (row .exit)) (now (room .exit)) ⌝ }
 {
     let settings = inputs::settings(window, bucket, cache, factor, clock);
-    let answer = suppressed::inc(settings, room, reading, key, RateLimit(rate), count, draw);
+    let caller = caller_of(party, first, second);
+    let answer = suppressed::inc(
+        settings,
+        room,
+        reading,
+        caller,
+        key,
+        RateLimit(rate),
+        count,
+        draw,
+    );
     rows::give(rows::decision_row(answer), row)
 }
 
@@ -381,14 +453,18 @@ pub extern "C" fn frostaxle_suppressed_get(
     clock: u64,
     room: &mut [u64],
     reading: u64,
+    party: u64,
+    first: u64,
+    second: u64,
     key: &[u8],
     row: &mut [u64; 5],
 ) -> u64
     ensures { λ n. ⌜ Faced (shown snapshotRow (SuppressedCalls.get (settings window bucket cache factor clock) (now (room .entry)) reading
-        (now (key .entry)))) n (now (row .exit)) (now (room .exit)) ⌝ }
+        (sent (callerOf party first second) (now (key .entry))))) n (now (row .exit)) (now (room .exit)) ⌝ }
 {
     let settings = inputs::settings(window, bucket, cache, factor, clock);
-    let answer = suppressed::get(settings, room, reading, key);
+    let caller = caller_of(party, first, second);
+    let answer = suppressed::get(settings, room, reading, caller, key);
     rows::give(rows::snapshot_row(answer), row)
 }
 
@@ -402,14 +478,18 @@ pub extern "C" fn frostaxle_suppressed_get_suppression_factor(
     clock: u64,
     room: &mut [u64],
     reading: u64,
+    party: u64,
+    first: u64,
+    second: u64,
     key: &[u8],
     row: &mut [u64; 5],
 ) -> u64
     ensures { λ n. ⌜ Faced (shown factorRow (SuppressedCalls.getFactor (settings window bucket cache factor clock) (now (room .entry)) reading
-        (now (key .entry)))) n (now (row .exit)) (now (room .exit)) ⌝ }
+        (sent (callerOf party first second) (now (key .entry))))) n (now (row .exit)) (now (room .exit)) ⌝ }
 {
     let settings = inputs::settings(window, bucket, cache, factor, clock);
-    let answer = suppressed::get_suppression_factor(settings, room, reading, key);
+    let caller = caller_of(party, first, second);
+    let answer = suppressed::get_suppression_factor(settings, room, reading, caller, key);
     rows::give(rows::factor_row(answer), row)
 }
 
@@ -422,15 +502,19 @@ pub extern "C" fn frostaxle_suppressed_set_rate_limit(
     clock: u64,
     room: &mut [u64],
     reading: u64,
+    party: u64,
+    first: u64,
+    second: u64,
     key: &[u8],
     rate: f64,
     row: &mut [u64; 5],
 ) -> u64
-    ensures { λ n. ⌜ Faced (shown oldRateRow (setRateLimit Suppressed (settings window bucket cache factor clock) (now (room .entry)) reading (now (key .entry))
-        (rated rate))) n (now (row .exit)) (now (room .exit)) ⌝ }
+    ensures { λ n. ⌜ Faced (shown oldRateRow (setRateLimit Suppressed (settings window bucket cache factor clock) (now (room .entry)) reading
+        (sent (callerOf party first second) (now (key .entry))) (rated rate))) n (now (row .exit)) (now (room .exit)) ⌝ }
 {
     let settings = inputs::settings(window, bucket, cache, factor, clock);
-    let answer = suppressed::set_rate_limit(settings, room, reading, key, RateLimit(rate));
+    let caller = caller_of(party, first, second);
+    let answer = suppressed::set_rate_limit(settings, room, reading, caller, key, RateLimit(rate));
     rows::give(rows::old_rate_row(answer), row)
 }
 
@@ -443,14 +527,18 @@ pub extern "C" fn frostaxle_suppressed_delete(
     clock: u64,
     room: &mut [u64],
     reading: u64,
+    party: u64,
+    first: u64,
+    second: u64,
     key: &[u8],
     row: &mut [u64; 5],
 ) -> u64
     ensures { λ n. ⌜ Faced (shown deleteRow (Delete.delete Suppressed (settings window bucket cache factor clock) (now (room .entry)) reading
-        (now (key .entry)))) n (now (row .exit)) (now (room .exit)) ⌝ }
+        (sent (callerOf party first second) (now (key .entry))))) n (now (row .exit)) (now (room .exit)) ⌝ }
 {
     let settings = inputs::settings(window, bucket, cache, factor, clock);
-    let answer = suppressed::delete(settings, room, reading, key);
+    let caller = caller_of(party, first, second);
+    let answer = suppressed::delete(settings, room, reading, caller, key);
     rows::give(rows::delete_row(answer), row)
 }
 
@@ -463,13 +551,17 @@ pub extern "C" fn frostaxle_suppressed_clear(
     clock: u64,
     room: &mut [u64],
     reading: u64,
+    party: u64,
+    first: u64,
+    second: u64,
     row: &mut [u64; 5],
 ) -> u64
-    ensures { λ n. ⌜ Faced (shown doneRow (Clear.clear (settings window bucket cache factor clock) (now (room .entry)) reading)) n (now (row .exit))
-        (now (room .exit)) ⌝ }
+    ensures { λ n. ⌜ Faced (shown doneRow (Clear.clear (settings window bucket cache factor clock) (now (room .entry)) reading (callerOf party first second)))
+        n (now (row .exit)) (now (room .exit)) ⌝ }
 {
     let settings = inputs::settings(window, bucket, cache, factor, clock);
-    let answer = suppressed::clear(settings, room, reading);
+    let caller = caller_of(party, first, second);
+    let answer = suppressed::clear(settings, room, reading, caller);
     rows::give(rows::done_row(answer), row)
 }
 
@@ -482,6 +574,9 @@ pub extern "C" fn frostaxle_suppressed_set_if(
     clock: u64,
     room: &mut [u64],
     reading: u64,
+    party: u64,
+    first: u64,
+    second: u64,
     key: &[u8],
     rate: f64,
     count: u64,
@@ -489,8 +584,8 @@ pub extern "C" fn frostaxle_suppressed_set_if(
     operand: u64,
     row: &mut [u64; 5],
 ) -> u64
-    ensures { λ n. ⌜ Faced (shownSet Suppressed (settings window bucket cache factor clock) (now (room .entry)) reading (now (key .entry)) (rated rate)
-        (comparisonOf comparator operand) count replacing) n (now (row .exit)) (now (room .exit)) ⌝ }
+    ensures { λ n. ⌜ Faced (shownSet Suppressed (settings window bucket cache factor clock) (now (room .entry)) reading (sent (callerOf party first second)
+        (now (key .entry))) (rated rate) (comparisonOf comparator operand) count replacing) n (now (row .exit)) (now (room .exit)) ⌝ }
 {
     let settings = inputs::settings(window, bucket, cache, factor, clock);
     let comparison = inputs::comparison_of(comparator, operand);
@@ -500,6 +595,7 @@ pub extern "C" fn frostaxle_suppressed_set_if(
         settings,
         room,
         reading,
+        caller_of(party, first, second),
         key,
         rate,
         count,
@@ -518,6 +614,9 @@ pub extern "C" fn frostaxle_suppressed_set_if_preserve_history(
     clock: u64,
     room: &mut [u64],
     reading: u64,
+    party: u64,
+    first: u64,
+    second: u64,
     key: &[u8],
     rate: f64,
     count: u64,
@@ -526,8 +625,8 @@ pub extern "C" fn frostaxle_suppressed_set_if_preserve_history(
     preservation: u64,
     row: &mut [u64; 5],
 ) -> u64
-    ensures { λ n. ⌜ Faced (shownSet Suppressed (settings window bucket cache factor clock) (now (room .entry)) reading (now (key .entry)) (rated rate)
-        (comparisonOf comparator operand) count (preserving preservation)) n (now (row .exit)) (now (room .exit)) ⌝ }
+    ensures { λ n. ⌜ Faced (shownSet Suppressed (settings window bucket cache factor clock) (now (room .entry)) reading (sent (callerOf party first second)
+        (now (key .entry))) (rated rate) (comparisonOf comparator operand) count (preserving preservation)) n (now (row .exit)) (now (room .exit)) ⌝ }
 {
     let settings = inputs::settings(window, bucket, cache, factor, clock);
     let comparison = inputs::comparison_of(comparator, operand);
@@ -537,6 +636,7 @@ pub extern "C" fn frostaxle_suppressed_set_if_preserve_history(
         settings,
         room,
         reading,
+        caller_of(party, first, second),
         key,
         rate,
         count,
@@ -556,14 +656,18 @@ pub extern "C" fn frostaxle_suppressed_cleanup(
     clock: u64,
     room: &mut [u64],
     reading: u64,
+    party: u64,
+    first: u64,
+    second: u64,
     stale: u64,
     row: &mut [u64; 5],
 ) -> u64
-    ensures { λ n. ⌜ Faced (shown doneRow (Cleanup.cleanup Suppressed (settings window bucket cache factor clock) (now (room .entry)) reading stale)) n
-        (now (row .exit)) (now (room .exit)) ⌝ }
+    ensures { λ n. ⌜ Faced (shown doneRow (Cleanup.cleanup Suppressed (settings window bucket cache factor clock) (now (room .entry)) reading
+        (callerOf party first second) stale)) n (now (row .exit)) (now (room .exit)) ⌝ }
 {
     let settings = inputs::settings(window, bucket, cache, factor, clock);
-    let answer = suppressed::cleanup(settings, room, reading, stale);
+    let caller = caller_of(party, first, second);
+    let answer = suppressed::cleanup(settings, room, reading, caller, stale);
     rows::give(rows::done_row(answer), row)
 }
 
@@ -580,14 +684,22 @@ pub extern "C" fn frostaxle_provider_cleanup(
     absolute: &mut [u64],
     suppressed: &mut [u64],
     reading: u64,
+    party: u64,
+    absolute_first: u64,
+    absolute_second: u64,
+    suppressed_first: u64,
+    suppressed_second: u64,
     stale: u64,
     row: &mut [u64; 5],
 ) -> u64
-    ensures { λ n. ⌜ Faced (shownBoth (Provider.cleanup (settings window bucket cache factor clock) (now (absolute .entry))
-        (now (suppressed .entry)) reading stale)) n (now (row .exit)) (now (absolute .exit), now (suppressed .exit)) ⌝ }
+    ensures { λ n. ⌜ Faced (shownBoth (Provider.cleanup (settings window bucket cache factor clock) (now (absolute .entry)) (now (suppressed .entry)) reading
+        (callerOf party «absolute_first» «absolute_second») (callerOf party «suppressed_first» «suppressed_second») stale)) n (now (row .exit))
+        (now (absolute .exit), now (suppressed .exit)) ⌝ }
 {
     let settings = inputs::settings(window, bucket, cache, factor, clock);
-    let answer = provider::cleanup(settings, absolute, suppressed, reading, stale);
+    let one = caller_of(party, absolute_first, absolute_second);
+    let other = caller_of(party, suppressed_first, suppressed_second);
+    let answer = provider::cleanup(settings, absolute, suppressed, reading, one, other, stale);
     rows::give(rows::done_row(answer), row)
 }
 
@@ -616,6 +728,9 @@ pub extern "C" fn frostaxle_gateway_shot(
     table: &mut [u64],
     room: &mut [u64],
     reading: u64,
+    party: u64,
+    first: u64,
+    second: u64,
     controller: &[u8],
     number: u64,
     rate: f64,
@@ -623,11 +738,12 @@ pub extern "C" fn frostaxle_gateway_shot(
     row: &mut [u64; 5],
 ) -> u64
     ensures { λ n. ⌜ Faced (shownGateway (Gateway.shot (settings window bucket cache factor clock) (now (table .entry)) (now (room .entry)) reading
-        (now (controller .entry)) number (rated rate) draw)) n (now (row .exit)) (now (table .exit), now (room .exit)) ⌝ }
+        (sent (callerOf party first second) (now (controller .entry))) number (rated rate) draw)) n (now (row .exit)) (now (table .exit), now (room .exit)) ⌝ }
 {
     let s = inputs::settings(window, bucket, cache, factor, clock);
-    let rated = RateLimit(rate);
-    let answer = gateway::shot(s, table, room, reading, controller, number, rated, draw);
+    let who = caller_of(party, first, second);
+    let rate = RateLimit(rate);
+    let answer = gateway::shot(s, table, room, reading, who, controller, number, rate, draw);
     rows::give(rows::shot_row(answer), row)
 }
 
@@ -643,10 +759,17 @@ pub extern "C" fn frostaxle_gateway_new_season(table: &mut [u64], row: &mut [u64
 // ---- the read-out
 
 // Bucket `at` of a key, from the oldest.
-fn bucket_row(kind: RoomKind, settings: Settings, room: &[u64], key: &[u8], at: usize) -> [u64; 5]
-    ensures { λ r. ⌜ r ≡ bucketRow kind settings (now (room .entry)) (now (key .entry)) at ⌝ }
+fn bucket_row(
+    kind: RoomKind,
+    settings: Settings,
+    room: &[u64],
+    party: u64,
+    key: &[u8],
+    at: usize,
+) -> [u64; 5]
+    ensures { λ r. ⌜ r ≡ bucketRow kind settings (now (room .entry)) (asked party (now (key .entry))) at ⌝ }
 {
-    let found = finding::find_series(kind, settings, room, key);
+    let found = finding::find_series(kind, settings, room, party, key);
     let code = found.code;
     let slot = found.slot;
     let count = found.count;
@@ -668,14 +791,19 @@ pub extern "C" fn frostaxle_absolute_bucket(
     factor: f64,
     clock: u64,
     room: &[u64],
+    party: u64,
     key: &[u8],
     at: usize,
     row: &mut [u64; 5],
 ) -> u64
-    ensures { λ n. ⌜ Given (bucketRow Absolute (settings window bucket cache factor clock) (now (room .entry)) (now (key .entry)) at) n (now (row .exit)) ⌝ }
+    ensures { λ n. ⌜ Given (bucketRow Absolute (settings window bucket cache factor clock) (now (room .entry)) (asked party (now (key .entry))) at) n
+        (now (row .exit)) ⌝ }
 {
     let settings = inputs::settings(window, bucket, cache, factor, clock);
-    rows::give(bucket_row(RoomKind::Absolute, settings, room, key, at), row)
+    rows::give(
+        bucket_row(RoomKind::Absolute, settings, room, party, key, at),
+        row,
+    )
 }
 
 #[no_mangle]
@@ -686,15 +814,17 @@ pub extern "C" fn frostaxle_suppressed_bucket(
     factor: f64,
     clock: u64,
     room: &[u64],
+    party: u64,
     key: &[u8],
     at: usize,
     row: &mut [u64; 5],
 ) -> u64
-    ensures { λ n. ⌜ Given (bucketRow Suppressed (settings window bucket cache factor clock) (now (room .entry)) (now (key .entry)) at) n (now (row .exit)) ⌝ }
+    ensures { λ n. ⌜ Given (bucketRow Suppressed (settings window bucket cache factor clock) (now (room .entry)) (asked party (now (key .entry))) at) n
+        (now (row .exit)) ⌝ }
 {
     let settings = inputs::settings(window, bucket, cache, factor, clock);
     rows::give(
-        bucket_row(RoomKind::Suppressed, settings, room, key, at),
+        bucket_row(RoomKind::Suppressed, settings, room, party, key, at),
         row,
     )
 }

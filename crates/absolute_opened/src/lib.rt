@@ -78,20 +78,21 @@ fn first_refusal(rated: bool, passes: bool, none: bool, crams: bool) -> u64
     0
 }
 
-// The number of the first of an increment's own refusals, or 0: `may` says whether it is allowed, `out` whether the expired buckets are out.
+// The number of the first of an increment's own refusals, or 0: `none` says whether the party has no slot left, `may` whether the key is allowed,
+// `out` whether the expired buckets are out.
 pub fn late(
     w: &[u64],
     size: u64,
     reading: u64,
     rate: RateLimit,
     count: u64,
-    at: usize,
+    none: bool,
     may: bool,
     out: bool,
     x: Slot,
 ) -> u64
     requires { ⌜ Room (now w) ⌝ }
-    ensures { λ n. ⌜ n ≡ first (incRefusals (ringOf (now (w .entry))) size reading count (rateOk (rate .0)) may (lacksAt (now (w .entry)) at x) out x) ⌝ }
+    ensures { λ n. ⌜ n ≡ first (incRefusals (ringOf (now (w .entry))) size reading count (rateOk (rate .0)) may (lacksAt none x) out x) ⌝ }
 {
     let r = w[layout::RING] as usize;
     let passes = both(may, plan::passes(count, total_if(out, x)));
@@ -99,12 +100,7 @@ pub fn late(
         may,
         plan::is_ring_full(r, size, reading, gone_if(out, x), x),
     );
-    first_refusal(
-        rate.is_in_range(),
-        passes,
-        plan::lacks_slot(w, at, x),
-        crams,
-    )
+    first_refusal(rate.is_in_range(), passes, plan::lacks_slot(none, x), crams)
 }
 
 // What `get` changes: expired buckets go.

@@ -1,6 +1,7 @@
 // What the absolute limiter says of a key without counting: its live total, and whether it is allowed.
 ghost use Rattle.judge.specs.Verdict.{Told};
 ghost use Rattle.rules.specs.declared.RoomKind.the-variants.{Absolute};
+ghost use Rattle.parties.specs.Parties.{sent};
 ghost use Rattle.absolute_verdicts.specs.Calls as Calls;
 use absolute_opened::ask_change;
 use absolute_opened::get_change;
@@ -9,18 +10,26 @@ use absolute_test::decided;
 use absolute_test::evicts;
 use answers::RateLimitDecision;
 use answers::TotalAnswer;
+use parties::Caller;
 use rules::RoomKind;
 use settings::Settings;
 
 // A key's live total.
-pub fn get(settings: Settings, room: &mut [u64], reading: u64, key: &[u8]) -> TotalAnswer
-    ensures { λ r. ⌜ Told (Calls.get settings (now (room .entry)) reading (now (key .entry))) r (now (room .exit)) ⌝ }
+pub fn get(
+    settings: Settings,
+    room: &mut [u64],
+    reading: u64,
+    caller: Caller,
+    key: &[u8],
+) -> TotalAnswer
+    ensures { λ r. ⌜ Told (Calls.get settings (now (room .entry)) reading (sent caller (now (key .entry)))) r (now (room .exit)) ⌝ }
 {
     let j = judge::judge(
         RoomKind::Absolute,
         settings,
         room,
         reading,
+        caller,
         key,
         judge::NO_LOOK,
     );
@@ -31,7 +40,7 @@ pub fn get(settings: Settings, room: &mut [u64], reading: u64, key: &[u8]) -> To
     let x = j.slot;
     let pass = x.pass;
     let join = settings.join_ticks();
-    change::apply(room, x.at, key, join, reading, get_change(x));
+    change::apply(room, x.at, caller, key, join, reading, get_change(x));
     TotalAnswer::Total(pass.live_total)
 }
 
@@ -40,15 +49,17 @@ pub fn is_allowed(
     settings: Settings,
     room: &mut [u64],
     reading: u64,
+    caller: Caller,
     key: &[u8],
 ) -> RateLimitDecision
-    ensures { λ r. ⌜ Told (Calls.isAllowed settings (now (room .entry)) reading (now (key .entry))) r (now (room .exit)) ⌝ }
+    ensures { λ r. ⌜ Told (Calls.isAllowed settings (now (room .entry)) reading (sent caller (now (key .entry)))) r (now (room .exit)) ⌝ }
 {
     let j = judge::judge(
         RoomKind::Absolute,
         settings,
         room,
         reading,
+        caller,
         key,
         judge::FIRST_LOOK,
     );
@@ -61,6 +72,6 @@ pub fn is_allowed(
     let answer = decided(settings, reading, allows(limit, x), x);
     let again = evicts(limit, x);
     let join = settings.join_ticks();
-    change::apply(room, x.at, key, join, reading, ask_change(again, x));
+    change::apply(room, x.at, caller, key, join, reading, ask_change(again, x));
     answer
 }

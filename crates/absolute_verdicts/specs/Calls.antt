@@ -1,5 +1,5 @@
 -- The absolute limiter's calls: answer and words after, for every input. Refusals and answers are document 01's rules on what the key holds; the words are told
--- by the edits of the key's slot. s are the settings, w the room's words, t the reading.
+-- by the edits of the key's slot. s are the settings, w the room's words, t the reading, key the key with its caller.
 -- Assumes nothing.
 use mathlib.Core.List.{List, []}
 use Prim.Native.Nat.{ℕ}
@@ -15,21 +15,22 @@ use Rattle.rules.specs.declared.RoomKind.the-variants.{Absolute}
 use Rattle.rules.specs.Both.{limitIn, liveOf}
 use Rattle.rules.specs.Absolute.{testsAgain, wholeLimit, allowed, decided, outFor, incTurns}
 use Rattle.room.specs.Room.{ringOf}
+use Rattle.parties.specs.Parties.{Sent, noneLeft}
 use Rattle.change.specs.Words.{applied}
-use Rattle.judge.specs.Held.{heldIn, noneFree}
+use Rattle.judge.specs.Held.{heldIn}
 use Rattle.judge.specs.Judge.{slotIn, lookedIn}
 use Rattle.judge.specs.Verdict.{Verdict, verdict, call}
 use Rattle.plan.specs.Plan.{placeOf}
 use Rattle.absolute_opened.specs.Opened.{getChange, askChange, incChange}
 
 -- the live total, 0 of an unknown key
-unfoldable pub get : Settings → List ℕ → ℕ → List ℕ → Verdict TotalAnswer
+unfoldable pub get : Settings → List ℕ → ℕ → Sent → Verdict TotalAnswer
 get s w t key =
     let x = slotIn s w t key in
     call total.Refused Absolute s w t key []
     (verdict (total.Total (counts (liveOf s t (heldIn w key)))) (applied w (x .at) key (joinTicks s) t (getChange x)))
 
-unfoldable pub isAllowed : Settings → List ℕ → ℕ → List ℕ → Verdict RateLimitDecision
+unfoldable pub isAllowed : Settings → List ℕ → ℕ → Sent → Verdict RateLimitDecision
 isAllowed s w t key =
     let h = heldIn w key in
     let x = slotIn s w t key in
@@ -38,11 +39,11 @@ isAllowed s w t key =
     (applied w (x .at) key (joinTicks s) t (askChange (testsAgain (wholeLimit h) (h .buckets)) (lookedIn s w t key))))
 
 -- by c at rate
-unfoldable pub inc : Settings → List ℕ → ℕ → List ℕ → RateLimit → ℕ → Verdict RateLimitDecision
+unfoldable pub inc : Settings → List ℕ → ℕ → Sent → RateLimit → ℕ → Verdict RateLimitDecision
 inc s w t key rate c =
     let h = heldIn w key in
     let x = slotIn s w t key in
-    call decision.Refused Absolute s w t key (incTurns s (ringOf w) (noneFree w) t rate c h)
+    call decision.Refused Absolute s w t key (incTurns s (ringOf w) (noneLeft w (key .caller)) t rate c h)
     (verdict (decided s t h)
     (applied w (placeOf w x) key (joinTicks s) t
     (incChange (limitIn Absolute s rate) c (allowed s t h) (outFor s (ringOf w) t c h) x (lookedIn s w t key))))

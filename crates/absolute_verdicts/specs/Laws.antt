@@ -1,12 +1,12 @@
--- What a call that passes refusals 1 to 7 knows of its key's slot in an absolute room, and that each call's change can be carried out.
+-- What a call that passes refusals 1 to 7, 15 and 16 knows of its key's slot in an absolute room, and that each call's change can be carried out.
 -- Assumes nothing.
-use mathlib.Core.Path.{_≡_, refl, sym, ap, ap₂, subst, _∙_}
+use mathlib.Core.Path.{_≡_, refl, sym, ap, subst, _∙_}
 use mathlib.Core.Bool.{Bool, true, false, not, _&&_, cond, false≢true}
 use mathlib.Core.List.{List}
 use Prim.Native.Nat.{ℕ, _+_, _-_, _<_}
 use native.Mathlib.Omega.{arith}
 use lib.ListN.{length, drop}
-use lib.Dec.{leb, ltb}
+use lib.Dec.{ltb}
 use borrow.Author.Tests.{ltb-true, ltb-false, leb-false}
 use Rattle.common.specs.Limits.{cutWord}
 use Rattle.common.specs.Refusals.{first, all-false}
@@ -18,6 +18,7 @@ use Rattle.layout.specs.Layout.{mostTotal}
 use Rattle.ring.specs.Ring.{counts, sumOf, buckets}
 use Rattle.ring.specs.View.{view-length}
 use Rattle.room.specs.Room.{slotsOf, ringOf, bodyOf, vacant}
+use Rattle.parties.specs.Parties.{Sent, noneLeft}
 use Rattle.change.specs.declared.Change.the-variants.{Keep, Update, Take}
 use Rattle.edit.specs.declared.Then.the-variants.{Nothing, Increment}
 use Rattle.change.specs.Words.{EditsAt, Applies}
@@ -27,6 +28,7 @@ use Rattle.opened.specs.declared.Slot.{Slot}
 use Rattle.opened.specs.Sound.{addressed}
 use Rattle.opened.specs.Look.{look-series}
 use Rattle.judge.specs.Judge.{Passed, slotIn, lookedIn}
+use Rattle.judge.specs.Laws.{free-there}
 use Rattle.plan.specs.Plan.{placeOf, lacksAt, fullAfter, evicting, opening}
 use Rattle.plan.specs.Looked.{known-looked}
 use Rattle.plan.specs.Seen.{full-after}
@@ -54,7 +56,7 @@ unknown-allowed : (n : ℕ) (x : Slot) → x .series ≡ false → allowedAt n x
 unfolding allowedAt
 unknown-allowed n x e = rw e
 
-module _ (s : Settings) (w : List ℕ) (t : ℕ) (key : List ℕ) (p : Passed Absolute s w t key) where
+module _ (s : Settings) (w : List ℕ) (t : ℕ) (key : Sent) (p : Passed Absolute s w t key) where
   -- ---- a known key
 
   known-inside : slotIn s w t key .series ≡ true → addressed w key < slotsOf w
@@ -141,23 +143,22 @@ module _ (s : Settings) (w : List ℕ) (t : ℕ) (key : List ℕ) (p : Passed Ab
   unfolding placeOf
   place-is = ap (λ (z : Bool). cond z (slotIn s w t key .at) (vacant w)) (has-series s w t key p)
 
-  lacks-as : lacksAt w (placeOf w (slotIn s w t key)) (slotIn s w t key) ≡ not (slotIn s w t key .series) &&
-      leb (slotsOf w) (cond (slotIn s w t key .series) (slotIn s w t key .at) (vacant w))
+  lacks-as : (none : Bool) → lacksAt none (slotIn s w t key) ≡ not (slotIn s w t key .series) && none
   unfolding lacksAt
-  lacks-as = ap₂ (λ (z : Bool) (n : ℕ). not z && leb (slotsOf w) n) (has-series s w t key p) place-is
+  lacks-as none = ap (λ (z : Bool). not z && none) (has-series s w t key p)
 
   -- an increment that is not refused, of a key that may or may not; an unknown one may
   pub inc-applies : (limit c : ℕ) (rated may out : Bool) → (slotIn s w t key .series ≡ false → may ≡ true) →
-      first (incRefusals (ringOf w) (joinTicks s) t c rated may (lacksAt w (placeOf w (slotIn s w t key)) (slotIn s w t key)) out (slotIn s w t key)) ≡ 0 →
+      first (incRefusals (ringOf w) (joinTicks s) t c rated may (lacksAt (noneLeft w (key .caller)) (slotIn s w t key)) out (slotIn s w t key)) ≡ 0 →
       Applies w (placeOf w (slotIn s w t key)) (joinTicks s) t (incChange limit c may out (slotIn s w t key) (lookedIn s w t key))
   unfolding incRefusals incChange
   inc-applies limit c rated may out unknown h =
       let f = all-false _ (omega arith) h in
       subst (λ (n : ℕ). Applies w n (joinTicks s) t (incChange limit c may out (slotIn s w t key) (lookedIn s w t key))) (sym place-is)
-      (go (slotIn s w t key .series) refl may refl (f .1 .0) (sym lacks-as ∙ f .1 .1 .0) (f .1 .1 .1 .0))
+      (go (slotIn s w t key .series) refl may refl (f .1 .0) (sym (lacks-as (noneLeft w (key .caller))) ∙ f .1 .1 .0) (f .1 .1 .1 .0))
     where
       go : (y : Bool) → slotIn s w t key .series ≡ y → (z : Bool) → may ≡ z →
-          z && passes c (totalIf out (slotIn s w t key)) ≡ false → not y && leb (slotsOf w) (cond y (slotIn s w t key .at) (vacant w)) ≡ false →
+          z && passes c (totalIf out (slotIn s w t key)) ≡ false → not y && noneLeft w (key .caller) ≡ false →
           z && fullAfter (ringOf w) (joinTicks s) t (goneIf out (slotIn s w t key)) (slotIn s w t key) ≡ false →
           Applies w (cond y (slotIn s w t key .at) (vacant w)) (joinTicks s) t
           (pickChange y (pickChange z (Update (leaving out (slotIn s w t key) (Increment c 0))) (Update (evicting (lookedIn s w t key) Nothing)))
@@ -165,7 +166,7 @@ module _ (s : Settings) (w : List ℕ) (t : ℕ) (key : List ℕ) (p : Passed Ab
       go true e true a o l f = subst (λ (n : ℕ). EditsAt w n (joinTicks s) t (leaving out (slotIn s w t key) (Increment c 0))) (sym (known e .at-is))
           (leaving-applies c out e o f)
       go true e false a o l f = look-applies e
-      go false e true a o l f = opening-applies limit c (totalIf out (slotIn s w t key)) o (leb-false (slotsOf w) (vacant w) l)
+      go false e true a o l f = opening-applies limit c (totalIf out (slotIn s w t key)) o (free-there Absolute s w t key p l)
       go false e false a o l f = absurd (false≢true (sym a ∙ unknown e))
 
   -- by the rule

@@ -28,11 +28,12 @@ use Rattle.rules.specs.Held.{Held}
 use Rattle.rules.specs.Both.{limitIn, overdueIn, lookedOf, passes, ringFull}
 use Rattle.rules.specs.Absolute.{below, testsAgain, tested, wholeLimit, allowed, pickDecision, rejection, decided, takesOut, outFor, foundFor, incTurns}
 use Rattle.room.specs.Room.{slotsOf, ringOf, useOf}
+use Rattle.parties.specs.Parties.{Sent, noneLeft}
 use Rattle.change.specs.Words.{applied}
 use Rattle.sweep.specs.declared.tally.Mark.{Mark}
 use Rattle.sweep.specs.Sweep.{mark}
 use Rattle.opened.specs.declared.Slot.{Slot}
-use Rattle.judge.specs.Held.{heldIn, noneFree, held-here, held-none}
+use Rattle.judge.specs.Held.{heldIn, held-here, held-none}
 use Rattle.judge.specs.Judge.{Passed, slotIn, lookedIn}
 use Rattle.opened.specs.Look.{look-total}
 use Rattle.opened.specs.Slot.{hasSlot}
@@ -50,7 +51,7 @@ or-false : (z : Bool) → z || false ≡ z
 or-false true = refl
 or-false false = refl
 
-module _ (s : Settings) (w : List ℕ) (t : ℕ) (key : List ℕ) (p : Passed Absolute s w t key) where
+module _ (s : Settings) (w : List ℕ) (t : ℕ) (key : Sent) (p : Passed Absolute s w t key) where
   abbrev h : Held
   h = heldIn w key
 
@@ -206,15 +207,15 @@ module _ (s : Settings) (w : List ℕ) (t : ℕ) (key : List ℕ) (p : Passed Ab
         ringFull (ringOf w) (joinTicks s) t (foundFor s (ringOf w) t c (heldIn w key))
     found-full = full-out r b (outIn s w t c x) ∙ ap (λ (z : Bool). ringFull r b t (outIf z W t (h .buckets))) out-is
 
-    pub own-is : incOwn s w t rate c (slotIn s w t key) ≡ incTurns s (ringOf w) (noneFree w) t rate c (heldIn w key)
+    pub own-is : incOwn s w (noneLeft w (key .caller)) t rate c (slotIn s w t key) ≡ incTurns s (ringOf w) (noneLeft w (key .caller)) t rate c (heldIn w key)
     unfolding incRefusals
     own-is =
         let ten = ap₂ (λ (y : Bool) (n : ℕ). y && passes c n) may-is found-total in
         let twelve = ap₂ _&&_ may-is found-full in
-        ap₂ (λ (y z : Bool). inOrder (rateOk (rate .0)) y (lacksAt w (placeOf w x) x) z) ten twelve ∙
+        ap₂ (λ (y z : Bool). inOrder (rateOk (rate .0)) y (lacksAt (noneLeft w (key .caller)) x) z) ten twelve ∙
         ap (λ (y : Bool). inOrder (rateOk (rate .0)) (allowed s t h && passes c (counts (foundFor s r t c h))) y
         (allowed s t h && ringFull r b t (foundFor s r t c h)))
-        (lacks-is W t true h x o w)
+        (lacks-is W t true h x o (noneLeft w (key .caller)))
 
     pub makes-is : incMakes s w t rate c (slotIn s w t key) ≡
         incChange (limitIn Absolute s rate) c (allowed s t (heldIn w key)) (outFor s (ringOf w) t c (heldIn w key)) (slotIn s w t key) (lookedIn s w t key)
@@ -222,7 +223,7 @@ module _ (s : Settings) (w : List ℕ) (t : ℕ) (key : List ℕ) (p : Passed Ab
 
 -- ---- so the calls are those that the contracts name
 
-module _ (s : Settings) (w : List ℕ) (t : ℕ) (key : List ℕ) where
+module _ (s : Settings) (w : List ℕ) (t : ℕ) (key : Sent) where
   pub get-opened : get s w t key ≡ Calls.get s w t key
   unfolding get Calls.get
   get-opened =

@@ -15,6 +15,7 @@ use Rattle.answers.specs.declared.RateLimitDecision.{RateLimitDecision}
 use Rattle.answers.specs.declared.RateLimitDecision.the-variants as decision
 use Rattle.common.specs.declared.units.RateLimit.{RateLimit}
 use Rattle.room.specs.Room.{Room, ringOf}
+use Rattle.parties.specs.Parties.{Sent, noneLeft}
 use Rattle.change.specs.declared.Change.{Change}
 use Rattle.change.specs.Words.{Applies, applied}
 use Rattle.rules.specs.Absolute.{below}
@@ -24,7 +25,7 @@ use Rattle.opened.specs.declared.Slot.{Slot}
 use Rattle.opened.specs.Slot.{pickSlot}
 use Rattle.opened.specs.Look.{look-at, look-total, look-limit}
 use Rattle.judge.specs.Judge.{early, judged, judgedFirst, Passed, slotIn, lookedIn}
-use Rattle.judge.specs.Laws.{code-is, slot-is, passed}
+use Rattle.judge.specs.Laws.{code-is, none-is, slot-is, passed}
 use Rattle.judge.specs.Verdict.{Told, told-as, verdict, call, call-early, call-own, call-done}
 use Rattle.plan.specs.Plan.{placeOf, lacksAt}
 use Rattle.absolute_test.specs.Test.{evicts, allowedAt, decidedAt}
@@ -35,11 +36,11 @@ use Rattle.absolute_verdicts.specs.Seen.{get-opened, ask-opened, inc-ope
 use Rattle.absolute_verdicts.specs.Laws.{get-applies, ask-applies, inc-applies, may-unknown}
 
 -- judging did not refuse; a first look is not yet taken
-pub record Goes (s : Settings) (w : List ℕ) (t : ℕ) (key : List ℕ) (j : Judged) : Type 0 where
+pub record Goes (s : Settings) (w : List ℕ) (t : ℕ) (key : Sent) (j : Judged) : Type 0 where
   pub is : j ≡ judged Absolute s w t key
-  pub none : j .code ≡ 0
+  pub unrefused : j .code ≡ 0
 
-module _ (s : Settings) (w : List ℕ) (t : ℕ) (key : List ℕ) (j : Judged) where
+module _ (s : Settings) (w : List ℕ) (t : ℕ) (key : Sent) (j : Judged) where
   refuses : j ≡ judged Absolute s w t key → j .code ≡ early Absolute s w t key
   refuses e = ap (λ (y : Judged). y .code) e ∙ code-is Absolute s w t key (slotIn s w t key)
 
@@ -53,13 +54,16 @@ module _ (s : Settings) (w : List ℕ) (t : ℕ) (key : List ℕ) (j : Judged) w
 
   module _ (g : Goes s w t key j) where
     goes-early : early Absolute s w t key ≡ 0
-    goes-early = sym (refuses (g .is)) ∙ g .none
+    goes-early = sym (refuses (g .is)) ∙ g .unrefused
 
     pub goes-passed : Passed Absolute s w t key
     goes-passed = passed Absolute s w t key goes-early
 
     goes-slot : j .slot ≡ slotIn s w t key
     goes-slot = ap (λ (y : Judged). y .slot) (g .is) ∙ slot-is Absolute s w t key goes-early
+
+    goes-left : j .none ≡ noneLeft w (key .caller)
+    goes-left = ap (λ (y : Judged). y .none) (g .is) ∙ none-is Absolute s w t key (slotIn s w t key) goes-early
 
     pub room-fits : Room w
     room-fits = goes-passed .room
@@ -99,7 +103,7 @@ module _ (s : Settings) (w : List ℕ) (t : ℕ) (key : List ℕ) (j : Judged) w
 
 -- ---- judged as a first look leaves it; again says whether the test was made again
 
-module _ (s : Settings) (w : List ℕ) (t : ℕ) (key : List ℕ) (j : Judged) (is : j ≡ judgedFirst Absolute s w t key) where
+module _ (s : Settings) (w : List ℕ) (t : ℕ) (key : Sent) (j : Judged) (is : j ≡ judgedFirst Absolute s w t key) where
   first-code : j .code ≡ early Absolute s w t key
   first-code = ap (λ (y : Judged). y .code) is ∙ code-is Absolute s w t key (lookedIn s w t key)
 
@@ -160,7 +164,7 @@ module _ (s : Settings) (w : List ℕ) (t : ℕ) (key : List ℕ) (j : Judged) (
 
 -- ---- an increment: at is its place, may whether it is allowed, out whether the expired buckets are taken out
 
-module _ (s : Settings) (w : List ℕ) (t : ℕ) (key : List ℕ) (rate : RateLimit) (c : ℕ) (j : Judged) where
+module _ (s : Settings) (w : List ℕ) (t : ℕ) (key : Sent) (rate : RateLimit) (c : ℕ) (j : Judged) where
   pub inc-refused : j ≡ judged Absolute s w t key → (j .code ≡ 0 → ⊥) → Told (Calls.inc s w t key rate c) (decision.Refused (j .code)) w
   unfolding Calls.inc
   inc-refused e z = call-early decision.Refused Absolute s w t key _ _ (j .code) (refuses s w t key j e) z
@@ -171,27 +175,31 @@ module _ (s : Settings) (w : List ℕ) (t : ℕ) (key : List ℕ) (rate : RateLi
     pub place-is : at ≡ placeOf w (j .slot)
     pub may-is : may ≡ mayIn s t (j .slot)
     pub out-is : out ≡ outIn s w t c (j .slot)
-    pub number-is : n ≡ first (incRefusals (ringOf w) (joinTicks s) t c (rateOk (rate .0)) may (lacksAt w at (j .slot)) out (j .slot))
+    pub number-is : n ≡ first (incRefusals (ringOf w) (joinTicks s) t c (rateOk (rate .0)) may (lacksAt (j .none) (j .slot)) out (j .slot))
 
-module _ {s : Settings} {w : List ℕ} {t : ℕ} {key : List ℕ} {rate : RateLimit} {c : ℕ} {j : Judged} {at : ℕ} {may out : Bool} {n : ℕ}
+module _ {s : Settings} {w : List ℕ} {t : ℕ} {key : Sent} {rate : RateLimit} {c : ℕ} {j : Judged} {at : ℕ} {may out : Bool} {n : ℕ}
     (f : Finds s w t key rate c j at may out n) where
-  numbered : ℕ → Bool → Bool → ℕ
-  numbered a m o = first (incRefusals (ringOf w) (joinTicks s) t c (rateOk (rate .0)) m (lacksAt w a (j .slot)) o (j .slot))
+  numbered : Bool → Bool → Bool → ℕ
+  numbered none m o = first (incRefusals (ringOf w) (joinTicks s) t c (rateOk (rate .0)) m (lacksAt none (j .slot)) o (j .slot))
 
-  own-is : n ≡ first (incOwn s w t rate c (j .slot))
+  abbrev own : Slot → List (ℕ × Bool)
+  own = incOwn s w (noneLeft w (key .caller)) t rate c
+
+  own-is : n ≡ first (own (j .slot))
   unfolding numbered
   own-is =
-      f .number-is ∙ ap (λ (y : ℕ). numbered y may out) (f .place-is) ∙
-      ap (λ (y : Bool). numbered (placeOf w (j .slot)) y out) (f .may-is) ∙ ap (numbered (placeOf w (j .slot)) (mayIn s t (j .slot))) (f .out-is)
+      f .number-is ∙ ap (λ (y : Bool). numbered y may out) (goes-left s w t key j (f .goes)) ∙
+      ap (λ (y : Bool). numbered (noneLeft w (key .caller)) y out) (f .may-is) ∙
+      ap (numbered (noneLeft w (key .caller)) (mayIn s t (j .slot))) (f .out-is)
 
-  own-slot : n ≡ first (incOwn s w t rate c (slotIn s w t key))
-  own-slot = own-is ∙ ap (λ (y : Slot). first (incOwn s w t rate c y)) (goes-slot s w t key j (f .goes))
+  own-slot : n ≡ first (own (slotIn s w t key))
+  own-slot = own-is ∙ ap (λ (y : Slot). first (own y)) (goes-slot s w t key j (f .goes))
 
   pub inc-late : (n ≡ 0 → ⊥) → Told (Calls.inc s w t key rate c) (decision.Refused n) w
   unfolding inc
   inc-late z =
       told-as (inc-opened s w t key rate c)
-      (call-own decision.Refused Absolute s w t key (incOwn s w t rate c (slotIn s w t key)) _ n (goes-early s w t key j (f .goes)) own-slot z)
+      (call-own decision.Refused Absolute s w t key (own (slotIn s w t key)) _ n (goes-early s w t key j (f .goes)) own-slot z)
 
   -- the slot as a first look leaves it, which only a rejection asks for
   abbrev looked : Slot
@@ -232,6 +240,6 @@ module _ {s : Settings} {w : List ℕ} {t : ℕ} {key : List ℕ} {rate : RateLi
   inc-done z u e v i d q =
       told-as (inc-opened s w t key rate c)
       (rw (q ∙ unless-decided may ∙ ap (λ (y : Bool). decidedAt (ticksIn s) (s .«window_size») t y (lookIn s t (j .slot))) (f .may-is))
-      (goes-done s w t key j (f .goes) decision.Refused (incOwn s w t rate c) (decidedIn s t) (placeOf w) (incMakes s w t rate c) (sym own-is ∙ z) u
+      (goes-done s w t key j (f .goes) decision.Refused own (decidedIn s t) (placeOf w) (incMakes s w t rate c) (sym own-is ∙ z) u
       (makes-is u e) v
       (i ∙ ap (λ (y : ℕ). applied w y key (joinTicks s) t u) (f .place-is))))

@@ -6,7 +6,6 @@ use mathlib.Core.List.{List, []}
 use Prim.Native.Nat.{ℕ, _≤_, _<_}
 use native.Mathlib.Omega.{arith}
 use lib.Dec.{eqb}
-use borrow.Author.Tests.{leb-false}
 use Rattle.settings.specs.Clock.{joinTicks}
 use Rattle.settings.specs.declared.Settings.{Settings}
 use Rattle.common.specs.declared.comparator.RateLimitComparator.{RateLimitComparator}
@@ -17,12 +16,14 @@ use Rattle.ring.specs.Ring.{countOf}
 use Rattle.ring.specs.Sums.{sum-none}
 use Rattle.rules.specs.declared.RoomKind.{RoomKind}
 use Rattle.room.specs.Room.{Room, slotsOf, ringOf}
+use Rattle.parties.specs.Parties.{Sent, noneLeft}
 use Rattle.edit.specs.declared.Then.the-variants as then
 use Rattle.change.specs.declared.Change.the-variants.{Keep, Free, Update, Take}
 use Rattle.change.specs.Words.{Applies, EditsAt}
 use Rattle.edit.specs.Bodies.{Fits}
 use Rattle.opened.specs.declared.Slot.{Slot}
 use Rattle.judge.specs.Judge.{Passed, slotIn}
+use Rattle.judge.specs.Laws.{free-there}
 use Rattle.opened.specs.Slot.{hasSlot}
 use Rattle.plan.specs.Known.{keeping-edits, evicting-edits, opening-edits}
 use Rattle.plan.specs.Plan.{placeOf, lacksAt, keeping, relimited}
@@ -30,7 +31,7 @@ use Rattle.shared_opened.specs.Opened.{deleting, usedWith, limiting}
 use Rattle.sets_opened.specs.Sets.{vain, idleAt, metAt, reset, begins, stored, setting}
 use Rattle.calls.specs.Calls.{slot-within, known-at}
 
-pub delete-applies : (kind : RoomKind) (s : Settings) (w : List ℕ) (t : ℕ) (key : List ℕ) → Passed kind s w t key →
+pub delete-applies : (kind : RoomKind) (s : Settings) (w : List ℕ) (t : ℕ) (key : Sent) → Passed kind s w t key →
     Applies w (slotIn s w t key .at) (joinTicks s) t (deleting (slotIn s w t key))
 unfolding deleting
 delete-applies kind s w t key p = go (hasSlot (slotIn s w t key)) refl
@@ -40,7 +41,7 @@ delete-applies kind s w t key p = go (hasSlot (slotIn s w t key)) refl
     go false e = p .room
 
 -- "Setting a rate touches only a known series"
-pub rate-applies : (kind : RoomKind) (s : Settings) (w : List ℕ) (t : ℕ) (key : List ℕ) (limit : ℕ) → Passed kind s w t key →
+pub rate-applies : (kind : RoomKind) (s : Settings) (w : List ℕ) (t : ℕ) (key : Sent) (limit : ℕ) → Passed kind s w t key →
     Applies w (slotIn s w t key .at) (joinTicks s) t (limiting (slotIn s w t key) limit)
 unfolding limiting
 rate-applies kind s w t key limit p = go (slotIn s w t key .series) refl
@@ -80,17 +81,26 @@ pub place-own : (w : List ℕ) (x : Slot) → hasSlot x ≡ true → placeOf w x
 unfolding placeOf
 place-own w x e = rw e
 
--- a slot that is needed is there
-pub place-free : (w : List ℕ) (x : Slot) (place : ℕ) → x .series ≡ false → x .cached ≡ false → not false && lacksAt w place x ≡ false → place < slotsOf w
+-- the party has a slot left, where one is needed
+pub needs-left : (full : Bool) (x : Slot) → x .series ≡ false → x .cached ≡ false → not false && lacksAt full x ≡ false → full ≡ false
 unfolding lacksAt
-place-free w x place e f h = leb-false (slotsOf w) place (rw (e, f) at h)
+needs-left full x e f h = rw (e, f) at h
 
 -- ---- the change
 
 pub begins-fit : (w : List ℕ) (b t count : ℕ) → Room w → count ≤ mostTotal → Fits (ringOf w) b t count 0 []
 begins-fit w b t count o m = record { least = omega arith; total = omega (arith, sum-none countOf); free = λ e. o .some }
 
-module _ (kind : RoomKind) (s : Settings) (w : List ℕ) (t : ℕ) (key : List ℕ) (p : Passed kind s w t key) where
+module _ (kind : RoomKind) (s : Settings) (w : List ℕ) (t : ℕ) (key : Sent) (p : Passed kind s w t key) where
+  -- so it is there
+  pub place-free : slotIn s w t key .series ≡ false → slotIn s w t key .cached ≡ false →
+      not false && lacksAt (noneLeft w (key .caller)) (slotIn s w t key) ≡ false → placeOf w (slotIn s w t key) < slotsOf w
+  unfolding placeOf
+  place-free e f h =
+      let l = free-there kind s w t key p (needs-left (noneLeft w (key .caller)) (slotIn s w t key) e f h) in
+      let q : hasSlot (slotIn s w t key) ≡ false = rw (e, f) in
+      rw q l
+
   pub place-within : hasSlot (slotIn s w t key) ≡ true → placeOf w (slotIn s w t key) < slotsOf w
   place-within e = omega (arith, place-own w (slotIn s w t key) e, slot-within kind s w t key p e)
 
@@ -108,7 +118,7 @@ module _ (kind : RoomKind) (s : Settings) (w : List ℕ) (t : ℕ) (key : List �
       (begins-fit w (joinTicks s) t count (p .room) m)
 
   stored-applies : (limit count : ℕ) (mode : HistoryUpdateMode) → count ≤ mostTotal →
-      not false && lacksAt w (placeOf w (slotIn s w t key)) (slotIn s w t key) ≡ false →
+      not false && lacksAt (noneLeft w (key .caller)) (slotIn s w t key) ≡ false →
       Applies w (placeOf w (slotIn s w t key)) (joinTicks s) t (stored (slotIn s w t key) limit count mode)
   unfolding stored
   stored-applies limit count mode m f = go (slotIn s w t key .series) refl (slotIn s w t key .cached) refl
@@ -121,11 +131,11 @@ module _ (kind : RoomKind) (s : Settings) (w : List ℕ) (t : ℕ) (key : List �
           (sym (place-own w (slotIn s w t key) (known-has (slotIn s w t key) e))) (reset-applies limit count mode e m)
       go false e true g = begins-applies limit count (slotIn s w t key .factor) (slotIn s w t key .«factor_time») m
           (place-within (cached-has (slotIn s w t key) e g))
-      go false e false g = begins-applies limit count 0 0 m (place-free w (slotIn s w t key) (placeOf w (slotIn s w t key)) e g f)
+      go false e false g = begins-applies limit count 0 0 m (place-free e g f)
 
   pub set-applies : (still : Bool) (limit count : ℕ) (comparator : RateLimitComparator) (mode : HistoryUpdateMode) →
       still ≡ idleAt (slotIn s w t key) limit comparator count mode → count ≤ mostTotal →
-      not still && lacksAt w (placeOf w (slotIn s w t key)) (slotIn s w t key) ≡ false →
+      not still && lacksAt (noneLeft w (key .caller)) (slotIn s w t key) ≡ false →
       Applies w (placeOf w (slotIn s w t key)) (joinTicks s) t (setting (slotIn s w t key) still limit count mode)
   unfolding setting
   set-applies true limit count comparator mode e m f = p .room

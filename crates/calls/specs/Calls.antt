@@ -11,6 +11,7 @@ use Rattle.common.specs.Refusals.{first}
 use Rattle.settings.specs.Clock.{joinTicks}
 use Rattle.settings.specs.declared.Settings.{Settings}
 use Rattle.room.specs.Room.{slotsOf}
+use Rattle.parties.specs.Parties.{Sent, noneLeft}
 use Rattle.change.specs.declared.Change.{Change}
 use Rattle.change.specs.Words.{Applies}
 use Rattle.rules.specs.declared.RoomKind.{RoomKind}
@@ -19,15 +20,15 @@ use Rattle.opened.specs.declared.Slot.{Slot}
 use Rattle.opened.specs.Sound.{addressed}
 use Rattle.judge.specs.Judge.{early, judged, Passed, slotIn}
 use Rattle.opened.specs.Slot.{hasSlot}
-use Rattle.judge.specs.Laws.{code-is, slot-is, passed}
+use Rattle.judge.specs.Laws.{code-is, none-is, slot-is, passed}
 use Rattle.judge.specs.Verdict.{Verdict, Told, call, call-early, call-own, call-done}
 use Rattle.plan.specs.Known.{Found, Known, found, none, at-as, series-known}
 
 -- a call whose own refusals, and what it does, are functions of the slot
-abbrev pub calls : {A : Type 0} → (ℕ → A) → RoomKind → Settings → List ℕ → ℕ → List ℕ → (Slot → List (ℕ × Bool)) → (Slot → Verdict A) → Verdict A
+abbrev pub calls : {A : Type 0} → (ℕ → A) → RoomKind → Settings → List ℕ → ℕ → Sent → (Slot → List (ℕ × Bool)) → (Slot → Verdict A) → Verdict A
 calls turned kind s w t key own does = call turned kind s w t key (own (slotIn s w t key)) (does (slotIn s w t key))
 
-module _ (kind : RoomKind) (s : Settings) (w : List ℕ) (t : ℕ) (key : List ℕ) (j : Judged) (e : j ≡ judged kind s w t key) where
+module _ (kind : RoomKind) (s : Settings) (w : List ℕ) (t : ℕ) (key : Sent) (j : Judged) (e : j ≡ judged kind s w t key) where
   judged-code : j .code ≡ early kind s w t key
   judged-code = ap (λ (y : Judged). y .code) e ∙ code-is kind s w t key (slotIn s w t key)
 
@@ -37,6 +38,9 @@ module _ (kind : RoomKind) (s : Settings) (w : List ℕ) (t : ℕ) (key : List �
 
   pub judged-slot : j .code ≡ 0 → j .slot ≡ slotIn s w t key
   judged-slot h = ap (λ (y : Judged). y .slot) e ∙ slot-is kind s w t key (sym judged-code ∙ h)
+
+  pub judged-none : j .code ≡ 0 → j .none ≡ noneLeft w (key .caller)
+  judged-none h = ap (λ (y : Judged). y .none) e ∙ none-is kind s w t key (slotIn s w t key) (sym judged-code ∙ h)
 
   -- a change that applies at the key's slot
   pub judged-applies : (change : Slot → Change) → j .code ≡ 0 → Applies w (slotIn s w t key .at) (joinTicks s) t (change (slotIn s w t key)) →
@@ -65,7 +69,7 @@ pub true-or : (a b : Bool) → a ≡ true → a || b ≡ true
 true-or true b e = refl
 true-or false b e = absurd (false≢true e)
 
-module _ (kind : RoomKind) (s : Settings) (w : List ℕ) (t : ℕ) (key : List ℕ) (p : Passed kind s w t key) where
+module _ (kind : RoomKind) (s : Settings) (w : List ℕ) (t : ℕ) (key : Sent) (p : Passed kind s w t key) where
   slot-there : hasSlot (slotIn s w t key) ≡ true → addressed w key < slotsOf w
   slot-there e = go (ltb (addressed w key) (slotsOf w)) refl
     where

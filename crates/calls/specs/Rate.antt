@@ -2,6 +2,7 @@
 -- Assumes nothing.
 use mathlib.Core.List.{List}
 use Prim.Native.Nat.{ℕ}
+use Rattle.parties.specs.Parties.{Sent}
 use Rattle.settings.specs.Clock.{joinTicks}
 use Rattle.settings.specs.declared.Settings.{Settings}
 use Rattle.common.specs.declared.units.RateLimit.{RateLimit}
@@ -16,7 +17,7 @@ use Rattle.judge.specs.Judge.{slotIn}
 use Rattle.judge.specs.Verdict.{Verdict, verdict, call}
 use Rattle.shared_opened.specs.Opened.{limiting}
 
-unfoldable pub setRateLimit : RoomKind → Settings → List ℕ → ℕ → List ℕ → RateLimit → Verdict OldRateAnswer
+unfoldable pub setRateLimit : RoomKind → Settings → List ℕ → ℕ → Sent → RateLimit → Verdict OldRateAnswer
 setRateLimit kind s w t key rate =
     let x = slotIn s w t key in
     call Refused kind s w t key (rateTurns rate)

@@ -8,6 +8,7 @@ use native.Mathlib.Decide.{decLt}
 use native.Mathlib.Omega.{arith}
 use lib.Dec.{ltb, eqb}
 use borrow.Author.Tests.{ne-eqb, le-ltb}
+use Rattle.parties.specs.Parties.{Sent, noneLeft}
 use Rattle.common.specs.Comparator.{matches}
 use Rattle.common.specs.Limits.{rateBack}
 use Rattle.common.specs.Ranges.{and-no}
@@ -102,7 +103,7 @@ module _ (s : Settings) (t : ℕ) (h : Held) (x : Slot) (o : Seen (windowTicks s
 
 -- ---- so the calls are those that the contracts name
 
-module _ (kind : RoomKind) (s : Settings) (w : List ℕ) (t : ℕ) (key : List ℕ) where
+module _ (kind : RoomKind) (s : Settings) (w : List ℕ) (t : ℕ) (key : Sent) where
   abbrev x : Slot
   x = slotIn s w t key
 
@@ -130,7 +131,7 @@ module _ (kind : RoomKind) (s : Settings) (w : List ℕ) (t : ℕ) (key : List �
       let still = rules.stillFor kind s t rate comparator count mode h in
       let i = idle-is s t h x o limit count mode comparator in
       record {
-        owns = ap₂ (λ (y z : Bool). setOwn rate count (not y && z)) i (lacks-is (windowTicks s) t true h x o w);
+        owns = ap₂ (λ (y z : Bool). setOwn rate count (not y && z)) i (lacks-is (windowTicks s) t true h x o (noneLeft w (key .caller)));
         answers =
             ap (λ (z : Bool). sets.Set (outcomeAt x z comparator count)) i ∙
             ap (λ (c : ConditionalSetOutcome). sets.Set c) (outcome-is s t h x o still comparator count);

@@ -6,9 +6,9 @@ use Prim.Native.Nat.{ℕ}
 use lib.ListN.{length}
 use Rattle.layout.specs.Layout.{sizeOf}
 use Rattle.room.specs.Room.{Room, ringOf, bodyOf, keyAt, useOf, lastOf}
-use Rattle.keys.specs.Keys.{keyOf}
 use Rattle.room.specs.Laws.{body-length}
-use Rattle.frame.specs.Frame.{Changed, body-change, put-use, put-entry, unchanged}
+use Rattle.frame.specs.Frame.{Changed, body-change, put-use, put-release, put-entry, unchanged}
+use Rattle.parties.specs.Parties.{Sent, keyFor}
 use Rattle.edit.specs.declared.Edit.{Edit}
 use Rattle.change.specs.declared.Change.{Change}
 use Rattle.change.specs.declared.Change.the-variants.{Keep, Free, Update, Take}
@@ -30,13 +30,13 @@ module _ (w : List ℕ) (at s t : ℕ) (e : Edit) (h : EditsAt w at s t e) where
   unfolding updated
   update-change = put-use edit-change (e .used)
 
-  pub take-change : (key : List ℕ) → Changed w (taken w at key s t e) at (e .used) (keyOf key) (edited (ringOf w) s t (bodyOf w at) e) (lastOf w)
+  pub take-change : (key : Sent) → Changed w (taken w at key s t e) at (e .used) (keyFor key) (edited (ringOf w) s t (bodyOf w at) e) (lastOf w)
   unfolding taken
-  take-change key = put-entry edit-change (e .used) (keyOf key)
+  take-change key = put-entry edit-change (e .used) (keyFor key)
 
-pub carried-room : (w : List ℕ) (at : ℕ) (key : List ℕ) (s t : ℕ) (change : Change) → Applies w at s t change → Room (carried w at key s t change)
+pub carried-room : (w : List ℕ) (at : ℕ) (key : Sent) (s t : ℕ) (change : Change) → Applies w at s t change → Room (carried w at key s t change)
 unfolding carried
 carried-room w at key s t Keep a = a
-carried-room w at key s t Free a = put-use (unchanged w at (a .room) (a .inside)) 0 .room
+carried-room w at key s t Free a = put-release (unchanged w at (a .room) (a .inside)) .room
 carried-room w at key s t (Update e) a = update-change w at s t e a .room
 carried-room w at key s t (Take e) a = take-change w at s t e a key .room

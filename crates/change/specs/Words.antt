@@ -2,9 +2,8 @@
 -- Assumes nothing.
 use mathlib.Core.List.{List}
 use Prim.Native.Nat.{ℕ, _<_}
-use Rattle.layout.specs.Layout.{freeUse}
-use Rattle.room.specs.Room.{Room, slotsOf, ringOf, bodyOf, withBody, withUse, withReading, entered}
-use Rattle.keys.specs.Keys.{keyOf}
+use Rattle.room.specs.Room.{Room, slotsOf, ringOf, bodyOf, withBody, withUse, released, withReading, entered}
+use Rattle.parties.specs.Parties.{Sent, keyFor}
 use Rattle.edit.specs.declared.Edit.{Edit}
 use Rattle.change.specs.declared.Change.{Change}
 use Rattle.change.specs.declared.Change.the-variants.{Keep, Free, Update, Take}
@@ -18,17 +17,17 @@ withEdit w at s t e = withBody w at (edited (ringOf w) s t (bodyOf w at) e)
 unfoldable pub updated : List ℕ → ℕ → ℕ → ℕ → Edit → List ℕ
 updated w at s t e = withUse (withEdit w at s t e) at (e .used)
 
-unfoldable pub taken : List ℕ → ℕ → List ℕ → ℕ → ℕ → Edit → List ℕ
-taken w at key s t e = entered (withEdit w at s t e) at (e .used) (keyOf key)
+unfoldable pub taken : List ℕ → ℕ → Sent → ℕ → ℕ → Edit → List ℕ
+taken w at key s t e = entered (withEdit w at s t e) at (e .used) (keyFor key)
 
-unfoldable pub carried : List ℕ → ℕ → List ℕ → ℕ → ℕ → Change → List ℕ
+unfoldable pub carried : List ℕ → ℕ → Sent → ℕ → ℕ → Change → List ℕ
 carried w at key s t Keep = w
-carried w at key s t Free = withUse w at freeUse
+carried w at key s t Free = released w at
 carried w at key s t (Update e) = updated w at s t e
 carried w at key s t (Take e) = taken w at key s t e
 
 -- a call that is not refused stores its reading
-unfoldable pub applied : List ℕ → ℕ → List ℕ → ℕ → ℕ → Change → List ℕ
+unfoldable pub applied : List ℕ → ℕ → Sent → ℕ → ℕ → Change → List ℕ
 applied w at key s t change = withReading (carried w at key s t change) t
 
 pub record EditsAt (w : List ℕ) (at s t : ℕ) (e : Edit) : Type 0 where

@@ -11,13 +11,15 @@ use Rattle.answers.specs.declared.DoneAnswer.{DoneAnswer}
 use Rattle.answers.specs.declared.DoneAnswer.the-variants.{Done, Refused}
 use Rattle.settings.specs.declared.Settings.{Settings}
 use Rattle.room.specs.Room.{slotsOf, lastOf, free, sized}
+use Rattle.parties.specs.declared.Caller.{Caller}
+use Rattle.parties.specs.Parties.{ours, turns}
 use Rattle.rules.specs.declared.RoomKind.{RoomKind}
 use Rattle.opened.specs.Sound.{soundSlot}
 use Rattle.judge.specs.Verdict.{Verdict, verdict, unlessRefused}
-use Rattle.cleanup.specs.Every.{every}
+use Rattle.base.specs.Every.{every}
 use Rattle.stale.specs.Uses.{cleaned}
 
--- ---- refusals: 1 to 4 of the settings, then 5 and 6
+-- ---- refusals: 1 to 4 of the settings, then 5, 6, 15 and 16
 
 -- "Cleanup judges every slot in use"
 unfoldable pub slotPasses : RoomKind → Settings → List ℕ → ℕ → Bool
@@ -26,13 +28,14 @@ slotPasses kind s w i = free w i || soundSlot kind s w i
 abbrev pub allPass : RoomKind → Settings → List ℕ → Bool
 allPass kind s w = every (slotPasses kind s w) (slotsOf w)
 
--- 5: "the room's lengths are wrong, or the slot addressed is unsound"; 6: "the reading is below the last of a call not refused"
-unfoldable pub misfits : RoomKind → Settings → List ℕ → ℕ → List (ℕ × Bool)
-misfits kind s w t = (5, not (sized w && allPass kind s w)) ∷ (6, ltb t (lastOf w)) ∷ []
+-- 5: "the room's lengths are wrong, or the slot addressed is unsound", and "where a slot in use is neither party's"; 6: "the reading is below the last of a
+-- call not refused"
+unfoldable pub misfits : RoomKind → Settings → List ℕ → ℕ → Caller → List (ℕ × Bool)
+misfits kind s w t c = (5, not (sized w && (ours w && allPass kind s w))) ∷ (6, ltb t (lastOf w)) ∷ turns w c
 
--- the lowest that applies, or 0
-abbrev pub refusal : RoomKind → Settings → List ℕ → ℕ → ℕ
-refusal kind s w t = first (faults s ++ misfits kind s w t)
+-- the first that applies, or 0
+abbrev pub refusal : RoomKind → Settings → List ℕ → ℕ → Caller → ℕ
+refusal kind s w t c = first (faults s ++ misfits kind s w t c)
 
-unfoldable pub cleanup : RoomKind → Settings → List ℕ → ℕ → ℕ → Verdict DoneAnswer
-cleanup kind s w t stale = unlessRefused Refused (refusal kind s w t) w (verdict Done (cleaned w t (ticksIn s) stale))
+unfoldable pub cleanup : RoomKind → Settings → List ℕ → ℕ → Caller → ℕ → Verdict DoneAnswer
+cleanup kind s w t c stale = unlessRefused Refused (refusal kind s w t c) w (verdict Done (cleaned w t (ticksIn s) stale))

@@ -21,15 +21,17 @@ use Rattle.ring.specs.Order.{Fine}
 use Rattle.ring.specs.Ring.{buckets}
 use Rattle.ring.specs.Sound.{soundBuckets, sound-true}
 use Rattle.keys.specs.declared.Key.{Key}
-use Rattle.room.specs.Room.{slotsOf, ringOf, lastOf, useOf, bodyOf}
+use Rattle.room.specs.Room.{slotsOf, ringOf, lastOf, holderOf, useOf, usedAt, bodyOf}
+use Rattle.room.specs.Entries.{used-held, used-free}
+use Rattle.parties.specs.declared.Caller.{Caller}
 use Rattle.rules.specs.declared.RoomKind.the-variants as kind
 use Rattle.opened.specs.Sound.{limitOf, hasSeries, soundSeries}
 use Rattle.rules.specs.Stale.{seriesStays}
 use Rattle.cleanup.specs.Laws.{Passed, passed-sound, sound-parts}
-use Rattle.leaves.specs.Cleanup.{Cleaned, series-kept, clean-distinct}
+use Rattle.leaves.specs.Cleanup.{Cleaned, series-kept, same-key, clean-distinct}
 use Rattle.admissions.specs.Good.{good-later, good-drop}
 use Rattle.admissions.specs.Log.{Entry}
-use Rattle.places.specs.Has.{Has, has-or}
+use Rattle.places.specs.Has.{Has, free-has, has-or}
 use Rattle.demand3.specs.Kept.{GoodAt, Kept}
 
 no-buckets : (xs : List Bucket) → length xs ≤ 0 → xs ≡ []
@@ -53,12 +55,16 @@ module _ (s : Settings) (le : joinTicks s ≤ windowTicks s) (limit stale : ℕ)
           good-drop (windowTicks s) (joinTicks s) (cutWord limit) le (longest n stale) 0 hi (omega (arith, mul-le-mul-left n l)) f past g
       go true p true q h = absurd (false≢true (sym h))
 
-  module _ (k : Key) (w v : List ℕ) (t : ℕ) (log : List Entry) (p : Passed kind.Suppressed s w t) (c : Cleaned w v t (ticksIn s) stale)
+  module _ (k : Key) (w v : List ℕ) (t : ℕ) (who : Caller) (log : List Entry) (p : Passed kind.Suppressed s w t who) (c : Cleaned w v t (ticksIn s) stale)
       (a : Kept s k limit w log) where
     was : (i : ℕ) → Has v k i → Has w k i
     was i h =
         let n : i < slotsOf w = omega (arith, h .inside, c .slots) in
-        record { inside = n; key = sym (c .keys i) ∙ h .key; series = and-true (hasSeries (useOf w i)) _ (sym (series-kept c i n) ∙ h .series) .0 }
+        record {
+          inside = n;
+          key = sym (same-key c i n (λ z. free-has z h)) ∙ h .key;
+          series = and-true (hasSeries (usedAt w i)) _ (sym (series-kept c i n) ∙ h .series) .0;
+        }
 
     view-is : (i : ℕ) → buckets (ringOf v) (bodyOf v i) ≡ buckets (ringOf w) (bodyOf w i)
     view-is i = ap₂ buckets (c .ring) (c .bodies i)
@@ -69,8 +75,9 @@ module _ (s : Settings) (le : joinTicks s ≤ windowTicks s) (limit stale : ℕ)
     in-order : (i : ℕ) → Has w k i → Fine 0 (buckets (ringOf w) (bodyOf w i)) (lastOf w)
     unfolding soundSeries
     in-order i h =
-        let q = sound-parts kind.Suppressed s w i (passed-sound kind.Suppressed s w t p i (h .inside) (λ z. false≢true (sym (ap hasSeries z) ∙ h .series))) in
-        let r = other-true (hasSeries (useOf w i)) _ (h .series) (q .series) in
+        let m : holderOf w i ≢ 0 = λ z. free-has z h in
+        let q = sound-parts kind.Suppressed s w i (passed-sound kind.Suppressed s w t who p i (h .inside) m) in
+        let r = other-true (hasSeries (useOf w i)) _ (ap hasSeries (sym (used-held w i m)) ∙ h .series) (q .series) in
         sound-true (ringOf w) (bodyOf w i) (lastOf w) (and-true (soundBuckets (ringOf w) (bodyOf w i) (lastOf w)) _ r .0) .each
 
     -- no slot of v has k's series
@@ -79,11 +86,9 @@ module _ (s : Settings) (le : joinTicks s ≤ windowTicks s) (limit stale : ℕ)
       where
         stood : (i : ℕ) (h : Has w k i) (z : Bool) → seriesStays (buckets (ringOf w) (bodyOf w i)) t (ticksIn s) stale ≡ z → GoodAt s limit t [] log
         stood i h true e =
-            absurd (f i (record {
-              inside = omega (arith, h .inside, c .slots);
-              key = c .keys i ∙ h .key;
-              series = series-kept c i (h .inside) ∙ true-and (hasSeries (useOf w i)) _ (h .series) e;
-            }))
+            let r : hasSeries (usedAt v i) ≡ true = series-kept c i (h .inside) ∙ true-and (hasSeries (usedAt w i)) _ (h .series) e in
+            let m : holderOf v i ≢ 0 = λ z. false≢true (sym (ap hasSeries (used-free v i z)) ∙ r) in
+            absurd (f i (record { inside = omega (arith, h .inside, c .slots); key = same-key c i (h .inside) m ∙ h .key; series = r }))
         stood i h false e = dropped t (lastOf w) (buckets (ringOf w) (bodyOf w i)) log (in-order i h) e (later _ (a .good i h))
 
     pub cleaned-kept : Kept s k limit v log

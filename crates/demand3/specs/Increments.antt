@@ -22,9 +22,9 @@ use Rattle.ring.specs.Order.{Fine, fine-drop}
 use Rattle.ring.specs.Ring.{countOf, deniedOf, sumOf, counts, declineds, buckets}
 use Rattle.ring.specs.Sums.{sum-none}
 use Rattle.room.specs.Room.{ringOf, bodyOf}
-use Rattle.keys.specs.Keys.{keyOf}
 use Rattle.frame.specs.Distinct.{Distinct}
 use Rattle.frame.specs.Keys.{Bytes}
+use Rattle.parties.specs.Parties.{Sent, keyFor, noneLeft}
 use Rattle.change.specs.declared.Change.{Change}
 use Rattle.edit.specs.declared.Edit.{Edit}
 use Rattle.edit.specs.declared.Then.the-variants.{Increment}
@@ -44,7 +44,7 @@ use Rattle.rules.specs.declared.Caching.{Caching}
 use Rattle.rules.specs.declared.Outcome.{Outcome}
 use Rattle.rules.specs.Held.{Held}
 use Rattle.rules.specs.Suppressed.{limitFor, forecast, outcome, incTurns}
-use Rattle.judge.specs.Held.{heldIn, noneFree}
+use Rattle.judge.specs.Held.{heldIn}
 use Rattle.plan.specs.Seen.{Seen, seen, held-there}
 use Rattle.sweep.specs.Measured.{evicted-live}
 use Rattle.suppressed_verdicts.specs.Calls.{inc}
@@ -59,6 +59,7 @@ use Rattle.places.specs.Placed.{Own, own-either}
 use Rattle.steps.specs.Each.{draws-does}
 use Rattle.steps.specs.Moves.{moves-placed}
 use Rattle.demand3.specs.History.{IsKey, admitsCount}
+use Rattle.demand3.specs.Keys.{key-held}
 use Rattle.demand3.specs.Decided.{admits-refused, number-refused, declines, admits-hard, allows-soft}
 use Rattle.demand3.specs.Kept.{GoodAt, Kept}
 use Rattle.demand3.specs.Owned.{after-series, edit-kept, limit-known, good-known, left-is, left-fine, left-sums, good-left, good-bare}
@@ -96,7 +97,7 @@ module _ (s : Settings) (x : Slot) (rate : RateLimit) where
 
 -- ---- an increment that is not refused changes the key's slot
 
-module _ (s : Settings) (w : List ℕ) (t : ℕ) (j : List ℕ) (rate : RateLimit) (c draw : ℕ) where
+module _ (s : Settings) (w : List ℕ) (t : ℕ) (j : Sent) (rate : RateLimit) (c draw : ℕ) where
   -- as its first look leaves it
   abbrev x : Slot
   x = lookedIn s w t j
@@ -110,15 +111,16 @@ module _ (s : Settings) (w : List ℕ) (t : ℕ) (j : List ℕ) (rate : RateLimi
   abbrev change : Change
   change = incChange x (limitFor s rate (heldIn w j)) c (o .declined) (o .caching)
 
-  own : Bytes j → early kind.Suppressed s w t j ≡ 0 → first (incTurns s (ringOf w) (noneFree w) t rate c draw (heldIn w j)) ≡ 0 → Distinct w →
-      Own w (applied w (placeOf w x) j (joinTicks s) t change) (placeOf w x) (joinTicks s) t (keyOf j) edit
+  own : Bytes (j .bytes) → early kind.Suppressed s w t j ≡ 0 →
+      first (incTurns s (ringOf w) (noneLeft w (j .caller)) t rate c draw (heldIn w j)) ≡ 0 → Distinct w →
+      Own w (applied w (placeOf w x) j (joinTicks s) t change) (placeOf w x) (joinTicks s) t (keyFor j) edit
   unfolding incChange
   own by e f d =
       let m = draws-does s w t j rate c draw by e f in
-      own-either w (placeOf w x) j (joinTicks s) t d edit (hasSlot x) (m .applies) (moves-placed (slotIn s w t j) w (keyOf j) (placeOf w x) change (m .moves))
+      own-either w (placeOf w x) j (joinTicks s) t d edit (hasSlot x) (m .applies) (moves-placed (slotIn s w t j) w (keyFor j) (placeOf w x) change (m .moves))
 
-module _ (s : Settings) (le : joinTicks s ≤ windowTicks s) (limit : ℕ) (key : List ℕ) (is : IsKey key) (w : List ℕ) (t : ℕ) (log : List Entry)
-    (a : Kept s (keyOf key) limit w log) where
+module _ (s : Settings) (le : joinTicks s ≤ windowTicks s) (limit : ℕ) (key : Sent) (is : IsKey key) (w : List ℕ) (t : ℕ) (log : List Entry)
+    (a : Kept s (keyFor key) limit w log) where
   -- ---- the key itself: `yes` says whether c is admitted
 
   module _ (p : Passed kind.Suppressed s w t key) (c d : ℕ) (yes : Bool) (q : d ≡ cond yes 0 c) (v : List ℕ) (k : Caching) where
@@ -135,11 +137,11 @@ module _ (s : Settings) (le : joinTicks s ≤ windowTicks s) (limit : ℕ) (key 
     u = opens-looked s w t key p
 
     joins-known : known .series ≡ true → (yes ≡ true → forecastAt known c ≤ cutWord limit) →
-        Own w v (known .at) (joinTicks s) t (keyOf key) (recached known k (evicting known (Increment c d))) →
-        Kept s (keyOf key) limit v (noted yes t c log)
+        Own w v (known .at) (joinTicks s) t (keyFor key) (recached known k (evicting known (Increment c d))) →
+        Kept s (keyFor key) limit v (noted yes t c log)
     unfolding recached editedView actedView startedView
     joins-known e f o =
-        edit-kept s le limit (keyOf key) w v (known .at) (recached known k (evicting known (Increment c d))) t (noted yes t c log) o
+        edit-kept s le limit (keyFor key) (key-held key is) w v (known .at) (recached known k (evicting known (Increment c d))) t (noted yes t c log) o
         (λ h. record {
           limit-is = limit-known s le limit key is w t log a p evicts known u e;
           good =
@@ -150,11 +152,11 @@ module _ (s : Settings) (le : joinTicks s ≤ windowTicks s) (limit : ℕ) (key 
         (λ h. absurd (true≢false (sym (after-series k known) ∙ h)))
 
     joins-new : (at l m n o : ℕ) → known .series ≡ false → l ≡ limit → (yes ≡ true → c ≤ cutWord limit) →
-        Own w v at (joinTicks s) t (keyOf key) (recached known k (opening l (Increment c d) m n o)) →
-        Kept s (keyOf key) limit v (noted yes t c log)
+        Own w v at (joinTicks s) t (keyFor key) (recached known k (opening l (Increment c d) m n o)) →
+        Kept s (keyFor key) limit v (noted yes t c log)
     unfolding recached editedView actedView startedView
     joins-new at l m n o e r f z =
-        edit-kept s le limit (keyOf key) w v at (recached known k (opening l (Increment c d) m n o)) t (noted yes t c log) z
+        edit-kept s le limit (keyFor key) (key-held key is) w v at (recached known k (opening l (Increment c d) m n o)) t (noted yes t c log) z
         (λ h. record {
           limit-is = r;
           good =
@@ -213,8 +215,8 @@ module _ (s : Settings) (le : joinTicks s ≤ windowTicks s) (limit : ℕ) (key 
         subst (λ (l : ℕ). forecastAt slot c ≤ cutWord l) (limit-is p)
         (subst (λ (n : ℕ). n ≤ cutWord deciding) (forecast-is p) (admits-hard s t deciding c draw held (p .settings .factor) y))
 
-    done-kept : (e : early kind.Suppressed s w t key ≡ 0) → first (incTurns s (ringOf w) (noneFree w) t rate c draw held) ≡ 0 →
-        Kept s (keyOf key) limit (applied w (placeOf w slot) key (joinTicks s) t (incChange slot (deciding) c (out .declined) (out .caching)))
+    done-kept : (e : early kind.Suppressed s w t key ≡ 0) → first (incTurns s (ringOf w) (noneLeft w (key .caller)) t rate c draw held) ≡ 0 →
+        Kept s (keyFor key) limit (applied w (placeOf w slot) key (joinTicks s) t (incChange slot (deciding) c (out .declined) (out .caching)))
         (noted (admitsCount (out .decision)) t c log)
     done-kept e f = go (slot .series) refl
       where
@@ -227,28 +229,28 @@ module _ (s : Settings) (le : joinTicks s ≤ windowTicks s) (limit : ℕ) (key 
         q : out .declined ≡ cond (admitsCount (out .decision)) 0 c
         q = declines s t deciding c draw held
 
-        go : (z : Bool) → slot .series ≡ z → Kept s (keyOf key) limit v (noted (admitsCount (out .decision)) t c log)
+        go : (z : Bool) → slot .series ≡ z → Kept s (keyFor key) limit v (noted (admitsCount (out .decision)) t c log)
         go true h =
             joins-known p c (out .declined) (admitsCount (out .decision)) q v (out .caching) h (below p)
-            (subst (λ (y : Edit). Own w v (slot .at) (joinTicks s) t (keyOf key) (recached slot (out .caching) y))
+            (subst (λ (y : Edit). Own w v (slot .at) (joinTicks s) t (keyFor key) (recached slot (out .caching) y))
             (edit-known s slot rate (deciding) c (out .declined) h)
-            (subst (λ (i : ℕ). Own w v i (joinTicks s) t (keyOf key) (recached slot (out .caching) (incEdit slot (deciding) c (out .declined))))
+            (subst (λ (i : ℕ). Own w v i (joinTicks s) t (keyFor key) (recached slot (out .caching) (incEdit slot (deciding) c (out .declined))))
             (place-used w slot (known-has slot h))
             (own s w t key rate c draw (is .bytes) e f (a .distinct))))
         go false h =
             joins-new p c (out .declined) (admitsCount (out .decision)) q v (out .caching) (placeOf w slot) (deciding) (slot .factor)
             (slot .«factor_time») (slot .used) h (limit-is p)
             (λ y. omega (arith, below p y, nothing p h))
-            (subst (λ (y : Edit). Own w v (placeOf w slot) (joinTicks s) t (keyOf key) (recached slot (out .caching) y))
+            (subst (λ (y : Edit). Own w v (placeOf w slot) (joinTicks s) t (keyFor key) (recached slot (out .caching) y))
             (edit-new s slot rate (deciding) c (out .declined) h)
             (own s w t key rate c draw (is .bytes) e f (a .distinct)))
 
-    pub inc-own : Kept s (keyOf key) limit (inc s w t key rate c draw .words) (noted (admitsCount (inc s w t key rate c draw .answer)) t c log)
+    pub inc-own : Kept s (keyFor key) limit (inc s w t key rate c draw .words) (noted (admitsCount (inc s w t key rate c draw .answer)) t c log)
     unfolding inc
     inc-own =
-        call-either decided.Refused kind.Suppressed s w t key (incTurns s (ringOf w) (noneFree w) t rate c draw held) _
-        (λ v. Kept s (keyOf key) limit (v .words) (noted (admitsCount (v .answer)) t c log))
-        (λ m z. subst (λ (y : Bool). Kept s (keyOf key) limit w (noted y t c log)) (sym (admits-refused m)) a) done-kept
+        call-either decided.Refused kind.Suppressed s w t key (incTurns s (ringOf w) (noneLeft w (key .caller)) t rate c draw held) _
+        (λ v. Kept s (keyFor key) limit (v .words) (noted (admitsCount (v .answer)) t c log))
+        (λ m z. subst (λ (y : Bool). Kept s (keyFor key) limit w (noted y t c log)) (sym (admits-refused m)) a) done-kept
 
     -- ---- what is at most S, with all admitted at ages that a first look takes for the window at most, is Allowed
 
@@ -274,7 +276,7 @@ module _ (s : Settings) (le : joinTicks s ≤ windowTicks s) (limit : ℕ) (key 
         inc s w t key rate c draw .answer ≡ decided.Allowed
     unfolding inc
     inc-soft =
-        call-either decided.Refused kind.Suppressed s w t key (incTurns s (ringOf w) (noneFree w) t rate c draw held) _
+        call-either decided.Refused kind.Suppressed s w t key (incTurns s (ringOf w) (noneLeft w (key .caller)) t rate c draw held) _
         (λ v. numberOf (decisionRow (v .answer)) ≡ 0 → c + aged (lookTicks s) t log ≤ softWord (factorIn s) limit → v .answer ≡ decided.Allowed)
         (λ m z n h. absurd (z (sym (number-refused m) ∙ n)))
         (λ e f n h.

@@ -14,8 +14,9 @@ use Rattle.settings.specs.declared.Settings.{Settings}
 use Rattle.ring.specs.declared.Bucket.{Bucket}
 use Rattle.ring.specs.Ring.{buckets}
 use Rattle.keys.specs.declared.Key.{Key}
-use Rattle.room.specs.Room.{ringOf, lastOf, useOf, bodyOf}
-use Rattle.frame.specs.Distinct.{Distinct}
+use Rattle.room.specs.Room.{ringOf, lastOf, usedAt, bodyOf}
+use Rattle.room.specs.Entries.{used-held}
+use Rattle.frame.specs.Distinct.{Distinct, changed-holder}
 use Rattle.frame.specs.Frame.{Changed}
 use Rattle.opened.specs.Sound.{limitOf, hasSeries}
 use Rattle.admissions.specs.Good.{Good, good-later}
@@ -54,9 +55,10 @@ module _ (s : Settings) (le : joinTicks s ≤ windowTicks s) (k : Key) (limit : 
     pub limit-is : limitOf b ≡ limit
     pub good : GoodAt s limit t (buckets r b) log
 
-  pub kept-own : (w v : List ℕ) (at u : ℕ) (b : List ℕ) (t : ℕ) (log : List Entry) → Changed w v at u k b t → Distinct v → ((i : ℕ) → i ≢ at → Has w k i → ⊥) →
+  pub kept-own : k .holder ≢ 0 → (w v : List ℕ) (at u : ℕ) (b : List ℕ) (t : ℕ) (log : List Entry) → Changed w v at u k b t → Distinct v →
+      ((i : ℕ) → i ≢ at → Has w k i → ⊥) →
       (hasSeries u ≡ true → Stored (ringOf w) b t log) → (hasSeries u ≡ false → GoodAt s limit t [] log) → Kept s k limit v log
-  kept-own w v at u b t log c d only f g = record {
+  kept-own m w v at u b t log c d only f g = record {
     distinct = d;
     limits = λ i p. own-limit i p (here i p);
     good = λ i p. own-good i p (here i p);
@@ -70,8 +72,11 @@ module _ (s : Settings) (le : joinTicks s ≤ windowTicks s) (k : Key) (limit : 
           go (yes e) = e
           go (no n) = absurd (only i n (other-back c k i n p))
 
+      used-here : usedAt v at ≡ u
+      used-here = used-held v at (λ z. m (sym (changed-holder c) ∙ z)) ∙ c .used
+
       stored : (i : ℕ) → Has v k i → i ≡ at → Stored (ringOf w) b t log
-      stored i p e = f (ap hasSeries (sym (c .used)) ∙ ap (λ (j : ℕ). hasSeries (useOf v j)) (sym e) ∙ p .series)
+      stored i p e = f (ap hasSeries (sym used-here) ∙ ap (λ (j : ℕ). hasSeries (usedAt v j)) (sym e) ∙ p .series)
 
       body-is : (i : ℕ) → i ≡ at → bodyOf v i ≡ b
       body-is i e = ap (bodyOf v) e ∙ c .body
@@ -85,5 +90,5 @@ module _ (s : Settings) (le : joinTicks s ≤ windowTicks s) (k : Key) (limit : 
           (subst (λ (m : ℕ). GoodAt s limit m (buckets (ringOf w) b) log) (sym (c .last)) (stored i p e .good))
 
       none : ((i : ℕ) → Has v k i → ⊥) → (z : Bool) → hasSeries u ≡ z → hasSeries u ≡ false
-      none n true e = absurd (n at (record { inside = omega (arith, c .inside, c .slots); key = c .key; series = ap hasSeries (c .used) ∙ e }))
+      none n true e = absurd (n at (record { inside = omega (arith, c .inside, c .slots); key = c .key; series = ap hasSeries used-here ∙ e }))
       none n false e = e

@@ -1,7 +1,9 @@
 pub mod History
+pub mod Keys
 pub mod Kept
 pub mod Decided
 pub mod Cleans
+pub mod Clears
 pub mod Steps
 pub mod Owned
 pub mod Increments

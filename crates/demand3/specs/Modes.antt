@@ -13,6 +13,7 @@ use Rattle.settings.specs.declared.Settings.{Settings}
 use Rattle.answers.specs.declared.RateLimitDecision.the-variants.{Allowed}
 use Rattle.common.specs.declared.units.RateLimit.{RateLimit}
 use Rattle.room.specs.Room.{empty}
+use Rattle.parties.specs.Parties.{Sent}
 use Rattle.rules.specs.declared.RoomKind.the-variants.{Suppressed}
 use Rattle.suppressed_verdicts.specs.Calls as Calls
 use Rattle.admissions.specs.Log.{inSpan, aged, span-mono, aged-mono}
@@ -24,12 +25,12 @@ use Rattle.demand3.specs.Demand3.{lessBucket, lookBack, increment, missi
 
 abbrev pub CeilingIn : ClockMode → (Settings → Type 0) → (Settings → ℕ) → Clause → Type 0
 CeilingIn mode Asked span P =
-    (s : Settings) (slots ring : ℕ) (key : List ℕ) (rate : RateLimit) (calls : List (Call Suppressed)) → s .«clock_mode» ≡ mode → Asked s →
+    (s : Settings) (slots ring : ℕ) (key : Sent) (rate : RateLimit) (calls : List (Call Suppressed)) → s .«clock_mode» ≡ mode → Asked s →
     IsKey key → AllBy P s key rate (empty slots ring) calls → (from : ℕ) → inSpan from (from + span s) (admitted s key (empty slots ring) calls) ≤ hardOf s rate
 
 abbrev pub FloorIn : ClockMode → (Settings → Type 0) → (Settings → ℕ) → Clause → Type 0
 FloorIn mode Asked back P =
-    (s : Settings) (slots ring : ℕ) (key : List ℕ) (rate : RateLimit) (calls : List (Call Suppressed)) (t : ℕ) (asked : RateLimit) (count draw : ℕ) →
+    (s : Settings) (slots ring : ℕ) (key : Sent) (rate : RateLimit) (calls : List (Call Suppressed)) (t : ℕ) (asked : RateLimit) (count draw : ℕ) →
     s .«clock_mode» ≡ mode → Asked s → IsKey key → AllBy P s key rate (empty slots ring) (increment t key asked count draw ∷ calls) →
     answerNumber Suppressed s (words Suppressed s (empty slots ring) calls) t (draws key asked count draw) ≡ 0 →
     count + aged (back s) t (admitted s key (empty slots ring) calls) ≤ softOf s rate →

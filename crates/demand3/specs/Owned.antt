@@ -4,6 +4,7 @@
 use mathlib.Core.Path.{_≡_, refl, sym, ap, ap₂, subst, _∙_}
 use mathlib.Core.Bool.{Bool, true, false, _||_, cond, false≢true, true≢false}
 use mathlib.Core.List.{List, []}
+use mathlib.Core.Logic.{_≢_}
 use Prim.Native.Nat.{ℕ, _-_, _≤_}
 use lib.Dec.{eqb}
 use lib.ListN.{drop}
@@ -25,8 +26,9 @@ use Rattle.ring.specs.Order.{Fine, fine-drop}
 use Rattle.ring.specs.Ring.{counts, declineds, buckets}
 use Rattle.keys.specs.declared.Key.{Key}
 use Rattle.room.specs.Room.{ringOf, bodyOf}
-use Rattle.keys.specs.Keys.{keyOf}
-use Rattle.frame.specs.Distinct.{distinct-freed}
+use Rattle.room.specs.Entries.{used-held}
+use Rattle.frame.specs.Distinct.{changed-holder, distinct-freed}
+use Rattle.parties.specs.Parties.{Sent, keyFor, noneLeft}
 use Rattle.change.specs.declared.Change.the-variants.{Keep, Free, Update}
 use Rattle.edit.specs.declared.Edit.{Edit}
 use Rattle.edit.specs.declared.Then.the-variants as then
@@ -49,7 +51,7 @@ use Rattle.shared_opened.specs.Opened.{deleting, forgotten, usedWith, limiting}
 use Rattle.sets_opened.specs.Sets.{setting}
 use Rattle.rules.specs.Sets.{stillFor, setTurns, rateTurns}
 use Rattle.rules.specs.Suppressed.{asking, factorTurns}
-use Rattle.judge.specs.Held.{heldIn, noneFree}
+use Rattle.judge.specs.Held.{heldIn}
 use Rattle.calls.specs.Delete.{delete}
 use Rattle.calls.specs.Rate.{setRateLimit}
 use Rattle.calls.specs.Set.{set}
@@ -70,6 +72,7 @@ use Rattle.steps.specs.Each.{snapshot-does, factor-does}
 use Rattle.steps.specs.Moves.{moves-placed}
 use Rattle.steps.specs.Places.{owns, series-has, has-series}
 use Rattle.demand3.specs.History.{IsKey}
+use Rattle.demand3.specs.Keys.{key-held}
 use Rattle.demand3.specs.Kept.{GoodAt, Kept, kept-same, kept-own}
 use Rattle.demand3.specs.Steps.{keep-kept}
 
@@ -106,18 +109,18 @@ module _ (s : Settings) (le : joinTicks s ≤ windowTicks s) (limit : ℕ) where
     pub limit-is : e .limit ≡ limit
     pub good : GoodAt s limit t (editedView (joinTicks s) t e xs) log
 
-  pub edit-kept : (k : Key) (w v : List ℕ) (at : ℕ) (e : Edit) (t : ℕ) (log : List Entry) → Own w v at (joinTicks s) t k e →
+  pub edit-kept : (k : Key) → k .holder ≢ 0 → (w v : List ℕ) (at : ℕ) (e : Edit) (t : ℕ) (log : List Entry) → Own w v at (joinTicks s) t k e →
       (hasSeries (e .used) ≡ true → Leaves t e (buckets (ringOf w) (bodyOf w at)) log) → (hasSeries (e .used) ≡ false → GoodAt s limit t [] log) →
       Kept s k limit v log
-  edit-kept k w v at e t log o f g =
+  edit-kept k m w v at e t log o f g =
       let d = edited-is (ringOf w) (joinTicks s) t (bodyOf w at) e (o .edits .edits) in
-      kept-own s le k limit w v at (e .used) (edited (ringOf w) (joinTicks s) t (bodyOf w at) e) t log (o .changed) (o .distinct) (o .only)
+      kept-own s le k limit m w v at (e .used) (edited (ringOf w) (joinTicks s) t (bodyOf w at) e) t log (o .changed) (o .distinct) (o .only)
       (λ h. record { limit-is = d .limit ∙ f h .limit-is; good = subst (λ (xs : List Bucket). GoodAt s limit t xs log) (sym (d .view)) (f h .good) }) g
 
-  -- ---- what a call that passes refusals 1 to 7 knows of the key
+  -- ---- what a call that passes refusals 1 to 7, 15 and 16 knows of the key
 
   -- of its slot x, as it is opened or as a first look leaves it
-  module _ (key : List ℕ) (is : IsKey key) (w : List ℕ) (t : ℕ) (log : List Entry) (a : Kept s (keyOf key) limit w log)
+  module _ (key : Sent) (is : IsKey key) (w : List ℕ) (t : ℕ) (log : List Entry) (a : Kept s (keyFor key) limit w log)
       (p : Passed kind.Suppressed s w t key) (out : Bool) (x : Slot) (u : Opens s w t key out x) where
     abbrev view : List Bucket
     view = buckets (ringOf w) (bodyOf w (x .at))
@@ -128,11 +131,11 @@ module _ (s : Settings) (le : joinTicks s ≤ windowTicks s) (limit : ℕ) where
     slot-has : hasSlot x ≡ hasSlot (slotIn s w t key)
     slot-has = ap₂ (λ (y z : Bool). y || z) slot-series (u .seen .cached-is ∙ sym (seen kind.Suppressed s w t key p .cached-is))
 
-    has-here : x .series ≡ true → Has w (keyOf key) (x .at)
-    has-here e = subst (λ (i : ℕ). Has w (keyOf key) i) (sym (u .at-is)) (series-has kind.Suppressed s w t key p (sym slot-series ∙ e))
+    has-here : x .series ≡ true → Has w (keyFor key) (x .at)
+    has-here e = subst (λ (i : ℕ). Has w (keyFor key) i) (sym (u .at-is)) (series-has kind.Suppressed s w t key p (sym slot-series ∙ e))
 
-    owns-here : hasSlot x ≡ true → Owns w (x .at) (keyOf key)
-    owns-here h = subst (λ (i : ℕ). Owns w i (keyOf key)) (sym (u .at-is)) (owns kind.Suppressed s w t key p (sym slot-has ∙ h))
+    owns-here : hasSlot x ≡ true → Owns w (x .at) (keyFor key)
+    owns-here h = subst (λ (i : ℕ). Owns w i (keyFor key)) (sym (u .at-is)) (owns kind.Suppressed s w t key p (sym slot-has ∙ h))
 
     pub limit-known : x .series ≡ true → x .limit ≡ limit
     limit-known e = u .stood .known e .limit-is ∙ a .limits (x .at) (has-here e)
@@ -173,50 +176,52 @@ module _ (s : Settings) (le : joinTicks s ≤ windowTicks s) (limit : ℕ) where
 
     -- ---- get, and get_suppression_factor
 
-    evict-kept : (v : List ℕ) (k : Caching) → x .series ≡ true → Own w v (x .at) (joinTicks s) t (keyOf key) (recached x k (evicting x then.Nothing)) →
-        Kept s (keyOf key) limit v log
+    evict-kept : (v : List ℕ) (k : Caching) → x .series ≡ true → Own w v (x .at) (joinTicks s) t (keyFor key) (recached x k (evicting x then.Nothing)) →
+        Kept s (keyFor key) limit v log
     unfolding recached editedView actedView startedView
     evict-kept v k e o =
-        edit-kept (keyOf key) w v (x .at) (recached x k (evicting x then.Nothing)) t log o (λ h. record { limit-is = limit-known e; good = good-left e })
+        edit-kept (keyFor key) (key-held key is) w v (x .at) (recached x k (evicting x then.Nothing)) t log o
+        (λ h. record { limit-is = limit-known e; good = good-left e })
         (λ h. absurd (true≢false (sym (after-series k x) ∙ h)))
 
     change-kept : (k : Caching) → Applies w (x .at) (joinTicks s) t (getChange x k) →
-        Kept s (keyOf key) limit (applied w (x .at) key (joinTicks s) t (getChange x k)) log
+        Kept s (keyFor key) limit (applied w (x .at) key (joinTicks s) t (getChange x k)) log
     unfolding getChange
     change-kept k o = go (x .series) refl o
       where
         go : (z : Bool) → x .series ≡ z → Applies w (x .at) (joinTicks s) t (cond z (Update (recached x k (evicting x then.Nothing))) Keep) →
-            Kept s (keyOf key) limit (applied w (x .at) key (joinTicks s) t (cond z (Update (recached x k (evicting x then.Nothing))) Keep)) log
+            Kept s (keyFor key) limit (applied w (x .at) key (joinTicks s) t (cond z (Update (recached x k (evicting x then.Nothing))) Keep)) log
         go true e q =
             let c = recached x k (evicting x then.Nothing) in
             evict-kept _ k e (own-either w (x .at) key (joinTicks s) t (a .distinct) c true q (owns-here (known-has x e)))
         go false e q = keep-kept s le limit key is w t log a (x .at) key q (p .later)
 
     lone-kept : (k : Caching) → x .series ≡ false → Applies w (placeOf w x) (joinTicks s) t (loneChange (x .cached) k t) →
-        Placed w (placeOf w x) (keyOf key) (loneChange (x .cached) k t) →
-        Kept s (keyOf key) limit (applied w (placeOf w x) key (joinTicks s) t (loneChange (x .cached) k t)) log
+        Placed w (placeOf w x) (keyFor key) (loneChange (x .cached) k t) →
+        Kept s (keyFor key) limit (applied w (placeOf w x) key (joinTicks s) t (loneChange (x .cached) k t)) log
     lone-kept Left e o q = keep-kept s le limit key is w t log a (placeOf w x) key o (p .later)
     lone-kept (Cached k) e o q =
-        edit-kept (keyOf key) w _ (placeOf w x) (loneEdit t) t log (own-either w (placeOf w x) key (joinTicks s) t (a .distinct) (loneEdit t) (x .cached) o q)
+        edit-kept (keyFor key) (key-held key is) w _ (placeOf w x) (loneEdit t) t log
+        (own-either w (placeOf w x) key (joinTicks s) t (a .distinct) (loneEdit t) (x .cached) o q)
         (λ h. absurd (false≢true h)) (λ h. good-bare e)
 
-    factor-kept : (k : Caching) → Applies w (placeOf w x) (joinTicks s) t (factorChange x k t) → Placed w (placeOf w x) (keyOf key) (factorChange x k t) →
-        Kept s (keyOf key) limit (applied w (placeOf w x) key (joinTicks s) t (factorChange x k t)) log
+    factor-kept : (k : Caching) → Applies w (placeOf w x) (joinTicks s) t (factorChange x k t) → Placed w (placeOf w x) (keyFor key) (factorChange x k t) →
+        Kept s (keyFor key) limit (applied w (placeOf w x) key (joinTicks s) t (factorChange x k t)) log
     unfolding factorChange
     factor-kept k o q = go (x .series) refl o q
       where
         go : (z : Bool) → x .series ≡ z → Applies w (placeOf w x) (joinTicks s) t (cond z (getChange x k) (loneChange (x .cached) k t)) →
-            Placed w (placeOf w x) (keyOf key) (cond z (getChange x k) (loneChange (x .cached) k t)) →
-            Kept s (keyOf key) limit (applied w (placeOf w x) key (joinTicks s) t (cond z (getChange x k) (loneChange (x .cached) k t))) log
+            Placed w (placeOf w x) (keyFor key) (cond z (getChange x k) (loneChange (x .cached) k t)) →
+            Kept s (keyFor key) limit (applied w (placeOf w x) key (joinTicks s) t (cond z (getChange x k) (loneChange (x .cached) k t))) log
         go true e g v =
             let n = place-used w x (known-has x e) in
-            subst (λ (i : ℕ). Kept s (keyOf key) limit (applied w i key (joinTicks s) t (getChange x k)) log) (sym n)
+            subst (λ (i : ℕ). Kept s (keyFor key) limit (applied w i key (joinTicks s) t (getChange x k)) log) (sym n)
             (change-kept k (subst (λ (i : ℕ). Applies w i (joinTicks s) t (getChange x k)) n g))
         go false e g v = lone-kept k e g v
 
   -- ---- of the slot as it is opened
 
-  module _ (key : List ℕ) (is : IsKey key) (w : List ℕ) (t : ℕ) (log : List Entry) (a : Kept s (keyOf key) limit w log)
+  module _ (key : Sent) (is : IsKey key) (w : List ℕ) (t : ℕ) (log : List Entry) (a : Kept s (keyFor key) limit w log)
       (p : Passed kind.Suppressed s w t key) where
     abbrev x : Slot
     x = slotIn s w t key
@@ -227,90 +232,94 @@ module _ (s : Settings) (le : joinTicks s ≤ windowTicks s) (limit : ℕ) where
     -- ---- set_rate_limit, with the same limit where the key is known
 
     limiting-kept : (l : ℕ) → (x .series ≡ true → l ≡ limit) → Applies w (x .at) (joinTicks s) t (limiting x l) →
-        Kept s (keyOf key) limit (applied w (x .at) key (joinTicks s) t (limiting x l)) log
+        Kept s (keyFor key) limit (applied w (x .at) key (joinTicks s) t (limiting x l)) log
     unfolding limiting editedView actedView startedView
     limiting-kept l same o = go (x .series) refl o
       where
         go : (z : Bool) → x .series ≡ z →
             Applies w (x .at) (joinTicks s) t (cond z (Update (relimited (keeping x then.Nothing) l (usedWith x l))) Keep) →
-            Kept s (keyOf key) limit (applied w (x .at) key (joinTicks s) t (cond z (Update (relimited (keeping x then.Nothing) l (usedWith x l))) Keep)) log
+            Kept s (keyFor key) limit (applied w (x .at) key (joinTicks s) t (cond z (Update (relimited (keeping x then.Nothing) l (usedWith x l))) Keep)) log
         go true e q =
             let c = relimited (keeping x then.Nothing) l (usedWith x l) in
-            let used : hasSeries (x .used) ≡ true = ap hasSeries (u .stood .known e .used-is) ∙ series-has kind.Suppressed s w t key p e .series in
-            edit-kept (keyOf key) w _ (x .at) c t log
+            let has = series-has kind.Suppressed s w t key p e in
+            let used : hasSeries (x .used) ≡ true =
+            ap hasSeries (u .stood .known e .used-is ∙ sym (used-held w (x .at) (λ z. free-has z has))) ∙ has .series in
+            edit-kept (keyFor key) (key-held key is) w _ (x .at) c t log
             (own-either w (x .at) key (joinTicks s) t (a .distinct) c true q (owns kind.Suppressed s w t key p (known-has x e)))
             (λ h. record { limit-is = same e; good = good-known key is w t log a p true x u e }) (λ h. absurd (true≢false (sym (used-series x l used) ∙ h)))
         go false e q = keep-kept s le limit key is w t log a (x .at) key q (p .later)
 
     -- ---- delete of a key that is unknown: at most a lone cached factor goes
 
-    freed-kept : x .series ≡ false → hasSlot x ≡ true → Kept s (keyOf key) limit (applied w (x .at) key (joinTicks s) t Free) log
+    freed-kept : x .series ≡ false → hasSlot x ≡ true → Kept s (keyFor key) limit (applied w (x .at) key (joinTicks s) t Free) log
     freed-kept e h =
         let c = free-changed w (x .at) key (joinTicks s) t (p .room) (slot-within kind.Suppressed s w t key p h) in
-        kept-same s le (keyOf key) limit w _ t log
-        (changed-same c (keyOf key) (λ q. true≢false (sym (has-series kind.Suppressed s w t key p (a .distinct) (x .at) q) ∙ e)) (λ q. free-has (c .used) q))
+        kept-same s le (keyFor key) limit w _ t log
+        (changed-same c (keyFor key) (λ q. true≢false (sym (has-series kind.Suppressed s w t key p (a .distinct) (x .at) q) ∙ e))
+        (λ q. free-has (changed-holder c) q))
         (p .later) (distinct-freed c (a .distinct) refl) a
 
-    deleting-kept : x .series ≡ false → Kept s (keyOf key) limit (applied w (x .at) key (joinTicks s) t (deleting x)) log
+    deleting-kept : x .series ≡ false → Kept s (keyFor key) limit (applied w (x .at) key (joinTicks s) t (deleting x)) log
     unfolding deleting
     deleting-kept e = go (hasSlot x) refl
       where
-        go : (z : Bool) → hasSlot x ≡ z → Kept s (keyOf key) limit (applied w (x .at) key (joinTicks s) t (cond z Free Keep)) log
+        go : (z : Bool) → hasSlot x ≡ z → Kept s (keyFor key) limit (applied w (x .at) key (joinTicks s) t (cond z Free Keep)) log
         go true h = freed-kept e h
         go false h = keep-kept s le limit key is w t log a (x .at) key (p .room) (p .later)
 
   -- ---- the calls
 
-  module _ (key : List ℕ) (is : IsKey key) (w : List ℕ) (t : ℕ) (log : List Entry) (a : Kept s (keyOf key) limit w log) where
-    pub get-own : Kept s (keyOf key) limit (get s w t key .words) log
+  module _ (key : Sent) (is : IsKey key) (w : List ℕ) (t : ℕ) (log : List Entry) (a : Kept s (keyFor key) limit w log) where
+    pub get-own : Kept s (keyFor key) limit (get s w t key .words) log
     unfolding get
     get-own =
         let k = asking s t true (heldIn w key) in
-        call-either gotten.Refused kind.Suppressed s w t key [] _ (λ v. Kept s (keyOf key) limit (v .words) log) (λ m z. a)
+        call-either gotten.Refused kind.Suppressed s w t key [] _ (λ v. Kept s (keyFor key) limit (v .words) log) (λ m z. a)
         (λ e f. let d = snapshot-does s w t key e in
         change-kept key is w t log a (d .passed) true (slotIn s w t key) (opens-slot s w t key (d .passed)) (k .caching) (d .applies))
 
-    pub factor-own : Kept s (keyOf key) limit (getFactor s w t key .words) log
+    pub factor-own : Kept s (keyFor key) limit (getFactor s w t key .words) log
     unfolding getFactor
     factor-own =
         let x = lookedIn s w t key in
         let k = asking s t (overdueIn s t (heldIn w key)) (heldIn w key) in
-        call-either factored.Refused kind.Suppressed s w t key (factorTurns (noneFree w) (heldIn w key)) _ (λ v. Kept s (keyOf key) limit (v .words) log)
-        (λ m z. a)
+        call-either factored.Refused kind.Suppressed s w t key (factorTurns (noneLeft w (key .caller)) (heldIn w key)) _
+        (λ v. Kept s (keyFor key) limit (v .words) log) (λ m z. a)
         (λ e f.
         let d = factor-does s w t key (is .bytes) e f in
         factor-kept key is w t log a (d .passed) (overdueIn s t (heldIn w key)) x (opens-looked s w t key (d .passed)) (k .caching) (d .applies)
-        (moves-placed (slotIn s w t key) w (keyOf key) (placeOf w x) (factorChange x (k .caching) t) (d .moves)))
+        (moves-placed (slotIn s w t key) w (keyFor key) (placeOf w x) (factorChange x (k .caching) t) (d .moves)))
 
     pub rate-own : (rate : RateLimit) → (heldIn w key .known ≡ true → limitIn kind.Suppressed s rate ≡ limit) →
-        Kept s (keyOf key) limit (setRateLimit kind.Suppressed s w t key rate .words) log
+        Kept s (keyFor key) limit (setRateLimit kind.Suppressed s w t key rate .words) log
     unfolding setRateLimit
     rate-own rate q =
         let l = limitIn kind.Suppressed s rate in
-        call-either rated.Refused kind.Suppressed s w t key (rateTurns rate) _ (λ v. Kept s (keyOf key) limit (v .words) log) (λ m z. a)
+        call-either rated.Refused kind.Suppressed s w t key (rateTurns rate) _ (λ v. Kept s (keyFor key) limit (v .words) log) (λ m z. a)
         (λ e f.
         let p = passed kind.Suppressed s w t key e in
         limiting-kept key is w t log a p l (λ h. q (sym (seen kind.Suppressed s w t key p .series-is) ∙ h)) (rate-applies kind.Suppressed s w t key l p))
 
     pub set-own : (rate : RateLimit) (comparator : RateLimitComparator) (count : ℕ) (mode : HistoryUpdateMode) →
         stillFor kind.Suppressed s t rate comparator count mode (heldIn w key) ≡ true →
-        Kept s (keyOf key) limit (set kind.Suppressed s w t key rate comparator count mode .words) log
+        Kept s (keyFor key) limit (set kind.Suppressed s w t key rate comparator count mode .words) log
     unfolding set setting
     set-own rate comparator count mode q =
         let x = slotIn s w t key in
-        call-either answered.Refused kind.Suppressed s w t key (setTurns kind.Suppressed s (noneFree w) t rate comparator count mode (heldIn w key)) _
-        (λ v. Kept s (keyOf key) limit (v .words) log) (λ m z. a)
+        call-either answered.Refused kind.Suppressed s w t key
+        (setTurns kind.Suppressed s (noneLeft w (key .caller)) t rate comparator count mode (heldIn w key)) _
+        (λ v. Kept s (keyFor key) limit (v .words) log) (λ m z. a)
         (λ e f.
         let p = passed kind.Suppressed s w t key e in
         subst
         (λ (z : Bool).
-        Kept s (keyOf key) limit (applied w (placeOf w x) key (joinTicks s) t (setting x z (limitIn kind.Suppressed s rate) count mode)) log)
+        Kept s (keyFor key) limit (applied w (placeOf w x) key (joinTicks s) t (setting x z (limitIn kind.Suppressed s rate) count mode)) log)
         (sym q) (keep-kept s le limit key is w t log a (placeOf w x) key (p .room) (p .later)))
 
-    pub delete-own : heldIn w key .known ≡ false → Kept s (keyOf key) limit (delete kind.Suppressed s w t key .words) log
+    pub delete-own : heldIn w key .known ≡ false → Kept s (keyFor key) limit (delete kind.Suppressed s w t key .words) log
     unfolding delete
     delete-own q =
-        call-either deleted.Refused kind.Suppressed s w t key [] _ (λ v. Kept s (keyOf key) limit (v .words) log) (λ m z. a)
+        call-either deleted.Refused kind.Suppressed s w t key [] _ (λ v. Kept s (keyFor key) limit (v .words) log) (λ m z. a)
         (λ e f.
         let p = passed kind.Suppressed s w t key e in
         deleting-kept key is w t log a p (seen kind.Suppressed s w t key p .series-is ∙ q))

@@ -1,5 +1,5 @@
 -- What `desk` and `shots` print of an answer, in 01's words: these are the definitions to hold beside the page.
--- t is the reading, x what is stored after the call.
+-- t is the reading, x what is stored after the call. One party calls, and is promised every slot.
 -- Assumes nothing.
 use mathlib.Core.Bool.{Bool, true, false, _&&_}
 use mathlib.Core.List.{List}
@@ -17,13 +17,21 @@ use Rattle.answers.specs.declared.TotalAnswer.{TotalAnswer}
 use Rattle.answers.specs.declared.TotalAnswer.the-variants as total
 use Rattle.common.specs.declared.units.RateLimit.{RateLimit}
 use Rattle.ring.specs.Ring.{totalOf, declinedOf}
+use Rattle.layout.specs.Layout.{firstMark}
 use Rattle.room.specs.Room.{sized, slotsOf, useOf, find, bodyOf}
 use Rattle.keys.specs.Keys.{keyOf}
 use Rattle.opened.specs.Sound.{hasSeries}
+use Rattle.parties.specs.declared.Caller.{Caller}
 use Rattle.printing.specs.declared.Answer.{Answer}
 use Rattle.printing.specs.declared.Answer.the-variants as answer
 use Rattle.printing.specs.declared.AnswerLine.{AnswerLine}
 use Rattle.desk_lines.specs.declared.Stored.{Stored}
+
+-- the one party, promised every slot of room w
+abbrev pub alone : List ℕ → Caller
+alone w = record { party = 1; first = slotsOf w; second = 0 }
+
+-- ---- what is stored of a key: the one party's
 
 abbrev pub noStored : Stored
 noStored = record { total = 0; declined = 0 }
@@ -37,7 +45,10 @@ pickStored false x = noStored
 
 unfoldable pub storedOf : List ℕ → List ℕ → Stored
 storedOf w key =
-    pickStored (sized w && (ltb (find w (keyOf key)) (slotsOf w) && hasSeries (useOf w (find w (keyOf key))))) (storedAt w (find w (keyOf key)))
+    let at = find w (keyOf firstMark key) in
+    pickStored (sized w && (ltb at (slotsOf w) && hasSeries (useOf w at))) (storedAt w at)
+
+-- ---- lines
 
 -- "Fields that do not apply, and on a refusal all after `answer`, are 0"
 abbrev pub refusedLine : ℕ → ℕ → AnswerLine

@@ -8,7 +8,7 @@ use native.Mathlib.Omega.{arith}
 use lib.ListN.{getD, drop}
 use lib.Seq.{getD-take, getD-drop}
 use borrow.Author.Tests.{lt-ltb, le-ltb}
-use Rattle.layout.specs.Layout.{sizeOf}
+use Rattle.layout.specs.Layout.{firstMark, sizeOf}
 use Rattle.room.specs.Room.{Room, sized, slotsOf, ringOf, useOf, find, startOf, bodyOf, bodyFrom}
 use Rattle.keys.specs.Keys.{keyOf}
 use Rattle.room.specs.Laws.{room-sized}
@@ -33,16 +33,16 @@ module _ (w key : List ℕ) where
   stored-unsized e = rw e
 
   -- the key has no slot
-  pub stored-none : (at : ℕ) → Room w → at ≡ find w (keyOf key) → slotsOf w ≤ at → noStored ≡ storedOf w key
+  pub stored-none : (at : ℕ) → Room w → at ≡ find w (keyOf firstMark key) → slotsOf w ≤ at → noStored ≡ storedOf w key
   unfolding storedOf
   stored-none at o e h = rw (room-sized w o, ← e, le-ltb at (slotsOf w) h)
 
   -- or no series
-  pub stored-lone : (at : ℕ) → Room w → at ≡ find w (keyOf key) → at < slotsOf w → hasSeries (useOf w at) ≡ false → noStored ≡ storedOf w key
+  pub stored-lone : (at : ℕ) → Room w → at ≡ find w (keyOf firstMark key) → at < slotsOf w → hasSeries (useOf w at) ≡ false → noStored ≡ storedOf w key
   unfolding storedOf
   stored-lone at o e h f = rw (room-sized w o, ← e, lt-ltb at (slotsOf w) h, f)
 
-  pub stored-is : (at start : ℕ) → Room w → at ≡ find w (keyOf key) → at < slotsOf w → hasSeries (useOf w at) ≡ true → start ≡ startOf w at →
+  pub stored-is : (at start : ℕ) → Room w → at ≡ find w (keyOf firstMark key) → at < slotsOf w → hasSeries (useOf w at) ≡ true → start ≡ startOf w at →
       record { total = getD w (start + 1) 0; declined = getD w (start + 2) 0 } ≡ storedOf w key
   unfolding storedOf
   stored-is at start o e h f g =

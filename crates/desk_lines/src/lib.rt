@@ -1,18 +1,41 @@
-// What `desk` and `shots` print of an answer: the line's fields, with the key's totals as stored.
+// What `desk` and `shots` print of an answer: the line's fields, with the key's totals as stored. One party calls, and is promised every slot.
 ghost use mathlib.Core.Path.{_≡_};
+ghost use Rattle.room.specs.Room.{slotsOf};
 ghost use Rattle.desk_lines.specs.Lines.{badLine, refusedLine, noStored, storedOf, said, yesOrNo, decisionLine, shotLine};
-ghost use Rattle.desk_lines.specs.Lines.{totalLine, snapshotLine, perMinute};
+ghost use Rattle.desk_lines.specs.Lines.{alone, totalLine, snapshotLine, perMinute};
 use answers::RateLimitDecision;
 use answers::ShotAnswer;
 use answers::SnapshotAnswer;
 use answers::TotalAnswer;
 use common::RateLimit;
+use parties::Caller;
 use printing::Answer;
 use printing::AnswerLine;
 
 pub const BAD_LINE: u64 = 14;
 
 const SECONDS_PER_MINUTE: u64 = 60;
+
+// A room's slots, 0 where there is not a word.
+fn slots_of(w: &[u64]) -> u64
+    ensures { λ x. ⌜ x ≡ slotsOf (now (w .entry)) ⌝ }
+{
+    if w.len() <= layout::SLOTS {
+        return 0;
+    }
+    w[layout::SLOTS]
+}
+
+// The one party, promised every slot of the room.
+pub fn alone(w: &[u64]) -> Caller
+    ensures { λ x. ⌜ x ≡ alone (now (w .entry)) ⌝ }
+{
+    Caller {
+        party: 1,
+        first: slots_of(w),
+        second: 0,
+    }
+}
 
 // A key's totals as stored.
 pub struct Stored {
@@ -37,7 +60,7 @@ pub fn stored_of(w: &[u64], key: &[u8]) -> Stored
         return none_stored();
     }
     let slots = w[layout::SLOTS] as usize;
-    let at = room::find(w, keys::key_of(key));
+    let at = room::find(w, keys::key_of(layout::FIRST, key));
     if slots <= at {
         return none_stored();
     }

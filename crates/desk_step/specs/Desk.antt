@@ -1,5 +1,5 @@
 -- What `desk` prints for a line and what it leaves of its two rooms, in 01's words: these are the definitions to hold beside the page.
--- s are the settings, a the absolute room's words, b the suppressed room's, t the reading.
+-- s are the settings, a the absolute room's words, b the suppressed room's, t the reading. Every call is of the one party.
 -- Assumes nothing.
 use mathlib.Core.Bool.{cond}
 use mathlib.Core.List.{List}
@@ -10,6 +10,7 @@ use Rattle.settings.specs.Settings.{faults}
 use Rattle.common.specs.Units.{real}
 use Rattle.settings.specs.declared.ClockMode.the-variants.{Milliseconds}
 use Rattle.settings.specs.declared.Settings.{Settings}
+use Rattle.parties.specs.Parties.{sent}
 use Rattle.judge.specs.Verdict.{Verdict, verdict}
 use Rattle.absolute_verdicts.specs.Calls as Absolute
 use Rattle.suppressed_verdicts.specs.Calls as Suppressed
@@ -25,7 +26,7 @@ use Rattle.printing.specs.declared.AnswerLine.{AnswerLine}
 use Rattle.desk_lines.specs.declared.Stored.{Stored}
 use Rattle.desk_step.specs.declared.Opening.{Opening}
 use Rattle.desk_step.specs.declared.Opening.the-variants.{Open, Refused}
-use Rattle.desk_lines.specs.Lines.{storedOf, decisionLine, totalLine, snapshotLine, perMinute, badLine}
+use Rattle.desk_lines.specs.Lines.{alone, storedOf, decisionLine, totalLine, snapshotLine, perMinute, badLine}
 use Rattle.desk_lines.specs.Step.{Step, badStep}
 
 -- ---- the calls
@@ -35,17 +36,17 @@ abbrev pub lined : {A : Type 0} → (A → Stored → AnswerLine) → List ℕ �
 lined f key v = verdict (f (v .answer) (storedOf (v .words) key)) (v .words)
 
 unfoldable pub absoluteInc : Settings → List ℕ → ℕ → List ℕ → ℕ → ℕ → Verdict AnswerLine
-absoluteInc s a t key rate n = lined (decisionLine t) key (Absolute.inc s a t key (perMinute rate) n)
+absoluteInc s a t key rate n = lined (decisionLine t) key (Absolute.inc s a t (sent (alone a) key) (perMinute rate) n)
 
 -- "both gets ignore rate, n and draw"
 unfoldable pub absoluteGet : Settings → List ℕ → ℕ → List ℕ → Verdict AnswerLine
-absoluteGet s a t key = verdict (totalLine t (Absolute.get s a t key .answer)) (Absolute.get s a t key .words)
+absoluteGet s a t key = let v = Absolute.get s a t (sent (alone a) key) in verdict (totalLine t (v .answer)) (v .words)
 
 unfoldable pub suppressedInc : Settings → List ℕ → ℕ → List ℕ → ℕ → ℕ → ℕ → Verdict AnswerLine
-suppressedInc s b t key rate n draw = lined (decisionLine t) key (Suppressed.inc s b t key (perMinute rate) n draw)
+suppressedInc s b t key rate n draw = lined (decisionLine t) key (Suppressed.inc s b t (sent (alone b) key) (perMinute rate) n draw)
 
 unfoldable pub suppressedGet : Settings → List ℕ → ℕ → List ℕ → Verdict AnswerLine
-suppressedGet s b t key = lined (snapshotLine t) key (Suppressed.get s b t key)
+suppressedGet s b t key = lined (snapshotLine t) key (Suppressed.get s b t (sent (alone b) key))
 
 -- ---- a line: what is printed, and both rooms after it
 

@@ -1,4 +1,4 @@
-// What the program `desk` makes of a line: the settings of the first one; of each other one a call of a limiter, and the line to print.
+// What the program `desk` makes of a line: the settings of the first one; of each other one a call of a limiter, by its one party, and the line to print.
 ghost use mathlib.Core.Path.{_≡_};
 ghost use Rattle.judge.specs.Verdict.{Told};
 ghost use Rattle.desk_lines.specs.Lines.{refusedLine};
@@ -9,6 +9,7 @@ use common::BucketSize;
 use common::SuppressionFactorCachePeriod;
 use common::WindowSize;
 use desk_lines::BAD_LINE;
+use desk_lines::alone;
 use desk_lines::bad_line;
 use desk_lines::decision_line;
 use desk_lines::per_minute;
@@ -35,14 +36,16 @@ fn absolute_inc(
 ) -> AnswerLine
     ensures { λ r. ⌜ Told (absoluteInc settings (now (room .entry)) t (now (key .entry)) rate n) r (now (room .exit)) ⌝ }
 {
-    let d = absolute_inc::inc(settings, room, t, key, per_minute(rate), n);
+    let caller = alone(room);
+    let d = absolute_inc::inc(settings, room, t, caller, key, per_minute(rate), n);
     decision_line(t, d, stored_of(room, key))
 }
 
 fn absolute_get(settings: Settings, room: &mut [u64], t: u64, key: &[u8]) -> AnswerLine
     ensures { λ r. ⌜ Told (absoluteGet settings (now (room .entry)) t (now (key .entry))) r (now (room .exit)) ⌝ }
 {
-    total_line(t, absolute_reads::get(settings, room, t, key))
+    let caller = alone(room);
+    total_line(t, absolute_reads::get(settings, room, t, caller, key))
 }
 
 fn suppressed_inc(
@@ -56,14 +59,16 @@ fn suppressed_inc(
 ) -> AnswerLine
     ensures { λ r. ⌜ Told (suppressedInc settings (now (room .entry)) t (now (key .entry)) rate n draw) r (now (room .exit)) ⌝ }
 {
-    let d = suppressed_inc::inc(settings, room, t, key, per_minute(rate), n, draw);
+    let caller = alone(room);
+    let d = suppressed_inc::inc(settings, room, t, caller, key, per_minute(rate), n, draw);
     decision_line(t, d, stored_of(room, key))
 }
 
 fn suppressed_get(settings: Settings, room: &mut [u64], t: u64, key: &[u8]) -> AnswerLine
     ensures { λ r. ⌜ Told (suppressedGet settings (now (room .entry)) t (now (key .entry))) r (now (room .exit)) ⌝ }
 {
-    let a = suppressed_reads::get(settings, room, t, key);
+    let caller = alone(room);
+    let a = suppressed_reads::get(settings, room, t, caller, key);
     snapshot_line(t, a, stored_of(room, key))
 }
 

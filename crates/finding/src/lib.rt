@@ -3,7 +3,8 @@ ghost use mathlib.Core.Path.{_≡_};
 ghost use lib.ListN.{getD};
 ghost use Rattle.ring.specs.Ring.{noBucket, buckets};
 ghost use Rattle.room.specs.Room.{ringOf, lastOf, bodyOf};
-ghost use Rattle.finding.specs.Finding.{Readable, found};
+ghost use Rattle.finding.specs.Finding.{Readable, asked, asHeld, found};
+use parties::Caller;
 use ring::Bucket;
 use rules::RoomKind;
 use settings::Settings;
@@ -25,15 +26,41 @@ fn last_reading(room: &[u64]) -> u64
     room[layout::LAST]
 }
 
-// The read-out has no reading: it judges at the room's own last one, so that refusal 6 is never met.
-pub fn find_series(kind: RoomKind, settings: Settings, room: &[u64], key: &[u8]) -> Found
-    ensures { λ x. ⌜ x ≡ found kind settings (now (room .entry)) (now (key .entry)) ⌝ }
+// Who reads, with each party promised just the slots that it holds.
+fn as_held(room: &[u64], party: u64) -> Caller
+    ensures { λ x. ⌜ x ≡ asHeld (now (room .entry)) party ⌝ }
+{
+    if !room::sized(room) {
+        return Caller {
+            party,
+            first: 0,
+            second: 0,
+        };
+    }
+    let held = parties::census(room);
+    Caller {
+        party,
+        first: held.first,
+        second: held.second,
+    }
+}
+
+// The read-out has no reading and no promises: it judges at the room's own last reading and for what is held, so that refusals 6 and 16 are never met.
+pub fn find_series(
+    kind: RoomKind,
+    settings: Settings,
+    room: &[u64],
+    party: u64,
+    key: &[u8],
+) -> Found
+    ensures { λ x. ⌜ x ≡ found kind settings (now (room .entry)) (asked party (now (key .entry))) ⌝ }
 {
     let judged = judge::judge(
         kind,
         settings,
         room,
         last_reading(room),
+        as_held(room, party),
         key,
         judge::NO_LOOK,
     );

@@ -9,9 +9,10 @@ use native.Mathlib.Omega.{arith}
 use lib.ListN.{length, getD, drop}
 use lib.Seq.{getD-take, getD-drop}
 use Rattle.keys.specs.declared.Key.{Key}
-use Rattle.layout.specs.Layout.{headerWords, entryWords, sizeOf}
-use Rattle.room.specs.Room.{slotsOf, ringOf, lengthOf, entryOf, startOf, useOf, keyAt, bodyFrom, bodyOf}
+use Rattle.layout.specs.Layout.{lastWord, holdersWord, headerWords, entryWords, mostSlots, sizeOf}
+use Rattle.room.specs.Room.{slotsOf, ringOf, lengthOf, holderAt, entryOf, startOf, holderOf, useOf, keyAt, bodyFrom, bodyOf}
 use Rattle.frame.specs.Frame.{Changed}
+use Rattle.frame.specs.Distinct.{holder-ext}
 
 -- ---- a word by its place
 
@@ -70,12 +71,20 @@ module _ (w v x : List ℕ) (s u : ℕ) (k : Key) (b : List ℕ) (t : ℕ) (c : 
       go (yes p) = ap (bodyOf x) p ∙ d .body ∙ sym (c .body) ∙ ap (bodyOf v) (sym p)
       go (no p) = d .bodies i h p ∙ sym (c .bodies i h p)
 
+  -- who holds a slot, or one that the room does not have
+  holder : (i : ℕ) → i < mostSlots → holderOf x i ≡ holderOf v i
+  holder i h = go (ℕ-discrete i s)
+    where
+      go : Dec (i ≡ s) → holderOf x i ≡ holderOf v i
+      go (yes p) = ap (holderOf x) p ∙ holder-ext v x s (d .key ∙ sym (c .key)) ∙ ap (holderOf v) (sym p)
+      go (no p) = d .holders i h p ∙ sym (c .holders i h p)
+
   header : (j : ℕ) → j < headerWords → getD x j 0 ≡ getD v j 0
   unfolding slots ring
   header zero h = slots
   header (suc zero) h = ring
   header (suc (suc zero)) h = d .last ∙ sym (c .last)
-  header (suc (suc (suc j))) h = absurd (omega arith)
+  header (suc (suc (suc j))) h = let e : suc (suc (suc j)) ≡ holderAt j = omega arith in rw e (holder j (omega arith))
 
   word : (j : ℕ) → j < length v → getD x j 0 ≡ getD v j 0
   word j h = one (decLt j headerWords)

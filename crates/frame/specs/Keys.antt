@@ -59,19 +59,23 @@ packed-within key i h =
     (λ j p q. List·getD-eq-default key 0 (omega arith))))
 
 -- a key of at most 32 bytes packs into a right key
-pub key-fits : (key : List ℕ) → Bytes key → length key ≤ 32 → keyFits (keyOf key) ≡ true
+pub key-fits : (m : ℕ) (key : List ℕ) → Bytes key → length key ≤ 32 → keyFits (keyOf m key) ≡ true
 unfolding keyFits keyOf
-key-fits key h l = rw (le-leb (length key) 32 l, packed-within key 0 h, packed-within key 8 h, packed-within key 16 h, packed-within key 24 h)
+key-fits m key h l = rw (le-leb (length key) 32 l, packed-within key 0 h, packed-within key 8 h, packed-within key 16 h, packed-within key 24 h)
 
 -- word i of both the same: so are the bytes
 packed-same : (a b : List ℕ) (i : ℕ) → Bytes a → Bytes b → pack a i ≡ pack b i → (j : ℕ) → j < 8 → getD a (i + j) 0 ≡ getD b (i + j) 0
 packed-same a b i ha hb e j l =
     digits-same 8 (λ j. getD a (i + j) 0) (λ j. getD b (i + j) 0) (λ j. ha (i + j)) (λ j. hb (i + j)) (sym (pack-digits a i) ∙ e ∙ pack-digits b i) j l
 
--- no two keys of at most 32 bytes pack into the same words
-pub key-injective : (a b : List ℕ) → Bytes a → Bytes b → length a ≤ 32 → length b ≤ 32 → keyOf a ≡ keyOf b → a ≡ b
+-- no two keys of at most 32 bytes pack into the same words, nor does one key of the two parties
+pub key-held : (m n : ℕ) (a b : List ℕ) → keyOf m a ≡ keyOf n b → m ≡ n
 unfolding keyOf
-key-injective a b ha hb la lb e = ext-getD 0 a b (ap (λ (k : Key). k .len) e) (λ j l. byte j (omega arith))
+key-held m n a b e = ap (λ (k : Key). k .holder) e
+
+pub key-injective : (m n : ℕ) (a b : List ℕ) → Bytes a → Bytes b → length a ≤ 32 → length b ≤ 32 → keyOf m a ≡ keyOf n b → a ≡ b
+unfolding keyOf
+key-injective m n a b ha hb la lb e = ext-getD 0 a b (ap (λ (k : Key). k .len) e) (λ j l. byte j (omega arith))
   where
     at : (i j : ℕ) → pack a i ≡ pack b i → i ≤ j → j < i + 8 → getD a j 0 ≡ getD b j 0
     at i j q h l =

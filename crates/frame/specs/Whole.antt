@@ -1,6 +1,6 @@
 -- Changes of every slot at once: a room that was made, and one that was cleared.
 -- Assumes nothing.
-use mathlib.Core.Path.{_≡_, refl, ap, _∙_}
+use mathlib.Core.Path.{_≡_, refl, sym, ap, _∙_}
 use mathlib.Core.Bool.{true}
 use mathlib.Core.List.{List}
 use mathlib.Core.Logic.{_≢_}
@@ -9,16 +9,35 @@ use native.Mathlib.Decide.{ℕ-discrete, decLt}
 use native.Mathlib.Omega.{arith}
 use lib.ListN.{length, getD, set, replicate, length-set, length-replicate, getD-replicate, List·getD-eq-default}
 use lib.Seq.{getD-set-same, getD-set-other}
-use Rattle.layout.specs.Layout.{slotsWord, ringWord, lastWord, entryWords, sizeOf}
-use Rattle.room.specs.Room.{slotsOf, ringOf, lastOf, lengthOf, entryOf, Room, empty, fits, useOf, keyAt, bodyOf, withUse, withReading, freed, cleared}
+use borrow.Author.Tests.{eq-eqb, ne-eqb}
+use Rattle.layout.specs.Layout.{slotsWord, ringWord, lastWord, entryWords, mostSlots, sizeOf}
+use Rattle.room.specs.Room.{
+  slotsOf,
+  ringOf,
+  lastOf,
+  lengthOf,
+  holderAt,
+  entryOf,
+  Room,
+  empty,
+  fits,
+  holderOf,
+  useOf,
+  keyAt,
+  bodyOf,
+  released,
+  releasedOwn,
+  withReading,
+}
+use Rattle.room.specs.Room.{freed, cleared}
 use Rattle.room.specs.Laws.{room-same, fit-lengths}
-use Rattle.room.specs.Entries.{freed-length, freed-other}
+use Rattle.room.specs.Entries.{own-other, freed-length, freed-other}
 use Rattle.frame.specs.Frame.{key-ext, body-ext}
 use Rattle.frame.specs.Distinct.{Distinct}
 
 -- ---- where every slot is free
 
-module _ (w : List ℕ) (f : (i : ℕ) → i < slotsOf w → useOf w i ≡ 0) where
+module _ (w : List ℕ) (f : (i : ℕ) → i < slotsOf w → holderOf w i ≡ 0) where
   pub free-distinct : Distinct w
   free-distinct = record { once = λ i j p q a b e. absurd (a (f i p)) }
 
@@ -30,19 +49,19 @@ module _ (n r : ℕ) where
   empty-word zero h = absurd (omega arith)
   empty-word (suc zero) h = absurd (omega arith)
   empty-word (suc (suc zero)) h = refl
-  empty-word (suc (suc (suc j))) h = go (decLt j (entryWords * n + n * sizeOf r))
+  empty-word (suc (suc (suc j))) h = go (decLt j (mostSlots + entryWords * n + n * sizeOf r))
     where
-      go : Dec (j < entryWords * n + n * sizeOf r) → _≡_ {A = ℕ} (getD (replicate (entryWords * n + n * sizeOf r) 0) j 0) 0
-      go (yes p) = getD-replicate (entryWords * n + n * sizeOf r) j 0 0 p
-      go (no p) = List·getD-eq-default (replicate (entryWords * n + n * sizeOf r) 0) 0
-          (omega (arith, length-replicate {A = ℕ} (entryWords * n + n * sizeOf r) 0))
+      go : Dec (j < mostSlots + entryWords * n + n * sizeOf r) → _≡_ {A = ℕ} (getD (replicate (mostSlots + entryWords * n + n * sizeOf r) 0) j 0) 0
+      go (yes p) = getD-replicate (mostSlots + entryWords * n + n * sizeOf r) j 0 0 p
+      go (no p) = List·getD-eq-default (replicate (mostSlots + entryWords * n + n * sizeOf r) 0) 0
+          (omega (arith, length-replicate {A = ℕ} (mostSlots + entryWords * n + n * sizeOf r) 0))
 
   pub empty-length : length (empty n r) ≡ lengthOf n r
   unfolding empty
-  empty-length = omega (arith, length-replicate {A = ℕ} (entryWords * n + n * sizeOf r) 0)
+  empty-length = omega (arith, length-replicate {A = ℕ} (mostSlots + entryWords * n + n * sizeOf r) 0)
 
-  pub empty-free : (i : ℕ) → useOf (empty n r) i ≡ 0
-  empty-free i = empty-word (entryOf i) (omega arith)
+  pub empty-free : (i : ℕ) → holderOf (empty n r) i ≡ 0
+  empty-free i = empty-word (holderAt i) (omega arith)
 
   pub empty-room : (l : ℕ) → fits n r l ≡ true → Room (empty n r)
   unfolding empty
@@ -55,56 +74,94 @@ module _ (n r : ℕ) where
 
 -- ---- a room that was cleared
 
--- v is w with every slot free, and the last reading t
-pub record Cleared (w v : List ℕ) (t : ℕ) : Type 0 where
+-- v is w without the slots that m holds, and with the last reading t
+pub record Cleared (w v : List ℕ) (m t : ℕ) : Type 0 where
   pub room : Room v
   pub slots : slotsOf v ≡ slotsOf w
   pub ring : ringOf v ≡ ringOf w
   pub last : lastOf v ≡ t
-  pub free : (i : ℕ) → i < slotsOf w → useOf v i ≡ 0
-  pub words : (j : ℕ) → j ≢ lastWord → ((i : ℕ) → i < slotsOf w → j ≢ entryOf i) → getD v j 0 ≡ getD w j 0
-  pub keys : (i : ℕ) → keyAt v i ≡ keyAt w i
+  pub free : (i : ℕ) → i < slotsOf w → holderOf w i ≡ m → holderOf v i ≡ 0
+  pub stays : (i : ℕ) → i < slotsOf w → holderOf w i ≢ m → holderOf v i ≡ holderOf w i
+  pub words : (j : ℕ) → j ≢ lastWord → ((i : ℕ) → i < slotsOf w → j ≢ holderAt i) → getD v j 0 ≡ getD w j 0
+  pub uses : (i : ℕ) → useOf v i ≡ useOf w i
+  pub keys : (i : ℕ) → i < slotsOf w → holderOf w i ≢ m → keyAt v i ≡ keyAt w i
   pub bodies : (i : ℕ) → bodyOf v i ≡ bodyOf w i
 
-module _ (w v : List ℕ) (t : ℕ) (c : Cleared w v t) where
-  pub cleared-distinct : Distinct v
-  cleared-distinct = free-distinct v (λ i h. c .free i (omega (arith, c .slots)))
+module _ (w v : List ℕ) (m t : ℕ) (c : Cleared w v m t) where
+  -- a slot in use was, and is not m's
+  pub cleared-others : (i : ℕ) → i < slotsOf w → holderOf v i ≢ 0 → holderOf w i ≢ m
+  cleared-others i h n e = n (c .free i h e)
 
--- the use of one of the first n slots
-freed-use : (w : List ℕ) (n i : ℕ) → i < n → entryOf n ≤ length w → useOf (freed w n) i ≡ 0
-unfolding freed withUse
-freed-use w zero i h l = absurd (omega arith)
-freed-use w (suc n) i h l = go (ℕ-discrete i n) (freed-use w n i)
-  where
-    go : Dec (i ≡ n) → (i < n → entryOf n ≤ length w → useOf (freed w n) i ≡ 0) → useOf (set (freed w n) (entryOf n) 0) i ≡ 0
-    go (yes p) f = ap (λ (j : ℕ). getD (set (freed w n) (entryOf n) 0) (entryOf j) 0) p ∙
-        getD-set-same (freed w n) (entryOf n) 0 0 (omega (arith, freed-length w n))
-    go (no p) f = getD-set-other (freed w n) (entryOf n) (entryOf i) 0 0 (omega arith) ∙ f (omega arith) (omega arith)
+  pub cleared-distinct : Distinct w → Distinct v
+  cleared-distinct d = record {
+    once = λ i j p q a b e.
+        let p′ : i < slotsOf w = omega (arith, c .slots) in
+        let q′ : j < slotsOf w = omega (arith, c .slots) in
+        let x = cleared-others i p′ a in
+        let y = cleared-others j q′ b in
+        d .once i j p′ q′ (λ z. a (c .stays i p′ x ∙ z)) (λ z. b (c .stays j q′ y ∙ z)) (sym (c .keys i p′ x) ∙ e ∙ c .keys j q′ y);
+  }
 
--- from every word's place: the reading alone is another
-cleared-by : (w v : List ℕ) (t : ℕ) → Room w → length v ≡ length w → ((i : ℕ) → i < slotsOf w → useOf v i ≡ 0) → lastOf v ≡ t →
-    ((j : ℕ) → j ≢ lastWord → ((i : ℕ) → i < slotsOf w → j ≢ entryOf i) → getD v j 0 ≡ getD w j 0) → Cleared w v t
-cleared-by w v t o l f e g =
-    let n : slotsOf v ≡ slotsOf w = g slotsWord (omega arith) (λ i h. omega arith) in
-    let r : ringOf v ≡ ringOf w = g ringWord (omega arith) (λ i h. omega arith) in
-    record {
-      room = room-same w v n r l o;
-      slots = n;
-      ring = r;
-      last = e;
-      free = f;
-      words = g;
-      keys = λ i. key-ext w v i (λ j p q. g j (omega arith) (λ h a. omega arith));
-      bodies = body-ext w v l n r (λ j p. g j (omega arith) (λ h a. omega arith));
-    }
+-- who holds one of the first n slots
+own-here : (w : List ℕ) (s m : ℕ) → holderAt s < length w → holderOf w s ≡ m → holderOf (releasedOwn w s m) s ≡ 0
+unfolding releasedOwn released
+own-here w s m l e = rw (eq-eqb (holderOf w s) m e) (getD-set-same w (holderAt s) 0 0 l)
 
-module _ (w : List ℕ) (o : Room w) where
+own-kept : (w : List ℕ) (s m : ℕ) → holderOf w s ≢ m → holderOf (releasedOwn w s m) s ≡ holderOf w s
+unfolding releasedOwn
+own-kept w s m n = rw (ne-eqb (holderOf w s) m n)
+
+module _ (w : List ℕ) (m : ℕ) where
+  -- a slot that was not passed yet is as it was
+  later-holder : (n i : ℕ) → n ≤ i → holderOf (freed w m n) i ≡ holderOf w i
+  later-holder n i h = freed-other w m n (holderAt i) (λ k l. omega arith)
+
+  freed-holder : (n i : ℕ) → i < n → holderAt n ≤ length w → holderOf w i ≡ m → holderOf (freed w m n) i ≡ 0
+  unfolding freed
+  freed-holder zero i h l e = absurd (omega arith)
+  freed-holder (suc n) i h l e = go (ℕ-discrete i n) (freed-holder n i)
+    where
+      go : Dec (i ≡ n) → (i < n → holderAt n ≤ length w → holderOf w i ≡ m → holderOf (freed w m n) i ≡ 0) → holderOf (releasedOwn (freed w m n) n m) i ≡ 0
+      go (yes p) f =
+          ap (holderOf (releasedOwn (freed w m n) n m)) p ∙
+          own-here (freed w m n) n m (omega (arith, freed-length w m n)) (later-holder n n (omega arith) ∙ ap (holderOf w) (sym p) ∙ e)
+      go (no p) f = own-other (freed w m n) n m (holderAt i) (omega arith) ∙ f (omega arith) (omega arith) e
+
+  kept-holder : (n i : ℕ) → holderOf w i ≢ m → holderOf (freed w m n) i ≡ holderOf w i
+  unfolding freed
+  kept-holder zero i e = refl
+  kept-holder (suc n) i e = go (ℕ-discrete i n) (kept-holder n i e)
+    where
+      go : Dec (i ≡ n) → holderOf (freed w m n) i ≡ holderOf w i → holderOf (releasedOwn (freed w m n) n m) i ≡ holderOf w i
+      go (yes p) f =
+          ap (holderOf (releasedOwn (freed w m n) n m)) p ∙
+          own-kept (freed w m n) n m (λ z. e (sym f ∙ ap (holderOf (freed w m n)) p ∙ z)) ∙ ap (holderOf (freed w m n)) (sym p) ∙ f
+      go (no p) f = own-other (freed w m n) n m (holderAt i) (omega arith) ∙ f
+
+module _ (w : List ℕ) (m : ℕ) (o : Room w) where
   -- and the reading
-  pub clear-read-run : (t : ℕ) → Cleared w (withReading (cleared w) t) t
+  pub clear-read-run : (t : ℕ) → Cleared w (withReading (cleared w m) t) m t
   unfolding withReading
   clear-read-run t =
-      let v = cleared w in
-      let l = freed-length w (slotsOf w) in
-      cleared-by w (set v lastWord t) t o (length-set v lastWord t ∙ l) (λ i h. getD-set-other v lastWord (entryOf i) t 0 (omega arith) ∙
-      freed-use w (slotsOf w) i h (omega (arith, o .long))) (getD-set-same v lastWord t 0 (omega (arith, o .long, l)))
-      (λ j n f. getD-set-other v lastWord j t 0 n ∙ freed-other w (slotsOf w) j f)
+      let y = cleared w m in
+      let v = set y lastWord t in
+      let l = freed-length w m (slotsOf w) in
+      let long : length v ≡ length w = length-set y lastWord t ∙ l in
+      let g : (j : ℕ) → j ≢ lastWord → ((i : ℕ) → i < slotsOf w → j ≢ holderAt i) → getD v j 0 ≡ getD w j 0 =
+      λ j n f. getD-set-other y lastWord j t 0 n ∙ freed-other w m (slotsOf w) j f in
+      let n : slotsOf v ≡ slotsOf w = g slotsWord (omega arith) (λ i h. omega arith) in
+      let r : ringOf v ≡ ringOf w = g ringWord (omega arith) (λ i h. omega arith) in
+      let stays : (i : ℕ) → holderOf w i ≢ m → holderOf v i ≡ holderOf w i =
+      λ i ne. getD-set-other y lastWord (holderAt i) t 0 (omega arith) ∙ kept-holder w m (slotsOf w) i ne in
+      record {
+        room = room-same w v n r long o;
+        slots = n;
+        ring = r;
+        last = getD-set-same y lastWord t 0 (omega (arith, o .long, l));
+        free = λ i h e. getD-set-other y lastWord (holderAt i) t 0 (omega arith) ∙ freed-holder w m (slotsOf w) i h (omega (arith, o .long, o .few)) e;
+        stays = λ i h ne. stays i ne;
+        words = g;
+        uses = λ i. g (entryOf i) (omega arith) (λ k h. omega (arith, o .few));
+        keys = λ i h ne. key-ext w v i (stays i ne) (λ j p q. g j (omega arith) (λ k a. omega (arith, o .few)));
+        bodies = body-ext w v long n r (λ j p. g j (omega arith) (λ k a. omega (arith, o .few)));
+      }

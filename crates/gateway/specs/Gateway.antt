@@ -1,5 +1,5 @@
 -- A gateway that knows a shot by its number (document 02, ticket 12): what it answers, and what it leaves in table and room, for every input. s are the
--- settings, w the table's words, r the room's, t the reading.
+-- settings, w the table's words, r the room's, t the reading, key the controller's as a party sends it: the table knows its bytes alone.
 -- Assumes nothing.
 use mathlib.Core.Path.{_≡_}
 use mathlib.Core.Bool.{Bool, true, false, cond, not, _&&_}
@@ -19,7 +19,8 @@ use Rattle.answers.specs.declared.ShotAnswer.the-variants.{Held, Decided, Refus
 use Rattle.rules.specs.declared.RoomKind.the-variants.{Suppressed}
 use Rattle.rules.specs.Suppressed.{admits, incTurns}
 use Rattle.room.specs.Room.{ringOf}
-use Rattle.judge.specs.Held.{heldIn, noneFree}
+use Rattle.parties.specs.Parties.{Sent, noneLeft}
+use Rattle.judge.specs.Held.{heldIn}
 use Rattle.judge.specs.Judge.{misfits}
 use Rattle.judge.specs.Verdict as Room
 use Rattle.suppressed_verdicts.specs.Calls.{inc}
@@ -39,17 +40,19 @@ gateTurns w key number =
     (21, soundFor w key && (not (isKnown w key) && eqb (knownOf w) mostControllers)) ∷ []
 
 -- then the limiter's for a count of 1, with the table's 5 beside the room's
-abbrev pub limiterTurns : Settings → List ℕ → List ℕ → ℕ → List ℕ → RateLimit → ℕ → List (ℕ × Bool)
+abbrev pub limiterTurns : Settings → List ℕ → List ℕ → ℕ → Sent → RateLimit → ℕ → List (ℕ × Bool)
 limiterTurns s w r t key rate draw =
-    faults s ++ ((5, not (soundFor w key)) ∷ (misfits Suppressed s r t key ++ incTurns s (ringOf r) (noneFree r) t rate 1 draw (heldIn r key)))
+    faults s ++
+    ((5, not (soundFor w (key .bytes))) ∷ (misfits Suppressed s r t key ++ incTurns s (ringOf r) (noneLeft r (key .caller)) t rate 1 draw (heldIn r key)))
 
 -- which is not asked for a shot that is held
 abbrev pub unlessHeld : Bool → List (ℕ × Bool) → List (ℕ × Bool)
 unlessHeld true turns = []
 unlessHeld false turns = turns
 
-abbrev pub shotTurns : Settings → List ℕ → List ℕ → ℕ → List ℕ → ℕ → RateLimit → ℕ → List (ℕ × Bool)
-shotTurns s w r t key number rate draw = gateTurns w key number ++ unlessHeld (isHeld w key number) (limiterTurns s w r t key rate draw)
+abbrev pub shotTurns : Settings → List ℕ → List ℕ → ℕ → Sent → ℕ → RateLimit → ℕ → List (ℕ × Bool)
+shotTurns s w r t key number rate draw =
+    gateTurns w (key .bytes) number ++ unlessHeld (isHeld w (key .bytes) number) (limiterTurns s w r t key rate draw)
 
 -- ---- a shot
 
@@ -73,20 +76,20 @@ pub record Verdict : Type 0 where
   pub room : List ℕ
 
 -- "is answered `held` and changes nothing"; "goes to the suppressed limiter and is remembered only if admitted"
-abbrev pub passed : Bool → Settings → List ℕ → List ℕ → ℕ → List ℕ → ℕ → RateLimit → ℕ → Verdict
+abbrev pub passed : Bool → Settings → List ℕ → List ℕ → ℕ → Sent → ℕ → RateLimit → ℕ → Verdict
 passed true s w r t key number rate draw = record { answer = Held; table = w; room = r }
 passed false s w r t key number rate draw =
     let v = inc s r t key rate 1 draw in
-    record { answer = Decided (v .answer); table = cond (admits (v .answer)) (remembered w key number) w; room = v .words }
+    record { answer = Decided (v .answer); table = cond (admits (v .answer)) (remembered w (key .bytes) number) w; room = v .words }
 
 -- refused with n, unless n is 0
 unfoldable pub unlessRefused : ℕ → List ℕ → List ℕ → Verdict → Verdict
 unlessRefused n w r v =
     record { answer = cond (eqb n 0) (v .answer) (Refused n); table = cond (eqb n 0) (v .table) w; room = cond (eqb n 0) (v .room) r }
 
-unfoldable pub shot : Settings → List ℕ → List ℕ → ℕ → List ℕ → ℕ → RateLimit → ℕ → Verdict
+unfoldable pub shot : Settings → List ℕ → List ℕ → ℕ → Sent → ℕ → RateLimit → ℕ → Verdict
 shot s w r t key number rate draw =
-    unlessRefused (first (shotTurns s w r t key number rate draw)) w r (passed (isHeld w key number) s w r t key number rate draw)
+    unlessRefused (first (shotTurns s w r t key number rate draw)) w r (passed (isHeld w (key .bytes) number) s w r t key number rate draw)
 
 -- the answer and the words after are the verdict's
 pub record Told (v : Verdict) (a : ShotAnswer) (w r : List ℕ) : Type 0 where

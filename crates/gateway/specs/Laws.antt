@@ -29,7 +29,8 @@ use Rattle.rules.specs.Both.{overdueIn, lookedOf}
 use Rattle.rules.specs.Suppressed as Rules
 use Rattle.rules.specs.Suppressed.{admits, limitFor, incTurns, drawn, outcomeOf, outcome}
 use Rattle.room.specs.Room.{ringOf}
-use Rattle.judge.specs.Held.{heldIn, noneFree}
+use Rattle.parties.specs.Parties.{Sent, noneLeft}
+use Rattle.judge.specs.Held.{heldIn}
 use Rattle.judge.specs.Judge.{misfits, refusals}
 use Rattle.judge.specs.Laws.{faults-positive}
 use Rattle.judge.specs.Verdict as Room
@@ -132,7 +133,7 @@ and-false : (a : Bool) → a && false ≡ false
 and-false true = refl
 and-false false = refl
 
-module _ (s : Settings) (w r : List ℕ) (t : ℕ) (key : List ℕ) (number : ℕ) (rate : RateLimit) (draw : ℕ) where
+module _ (s : Settings) (w r : List ℕ) (t : ℕ) (key : Sent) (number : ℕ) (rate : RateLimit) (draw : ℕ) where
   -- ---- asked: the words and answers of the two steps
   pub asked-turned : (d : RateLimitDecision) (x : List ℕ) → Room.Told (inc s r t key rate 1 draw) d x → admits d ≡ false →
       Told (asked s w r t key number rate draw) (asShot d) w x
@@ -143,8 +144,8 @@ module _ (s : Settings) (w r : List ℕ) (t : ℕ) (key : List ℕ) (number : �
     room = o .words;
   }
 
-  pub asked-admitted : (d : RateLimitDecision) (x v : List ℕ) → Room.Told (inc s r t key rate 1 draw) d x → admits d ≡ true → v ≡ remembered w key number →
-      Told (asked s w r t key number rate draw) (Decided d) v x
+  pub asked-admitted : (d : RateLimitDecision) (x v : List ℕ) → Room.Told (inc s r t key rate 1 draw) d x → admits d ≡ true →
+      v ≡ remembered w (key .bytes) number → Told (asked s w r t key number rate draw) (Decided d) v x
   unfolding asked
   asked-admitted d x v o e f = record {
     answer = sym (admitted-decided d e) ∙ ap asShot (o .answer);
@@ -153,79 +154,80 @@ module _ (s : Settings) (w r : List ℕ) (t : ℕ) (key : List ℕ) (number : �
   }
 
   -- ---- past the gate: what a shot that is not held comes to
-  gate-positive : Positive (gateTurns w key number)
+  gate-positive : Positive (gateTurns w (key .bytes) number)
   unfolding gateTurns
   gate-positive = omega arith
 
-  past-gate : soundFor w key ≡ true → first (gateTurns w key number) ≡ 0 → isHeld w key number ≡ false →
+  past-gate : soundFor w (key .bytes) ≡ true → first (gateTurns w (key .bytes) number) ≡ 0 → isHeld w (key .bytes) number ≡ false →
       first (shotTurns s w r t key number rate draw) ≡
-      first (refusals Suppressed s r t key (incTurns s (ringOf r) (noneFree r) t rate 1 draw (heldIn r key)))
+      first (refusals Suppressed s r t key (incTurns s (ringOf r) (noneLeft r (key .caller)) t rate 1 draw (heldIn r key)))
   past-gate o g h =
-      let rest = misfits Suppressed s r t key ++ incTurns s (ringOf r) (noneFree r) t rate 1 draw (heldIn r key) in
-      first-none (gateTurns w key number) (unlessHeld (isHeld w key number) (limiterTurns s w r t key rate draw)) gate-positive g ∙
+      let rest = misfits Suppressed s r t key ++ incTurns s (ringOf r) (noneLeft r (key .caller)) t rate 1 draw (heldIn r key) in
+      first-none (gateTurns w (key .bytes) number) (unlessHeld (isHeld w (key .bytes) number) (limiterTurns s w r t key rate draw)) gate-positive g ∙
       ap (λ (z : Bool). first (unlessHeld z (limiterTurns s w r t key rate draw))) h ∙
       ap (λ (z : Bool). first (faults s ++ ((5, not z) ∷ rest))) o ∙
       unmet (faults s) rest 5
 
-  pub shot-asked : soundFor w key ≡ true → first (gateTurns w key number) ≡ 0 → isHeld w key number ≡ false →
+  pub shot-asked : soundFor w (key .bytes) ≡ true → first (gateTurns w (key .bytes) number) ≡ 0 → isHeld w (key .bytes) number ≡ false →
       asked s w r t key number rate draw ≡ shot s w r t key number rate draw
   unfolding shot asked inc
   shot-asked o g h =
-      let n = first (refusals Suppressed s r t key (incTurns s (ringOf r) (noneFree r) t rate 1 draw (heldIn r key))) in
+      let n = first (refusals Suppressed s r t key (incTurns s (ringOf r) (noneLeft r (key .caller)) t rate 1 draw (heldIn r key))) in
       sym
       (ap (λ (z : Bool). unlessRefused (first (shotTurns s w r t key number rate draw)) w r (passed z s w r t key number rate draw)) h ∙
       ap (λ (m : ℕ). unlessRefused m w r (passed false s w r t key number rate draw)) (past-gate o g h) ∙
-      carried n w r (remembered w key number) _ (decides s t (limitFor s rate (heldIn r key)) 1 draw (heldIn r key)))
+      carried n w r (remembered w (key .bytes) number) _ (decides s t (limitFor s rate (heldIn r key)) 1 draw (heldIn r key)))
 
   -- ---- the first number that is met
   at-19 : numbered number ≡ false → first (shotTurns s w r t key number rate draw) ≡ 19
   unfolding gateTurns first
   at-19 p = rw p
 
-  at-unsound : numbered number ≡ true → soundFor w key ≡ false → first (shotTurns s w r t key number rate draw) ≡ unsoundness s
+  at-unsound : numbered number ≡ true → soundFor w (key .bytes) ≡ false → first (shotTurns s w r t key number rate draw) ≡ unsoundness s
   unfolding gateTurns isHeld first unsoundness
   at-unsound p o = rw (p, o) (go (eqb (first (faults s)) 0) refl)
     where
       rest : List (ℕ × Bool)
-      rest = (5, true) ∷ (misfits Suppressed s r t key ++ incTurns s (ringOf r) (noneFree r) t rate 1 draw (heldIn r key))
+      rest = (5, true) ∷ (misfits Suppressed s r t key ++ incTurns s (ringOf r) (noneLeft r (key .caller)) t rate 1 draw (heldIn r key))
 
       go : (z : Bool) → eqb (first (faults s)) 0 ≡ z → first (faults s ++ rest) ≡ cond z 5 (first (faults s))
       go true e = first-none (faults s) rest (faults-positive s) (eqb-true _ 0 e)
       go false e = first-found (faults s) rest (eqb-false _ 0 e)
 
-  at-20 : numbered number ≡ true → soundFor w key ≡ true → ltb number (lastNumber w key) ≡ true → first (shotTurns s w r t key number rate draw) ≡ 20
+  at-20 : numbered number ≡ true → soundFor w (key .bytes) ≡ true → ltb number (lastNumber w (key .bytes)) ≡ true →
+      first (shotTurns s w r t key number rate draw) ≡ 20
   unfolding gateTurns first
   at-20 p o l = rw (p, o, l)
 
-  at-21 : numbered number ≡ true → soundFor w key ≡ true → ltb number (lastNumber w key) ≡ false → isKnown w key ≡ false →
+  at-21 : numbered number ≡ true → soundFor w (key .bytes) ≡ true → ltb number (lastNumber w (key .bytes)) ≡ false → isKnown w (key .bytes) ≡ false →
       eqb (knownOf w) mostControllers ≡ true → first (shotTurns s w r t key number rate draw) ≡ 21
   unfolding gateTurns first
   at-21 p o l k f = rw (p, o, l, k, f)
 
   -- ---- what a look at the table stops, x being what it found
-  module _ (x : Looked) (e : x ≡ looked w key) where
-    sound-is : x .sound ≡ soundFor w key
-    sound-is = ap (λ (y : Looked). y .sound) e ∙ looked-sound w key
+  module _ (x : Looked) (e : x ≡ looked w (key .bytes)) where
+    sound-is : x .sound ≡ soundFor w (key .bytes)
+    sound-is = ap (λ (y : Looked). y .sound) e ∙ looked-sound w (key .bytes)
 
-    at-is : soundFor w key ≡ true → x .at ≡ entryFor w key
-    at-is o = ap (λ (y : Looked). y .at) e ∙ looked-at w key o
+    at-is : soundFor w (key .bytes) ≡ true → x .at ≡ entryFor w (key .bytes)
+    at-is o = ap (λ (y : Looked). y .at) e ∙ looked-at w (key .bytes) o
 
-    last-is : soundFor w key ≡ true → x .last ≡ lastNumber w key
-    last-is o = ap (λ (y : Looked). y .last) e ∙ looked-last w key o
+    last-is : soundFor w (key .bytes) ≡ true → x .last ≡ lastNumber w (key .bytes)
+    last-is o = ap (λ (y : Looked). y .last) e ∙ looked-last w (key .bytes) o
 
     -- an entry behind all 64: the table is full, and the controller not among them
-    full : (o : soundFor w key ≡ true) → x .at ≡ mostControllers → (isKnown w key ≡ false) × (eqb (knownOf w) mostControllers ≡ true)
+    full : (o : soundFor w (key .bytes) ≡ true) → x .at ≡ mostControllers → (isKnown w (key .bytes) ≡ false) × (eqb (knownOf w) mostControllers ≡ true)
     full o h =
-        let f = sound-table w key o .few in
-        let l = entry-le w key in
+        let f = sound-table w (key .bytes) o .few in
+        let l = entry-le w (key .bytes) in
         let a = at-is o in
-        (known-no w key (omega arith), eq-eqb (knownOf w) mostControllers (omega arith))
+        (known-no w (key .bytes) (omega arith), eq-eqb (knownOf w) mostControllers (omega arith))
 
     pub stop-is : (m : ℕ) → m ≡ stops s x number → (m ≡ 0 → ⊥) → first (shotTurns s w r t key number rate draw) ≡ m
     unfolding stops
-    stop-is m f z = go (numbered number) refl (soundFor w key) refl (ltb number (x .last)) refl (eqb (x .at) mostControllers) refl
+    stop-is m f z = go (numbered number) refl (soundFor w (key .bytes)) refl (ltb number (x .last)) refl (eqb (x .at) mostControllers) refl
       where
-        go : (a : Bool) → numbered number ≡ a → (b : Bool) → soundFor w key ≡ b → (c : Bool) → ltb number (x .last) ≡ c →
+        go : (a : Bool) → numbered number ≡ a → (b : Bool) → soundFor w (key .bytes) ≡ b → (c : Bool) → ltb number (x .last) ≡ c →
             (d : Bool) → eqb (x .at) mostControllers ≡ d → first (shotTurns s w r t key number rate draw) ≡ m
         go false p b q c u d v = at-19 p ∙ sym (f ∙ rw p)
         go true p false q c u d v = at-unsound p q ∙ sym (f ∙ rw (p, sound-is, q))
@@ -238,21 +240,21 @@ module _ (s : Settings) (w r : List ℕ) (t : ℕ) (key : List ℕ) (number : �
     pub stopped : (m : ℕ) → m ≡ stops s x number → (m ≡ 0 → ⊥) → Told (shot s w r t key number rate draw) (Refused m) w r
     unfolding shot
     stopped m f z =
-        let v = passed (isHeld w key number) s w r t key number rate draw in
+        let v = passed (isHeld w (key .bytes) number) s w r t key number rate draw in
         rw (stop-is m f z) (told-refused m w r v z)
 
     -- ---- past that: what is known of the shot
     pub record Past : Type 0 where
       pub a-number : numbered number ≡ true
-      pub sound : soundFor w key ≡ true
-      pub high : ltb number (lastNumber w key) ≡ false
+      pub sound : soundFor w (key .bytes) ≡ true
+      pub high : ltb number (lastNumber w (key .bytes)) ≡ false
       pub placed : x .at ≢ mostControllers
 
     pub not-stopped : 0 ≡ stops s x number → Past
     unfolding stops
-    not-stopped f = go (numbered number) refl (soundFor w key) refl (ltb number (x .last)) refl (eqb (x .at) mostControllers) refl
+    not-stopped f = go (numbered number) refl (soundFor w (key .bytes)) refl (ltb number (x .last)) refl (eqb (x .at) mostControllers) refl
       where
-        go : (a : Bool) → numbered number ≡ a → (b : Bool) → soundFor w key ≡ b → (c : Bool) → ltb number (x .last) ≡ c →
+        go : (a : Bool) → numbered number ≡ a → (b : Bool) → soundFor w (key .bytes) ≡ b → (c : Bool) → ltb number (x .last) ≡ c →
             (d : Bool) → eqb (x .at) mostControllers ≡ d → Past
         go false p b q c u d v = let n : _≡_ {A = ℕ} 0 19 = f ∙ rw p in absurd (omega arith)
         go true p false q c u d v = absurd (unsoundness-some s (sym (f ∙ rw (p, sound-is, q))))
@@ -264,7 +266,7 @@ module _ (s : Settings) (w r : List ℕ) (t : ℕ) (key : List ℕ) (number : �
     -- the last number again: nothing stops it
     again-past : again (x .last) number ≡ true → Past × (number ≡ x .last)
     unfolding again
-    again-past a = (go (soundFor w key) refl (isKnown w key) refl, same)
+    again-past a = (go (soundFor w (key .bytes)) refl (isKnown w (key .bytes)) refl, same)
       where
         parts : (not (eqb (x .last) 0) ≡ true) × (eqb number (x .last) ≡ true)
         parts = and-true (not (eqb (x .last) 0)) _ a
@@ -275,57 +277,57 @@ module _ (s : Settings) (w r : List ℕ) (t : ℕ) (key : List ℕ) (number : �
         some : x .last ≢ 0
         some = eqb-false _ _ (not-true _ (parts .0))
 
-        go : (b : Bool) → soundFor w key ≡ b → (k : Bool) → isKnown w key ≡ k → Past
-        go false q k u = absurd (some (ap (λ (y : Looked). y .last) e ∙ looked-nothing w key q))
-        go true q false u = absurd (some (last-is q ∙ unknown-last w key u))
+        go : (b : Bool) → soundFor w (key .bytes) ≡ b → (k : Bool) → isKnown w (key .bytes) ≡ k → Past
+        go false q k u = absurd (some (ap (λ (y : Looked). y .last) e ∙ looked-nothing w (key .bytes) q))
+        go true q false u = absurd (some (last-is q ∙ unknown-last w (key .bytes) u))
         go true q true u = record {
-          a-number = rw (same ∙ last-is q) (sound-number w key q u);
+          a-number = rw (same ∙ last-is q) (sound-number w (key .bytes) q u);
           sound = q;
-          high = let l = same ∙ last-is q in le-ltb number (lastNumber w key) (omega arith);
-          placed = let l = known-stands w key u in let i = at-is q in let f = sound-table w key q .few in λ m. omega arith;
+          high = let l = same ∙ last-is q in le-ltb number (lastNumber w (key .bytes)) (omega arith);
+          placed = let l = known-stands w (key .bytes) u in let i = at-is q in let f = sound-table w (key .bytes) q .few in λ m. omega arith;
         }
 
     module _ (o : Past) where
       -- the controller stands in the table, or there is room for it
-      pub stands : Stands w key (x .at)
+      pub stands : Stands w (key .bytes) (x .at)
       stands =
-          let t = sound-table w key (o .sound) in
-          let l = entry-le w key in
+          let t = sound-table w (key .bytes) (o .sound) in
+          let l = entry-le w (key .bytes) in
           let a = at-is (o .sound) in
           record { table = t; entry = a; room = omega (arith, t .few, o .placed) }
 
-      not-full : not (isKnown w key) && eqb (knownOf w) mostControllers ≡ false
-      not-full = go (isKnown w key) refl
+      not-full : not (isKnown w (key .bytes)) && eqb (knownOf w) mostControllers ≡ false
+      not-full = go (isKnown w (key .bytes)) refl
         where
-          go : (z : Bool) → isKnown w key ≡ z → not z && eqb (knownOf w) mostControllers ≡ false
+          go : (z : Bool) → isKnown w (key .bytes) ≡ z → not z && eqb (knownOf w) mostControllers ≡ false
           go true e = refl
           go false e =
               let a = at-is (o .sound) in
-              let k = unknown-stands w key e in
+              let k = unknown-stands w (key .bytes) e in
               ne-eqb (knownOf w) mostControllers (λ h. o .placed (omega arith))
 
-      gate-none : first (gateTurns w key number) ≡ 0
+      gate-none : first (gateTurns w (key .bytes) number) ≡ 0
       unfolding gateTurns first
       gate-none = rw (o .a-number, o .sound, o .high, not-full)
 
       -- a number that is the last is a known controller's: 0 is none
-      held : number ≡ x .last → isHeld w key number ≡ true
+      held : number ≡ x .last → isHeld w (key .bytes) number ≡ true
       unfolding isHeld
-      held h = go (isKnown w key) refl
+      held h = go (isKnown w (key .bytes)) refl
         where
-          l : number ≡ lastNumber w key
+          l : number ≡ lastNumber w (key .bytes)
           l = h ∙ last-is (o .sound)
 
-          go : (z : Bool) → isKnown w key ≡ z → soundFor w key && (isKnown w key && eqb number (lastNumber w key)) ≡ true
-          go true e = rw (o .sound, e, eq-eqb number (lastNumber w key) l)
-          go false e = let m : number ≡ 0 = l ∙ unknown-last w key e in absurd (omega (arith, number-in number (o .a-number)))
+          go : (z : Bool) → isKnown w (key .bytes) ≡ z → soundFor w (key .bytes) && (isKnown w (key .bytes) && eqb number (lastNumber w (key .bytes))) ≡ true
+          go true e = rw (o .sound, e, eq-eqb number (lastNumber w (key .bytes)) l)
+          go false e = let m : number ≡ 0 = l ∙ unknown-last w (key .bytes) e in absurd (omega (arith, number-in number (o .a-number)))
 
       shot-held : number ≡ x .last → Told (shot s w r t key number rate draw) Held w r
       unfolding shot
       shot-held h =
           let v = passed true s w r t key number rate draw in
-          let n : first (gateTurns w key number ++ []) ≡ 0 = ap first (append-nil (gateTurns w key number)) ∙ gate-none in
-          rw (held h) (told-passed (first (gateTurns w key number ++ [])) w r v n)
+          let n : first (gateTurns w (key .bytes) number ++ []) ≡ 0 = ap first (append-nil (gateTurns w (key .bytes) number)) ∙ gate-none in
+          rw (held h) (told-passed (first (gateTurns w (key .bytes) number ++ [])) w r v n)
 
       -- a number that is not the last again is another one: it is above 0
       other : again (x .last) number ≡ false → number ≢ x .last
@@ -334,9 +336,9 @@ module _ (s : Settings) (w r : List ℕ) (t : ℕ) (key : List ℕ) (number : �
           let z : x .last ≢ 0 = λ m. omega (arith, number-in number (o .a-number)) in
           false≢true (sym a ∙ rw (ne-eqb (x .last) 0 z, eq-eqb number (x .last) h))
 
-      not-held : number ≢ x .last → isHeld w key number ≡ false
+      not-held : number ≢ x .last → isHeld w (key .bytes) number ≡ false
       unfolding isHeld
-      not-held z = rw (o .sound, ne-eqb number (lastNumber w key) (λ h. z (h ∙ sym (last-is (o .sound)))), and-false)
+      not-held z = rw (o .sound, ne-eqb number (lastNumber w (key .bytes)) (λ h. z (h ∙ sym (last-is (o .sound)))), and-false)
 
       pub shot-passed : again (x .last) number ≡ false → asked s w r t key number rate draw ≡ shot s w r t key number rate draw
       shot-passed a = shot-asked (o .sound) gate-none (not-held (other a))

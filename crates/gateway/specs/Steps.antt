@@ -8,6 +8,7 @@ use Rattle.common.specs.Refusals.{first}
 use Rattle.common.specs.declared.units.RateLimit.{RateLimit}
 use Rattle.settings.specs.Settings.{faults}
 use Rattle.settings.specs.declared.Settings.{Settings}
+use Rattle.parties.specs.Parties.{Sent}
 use Rattle.rules.specs.Suppressed.{admits}
 use Rattle.suppressed_verdicts.specs.Calls.{inc}
 use Rattle.table.specs.declared.Looked.{Looked}
@@ -32,7 +33,7 @@ stops s x number =
     0)))
 
 -- the limiter is asked, and the number remembered if it is admitted
-unfoldable pub asked : Settings → List ℕ → List ℕ → ℕ → List ℕ → ℕ → RateLimit → ℕ → Verdict
+unfoldable pub asked : Settings → List ℕ → List ℕ → ℕ → Sent → ℕ → RateLimit → ℕ → Verdict
 asked s w r t key number rate draw =
     let v = inc s r t key rate 1 draw in
-    record { answer = asShot (v .answer); table = cond (admits (v .answer)) (remembered w key number) w; room = v .words }
+    record { answer = asShot (v .answer); table = cond (admits (v .answer)) (remembered w (key .bytes) number) w; room = v .words }

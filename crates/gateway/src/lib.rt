@@ -1,6 +1,7 @@
 // A gateway that knows a shot by its number. All refusals are settled before the first word is written: the limiter settles its own,
 // and the table is written last.
 ghost use mathlib.Core.Path.{_≡_};
+ghost use Rattle.parties.specs.Parties.{sent};
 ghost use Rattle.rules.specs.Suppressed.{admits};
 ghost use Rattle.judge.specs.Verdict as Room;
 ghost use Rattle.table.specs.Table.{TableMade, Stands};
@@ -10,6 +11,7 @@ use answers::DoneAnswer;
 use answers::RateLimitDecision;
 use answers::ShotAnswer;
 use common::RateLimit;
+use parties::Caller;
 use settings::Settings;
 use table::Looked;
 
@@ -108,6 +110,7 @@ fn ask(
     table: &mut [u64],
     room: &mut [u64],
     reading: u64,
+    caller: Caller,
     controller: &[u8],
     at: usize,
     number: u64,
@@ -115,10 +118,10 @@ fn ask(
     draw: u64,
 ) -> ShotAnswer
     requires { ⌜ Stands (now table) (now controller) at ⌝ }
-    ensures { λ a. ⌜ Told (asked settings (now (table .entry)) (now (room .entry)) reading (now (controller .entry)) number rate draw) a (now (table .exit))
-        (now (room .exit)) ⌝ }
+    ensures { λ a. ⌜ Told (asked settings (now (table .entry)) (now (room .entry)) reading (sent caller (now (controller .entry))) number rate draw) a
+        (now (table .exit)) (now (room .exit)) ⌝ }
 {
-    let decision = suppressed_inc::inc(settings, room, reading, controller, rate, 1, draw);
+    let decision = suppressed_inc::inc(settings, room, reading, caller, controller, rate, 1, draw);
     if !is_admitted(decision) {
         return as_shot(decision);
     }
@@ -132,13 +135,14 @@ pub fn shot(
     table: &mut [u64],
     room: &mut [u64],
     reading: u64,
+    caller: Caller,
     controller: &[u8],
     number: u64,
     rate: RateLimit,
     draw: u64,
 ) -> ShotAnswer
-    ensures { λ a. ⌜ Told (shot settings (now (table .entry)) (now (room .entry)) reading (now (controller .entry)) number rate draw) a (now (table .exit))
-        (now (room .exit)) ⌝ }
+    ensures { λ a. ⌜ Told (shot settings (now (table .entry)) (now (room .entry)) reading (sent caller (now (controller .entry))) number rate draw) a
+        (now (table .exit)) (now (room .exit)) ⌝ }
 {
     let seen = table::look(table, controller);
     let at = seen.at;
@@ -155,6 +159,7 @@ pub fn shot(
         table,
         room,
         reading,
+        caller,
         controller,
         at,
         number,

@@ -4,12 +4,13 @@ use mathlib.Core.Path.{_≡_, ap}
 use mathlib.Core.Bool.{Bool, cond}
 use mathlib.Core.List.{List, []}
 use Prim.Native.Nat.{ℕ, _≤_, _<_}
-use lib.Dec.{leb, ltb}
+use lib.Dec.{ltb}
 use borrow.Author.Tests.{lt-ltb, le-ltb}
 use Rattle.ring.specs.declared.Bucket.{Bucket}
 use Rattle.ring.specs.Ring.{buckets}
 use Rattle.rules.specs.Held.{Held, nothing}
-use Rattle.room.specs.Room.{slotsOf, ringOf, useOf, bodyOf, vacant}
+use Rattle.room.specs.Room.{slotsOf, ringOf, useOf, bodyOf}
+use Rattle.parties.specs.Parties.{Sent}
 use Rattle.opened.specs.Sound.{limitOf, factorOf, factorTimeOf, hasSeries, hasCached, addressed}
 
 -- what is not there is 0
@@ -28,17 +29,13 @@ abbrev pub heldOf : ℕ → ℕ → List ℕ → Held
 heldOf r u b = heldBy (hasSeries u) (hasCached u) (limitOf b) (buckets r b) (factorOf b) (factorTimeOf b)
 
 -- the use of the key's slot, 0 where it has none
-abbrev pub usedBy : List ℕ → List ℕ → ℕ
+abbrev pub usedBy : List ℕ → Sent → ℕ
 usedBy w key = cond (ltb (addressed w key) (slotsOf w)) (useOf w (addressed w key)) 0
 
-unfoldable pub heldIn : List ℕ → List ℕ → Held
+unfoldable pub heldIn : List ℕ → Sent → Held
 heldIn w key = heldOf (ringOf w) (usedBy w key) (bodyOf w (addressed w key))
 
--- no slot is free
-abbrev pub noneFree : List ℕ → Bool
-noneFree w = leb (slotsOf w) (vacant w)
-
-module _ (w key : List ℕ) where
+module _ (w : List ℕ) (key : Sent) where
   pub held-here : addressed w key < slotsOf w → heldIn w key ≡ heldOf (ringOf w) (useOf w (addressed w key)) (bodyOf w (addressed w key))
   unfolding heldIn
   held-here h =

@@ -1,7 +1,7 @@
 -- What the code has tested, turned into what `judged` says; and what callers know of a call that passes, or does not.
 -- Assumes nothing.
 use mathlib.Core.Path.{_≡_, refl, sym, ap, ap₂, _∙_}
-use mathlib.Core.Bool.{Bool, true, false}
+use mathlib.Core.Bool.{Bool, true, false, _&&_}
 use mathlib.Core.List.{List, [], _∷_, _++_, append-assoc}
 use Prim.Native.Nat.{ℕ, _≤_, _<_}
 use native.Mathlib.Omega.{arith}
@@ -13,21 +13,24 @@ use Rattle.common.specs.Refusals.{first, Positive, first-found, first-none, all
 use Rattle.settings.specs.Settings.{faults, Proper, proper, unrefused}
 use Rattle.settings.specs.Clock.{windowTicks, lookTicks}
 use Rattle.settings.specs.declared.Settings.{Settings}
-use Rattle.room.specs.Room.{Room, sized, lastOf}
+use Rattle.room.specs.Room.{Room, slotsOf, sized, lastOf, vacant}
 use Rattle.room.specs.Laws.{room-sized, sized-room}
+use Rattle.parties.specs.Parties.{Sent, ours, noneLeft, turns}
+use Rattle.parties.specs.Laws.{left-free}
 use Rattle.rules.specs.declared.RoomKind.{RoomKind}
 use Rattle.opened.specs.declared.Slot.{Slot}
 use Rattle.opened.specs.Sound.{addressed, soundAt}
 use Rattle.opened.specs.Slot.{noSlot, slotOf, firstLook}
 use Rattle.opened.specs.Look.{plain-slot}
-use Rattle.judge.specs.Judge.{misfits, refusals, early, faultOf, judgedWith, lookBy, slotIn, lookedIn, slotBy, Passed}
+use Rattle.judge.specs.declared.Standing.{Standing}
+use Rattle.judge.specs.Judge.{misfits, refusals, early, faultOf, standing, judgedWith, lookBy, slotIn, lookedIn, slotBy, Passed}
 
 pub faults-positive : (s : Settings) → Positive (faults s)
 unfolding faults
 faults-positive s = omega arith
 
-misfits-positive : (kind : RoomKind) (s : Settings) (w : List ℕ) (t : ℕ) (key : List ℕ) → Positive (misfits kind s w t key)
-unfolding misfits
+misfits-positive : (kind : RoomKind) (s : Settings) (w : List ℕ) (t : ℕ) (key : Sent) → Positive (misfits kind s w t key)
+unfolding misfits turns
 misfits-positive kind s w t key = omega arith
 
 -- positive lists, one after the other
@@ -38,15 +41,30 @@ joined-positive (x ∷ xs) ys p q = (p .0, joined-positive xs ys (p .1) q)
 five-none : (n : ℕ) → n ≡ 5 → n ≡ 0 → ⊥
 five-none n p q = omega (arith, p, q)
 
-module _ (kind : RoomKind) (s : Settings) (w : List ℕ) (t : ℕ) (key : List ℕ) where
+module _ (kind : RoomKind) (s : Settings) (w : List ℕ) (t : ℕ) (key : Sent) where
   -- ---- the answer
-  pub refused-is : (x : Slot) (n : ℕ) → early kind s w t key ≡ n → (n ≡ 0 → ⊥) → record { code = n; slot = noSlot 0 } ≡ judgedWith kind s w t key x
+  pub refused-is : (x : Slot) (n : ℕ) → early kind s w t key ≡ n → (n ≡ 0 → ⊥) → record { code = n; none = false; slot = noSlot 0 } ≡
+      judgedWith kind s w t key x
   unfolding judgedWith
   refused-is x n e z = sym (rw (e, ne-eqb n 0 z))
 
-  pub passed-is : {x : Slot} (y : Slot) → early kind s w t key ≡ 0 → y ≡ x → record { code = 0; slot = y } ≡ judgedWith kind s w t key x
+  pub passed-is : {x : Slot} (none : Bool) (y : Slot) → early kind s w t key ≡ 0 → none ≡ noneLeft w (key .caller) → y ≡ x →
+      record { code = 0; none = none; slot = y } ≡ judgedWith kind s w t key x
   unfolding judgedWith
-  passed-is y e p = sym (rw (e, ← p))
+  passed-is none y e q p = sym (rw (e, ← p, ← q))
+
+  -- whether the party has no slot left, of a call that passes
+  pub none-is : (x : Slot) → early kind s w t key ≡ 0 → judgedWith kind s w t key x .none ≡ noneLeft w (key .caller)
+  unfolding judgedWith
+  none-is x e = rw (eq-eqb _ 0 e)
+
+  pub standing-code : (y : Standing) → y ≡ standing kind s w t key → y .code ≡ early kind s w t key
+  unfolding standing
+  standing-code y e = ap (λ (z : Standing). z .code) e
+
+  pub standing-none : (y : Standing) → y ≡ standing kind s w t key → y .code ≡ 0 → y .none ≡ noneLeft w (key .caller)
+  unfolding standing
+  standing-none y e z = ap (λ (v : Standing). v .none) e ∙ rw (eq-eqb _ 0 (sym (standing-code y e) ∙ z))
 
   pub code-is : (x : Slot) → judgedWith kind s w t key x .code ≡ early kind s w t key
   unfolding judgedWith
@@ -103,21 +121,32 @@ module _ (kind : RoomKind) (s : Settings) (w : List ℕ) (t : ℕ) (key : List �
       go true p false q = absurd (five-none (faultOf s w) (rw (p, q)) e)
       go false p b q = absurd (eqb-false (first (faults s)) 0 p (sym (rw p) ∙ e))
 
-  pub early-unsound : Proper s → Room w → soundAt kind s w (addressed w key) ≡ false → early kind s w t key ≡ 5
+  pub early-stray : Proper s → Room w → ours w ≡ false → early kind s w t key ≡ 5
   unfolding misfits first
-  early-unsound p o e = after p ∙ rw (room-sized w o, e)
+  early-stray p o a = after p ∙ rw (room-sized w o, a)
 
-  pub early-reading : Proper s → Room w → soundAt kind s w (addressed w key) ≡ true → t < lastOf w → early kind s w t key ≡ 6
+  pub early-unsound : Proper s → Room w → ours w ≡ true → soundAt kind s w (addressed w key) ≡ false → early kind s w t key ≡ 5
   unfolding misfits first
-  early-reading p o e l = after p ∙ rw (room-sized w o, e, lt-ltb t (lastOf w) l)
+  early-unsound p o a e = after p ∙ rw (room-sized w o, a, e)
 
-  pub early-key : Proper s → Room w → soundAt kind s w (addressed w key) ≡ true → lastOf w ≤ t → 32 < length key → early kind s w t key ≡ 7
+  pub early-reading : Proper s → Room w → ours w ≡ true → soundAt kind s w (addressed w key) ≡ true → t < lastOf w → early kind s w t key ≡ 6
   unfolding misfits first
-  early-key p o e l k = after p ∙ rw (room-sized w o, e, le-ltb t (lastOf w) l, lt-ltb 32 (length key) k)
+  early-reading p o a e l = after p ∙ rw (room-sized w o, a, e, lt-ltb t (lastOf w) l)
+
+  pub early-key : Proper s → Room w → ours w ≡ true → soundAt kind s w (addressed w key) ≡ true → lastOf w ≤ t → 32 < length (key .bytes) →
+      early kind s w t key ≡ 7
+  unfolding misfits first
+  early-key p o a e l k = after p ∙ rw (room-sized w o, a, e, le-ltb t (lastOf w) l, lt-ltb 32 (length (key .bytes)) k)
+
+  -- past 7
+  pub early-late : Proper s → Room w → ours w ≡ true → soundAt kind s w (addressed w key) ≡ true → lastOf w ≤ t → length (key .bytes) ≤ 32 →
+      early kind s w t key ≡ first (turns w (key .caller))
+  unfolding misfits first
+  early-late p o a e l k = after p ∙ rw (room-sized w o, a, e, le-ltb t (lastOf w) l, le-ltb 32 (length (key .bytes)) k)
 
   pub early-none : Passed kind s w t key → early kind s w t key ≡ 0
-  unfolding misfits first
-  early-none p = after (p .settings) ∙ rw (room-sized w (p .room), p .sound, le-ltb t (lastOf w) (p .later), le-ltb 32 (length key) (p .short))
+  unfolding turns first
+  early-none p = early-late (p .settings) (p .room) (p .theirs) (p .sound) (p .later) (p .short) ∙ rw (p .party, p .within)
 
   -- ---- what callers know
   fault-none : early kind s w t key ≡ 0 → first (faults s) ≡ 0
@@ -128,12 +157,26 @@ module _ (kind : RoomKind) (s : Settings) (w : List ℕ) (t : ℕ) (key : List �
       go false h = sym (first-found (faults s) (misfits kind s w t key) (eqb-false _ _ h)) ∙ e
 
   pub passed : early kind s w t key ≡ 0 → Passed kind s w t key
-  unfolding misfits
+  unfolding misfits turns
   passed e =
       let p = proper s (fault-none e) in
       let f = all-false (misfits kind s w t key) (misfits-positive kind s w t key) (sym (after p) ∙ e) in
-      let q = and-true (sized w) (soundAt kind s w (addressed w key)) (not-false _ (f .0)) in
-      record { settings = p; room = sized-room w (q .0); sound = q .1; later = ltb-false _ _ (f .1 .0); short = ltb-false _ _ (f .1 .1 .0) }
+      let q = and-true (sized w) (ours w && soundAt kind s w (addressed w key)) (not-false _ (f .0)) in
+      let r = and-true (ours w) (soundAt kind s w (addressed w key)) (q .1) in
+      record {
+        settings = p;
+        room = sized-room w (q .0);
+        sound = r .1;
+        later = ltb-false _ _ (f .1 .0);
+        short = ltb-false _ _ (f .1 .1 .0);
+        theirs = r .0;
+        party = not-false _ (f .1 .1 .1 .0);
+        within = f .1 .1 .1 .1 .0;
+      }
+
+  -- the lowest free slot is there, where the party has a slot left
+  pub free-there : Passed kind s w t key → noneLeft w (key .caller) ≡ false → vacant w < slotsOf w
+  free-there p n = left-free w (key .caller) (p .theirs) (p .party) (p .within) n
 
   -- a call's refusals: an early one is the call's; where there is none its own decide
   pub refused-early : (own : List (ℕ × Bool)) → (early kind s w t key ≡ 0 → ⊥) → first (refusals kind s w t key own) ≡ early kind s w t key

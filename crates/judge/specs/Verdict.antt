@@ -9,6 +9,7 @@ use Prim.Native.Nat.{ℕ}
 use native.Mathlib.Decide.{ℕ-discrete}
 use lib.Dec.{eqb}
 use borrow.Author.Tests.{eq-eqb, ne-eqb, eqb-true, eqb-false}
+use Rattle.parties.specs.Parties.{Sent}
 use Rattle.common.specs.Refusals.{first}
 use Rattle.settings.specs.declared.Settings.{Settings}
 use Rattle.rules.specs.declared.RoomKind.{RoomKind}
@@ -39,8 +40,8 @@ told-once v r r′ x x′ a b = (a .answer ∙ sym (b .answer), a .words ∙ sym
 pub told-as : {A : Type 0} {v v′ : Verdict A} {r : A} {x : List ℕ} → v ≡ v′ → Told v r x → Told v′ r x
 told-as {r = r} {x = x} e o = subst (λ y. Told y r x) e o
 
--- a call with a key: refusals 1 to 7, then its own, then what it does
-abbrev pub call : {A : Type 0} → (ℕ → A) → RoomKind → Settings → List ℕ → ℕ → List ℕ → List (ℕ × Bool) → Verdict A → Verdict A
+-- a call with a key: refusals 1 to 7, 15 and 16, then its own, then what it does
+abbrev pub call : {A : Type 0} → (ℕ → A) → RoomKind → Settings → List ℕ → ℕ → Sent → List (ℕ × Bool) → Verdict A → Verdict A
 call turned kind s w t key own v = unlessRefused turned (first (refusals kind s w t key own)) w v
 
 pub told-turned : {A : Type 0} (turned : ℕ → A) (n : ℕ) (w : List ℕ) (v : Verdict A) → (n ≡ 0 → ⊥) → Told (unlessRefused turned n w v) (turned n) w
@@ -52,8 +53,8 @@ pub told-done : {A : Type 0} (turned : ℕ → A) (n : ℕ) (w : List ℕ) (v : 
 unfolding unlessRefused
 told-done turned n w v r x e o = record { answer = o .answer ∙ sym (rw (eq-eqb n 0 e)); words = o .words ∙ sym (rw (eq-eqb n 0 e)) }
 
-module _ {A : Type 0} (turned : ℕ → A) (kind : RoomKind) (s : Settings) (w : List ℕ) (t : ℕ) (key : List ℕ) (own : List (ℕ × Bool)) (v : Verdict A) where
-  -- refused with one of 1 to 7
+module _ {A : Type 0} (turned : ℕ → A) (kind : RoomKind) (s : Settings) (w : List ℕ) (t : ℕ) (key : Sent) (own : List (ℕ × Bool)) (v : Verdict A) where
+  -- refused with one of 1 to 7, 15 and 16
   pub call-early : (n : ℕ) → n ≡ early kind s w t key → (n ≡ 0 → ⊥) → Told (call turned kind s w t key own v) (turned n) w
   call-early n e z =
       let p : first (refusals kind s w t key own) ≡ n = refused-early kind s w t key own (λ f. z (e ∙ f)) ∙ sym e in
@@ -71,7 +72,7 @@ module _ {A : Type 0} (turned : ℕ → A) (kind : RoomKind) (s : Settings) (w :
 
 -- ---- a call told in other words: what is refused early is the same whatever the call is to do
 
--- of a call that passes refusals 1 to 7: the same refusals of its own, the same answer, the same words
+-- of a call that passes those: the same refusals of its own, the same answer, the same words
 pub record Alike {A : Type 0} (own own′ : List (ℕ × Bool)) (v v′ : Verdict A) : Type 0 where
   pub owns : own ≡ own′
   pub answers : v .answer ≡ v′ .answer
@@ -82,7 +83,7 @@ unfolding unlessRefused
 turned-away turned w v n m e z = rw (e, ne-eqb m 0 z)
 
 module _
-    {A : Type 0} (turned : ℕ → A) (kind : RoomKind) (s : Settings) (w : List ℕ) (t : ℕ) (key : List ℕ)
+    {A : Type 0} (turned : ℕ → A) (kind : RoomKind) (s : Settings) (w : List ℕ) (t : ℕ) (key : Sent)
     (own own′ : List (ℕ × Bool)) (v v′ : Verdict A) where
   alike-done : Alike own own′ v v′ → call turned kind s w t key own v ≡ call turned kind s w t key own′ v′
   unfolding unlessRefused
@@ -101,7 +102,7 @@ module _
 
 -- ---- a call with a key is refused, and every word stays, or nothing refuses it
 
-both-none : (kind : RoomKind) (s : Settings) (w : List ℕ) (t : ℕ) (key : List ℕ) (own : List (ℕ × Bool)) →
+both-none : (kind : RoomKind) (s : Settings) (w : List ℕ) (t : ℕ) (key : Sent) (own : List (ℕ × Bool)) →
     first (refusals kind s w t key own) ≡ 0 → (early kind s w t key ≡ 0) × (first own ≡ 0)
 both-none kind s w t key own e = go (ℕ-discrete (early kind s w t key) 0)
   where
@@ -109,7 +110,7 @@ both-none kind s w t key own e = go (ℕ-discrete (early kind s w t key) 0)
     go (yes z) = (z, sym (refused-own kind s w t key own z) ∙ e)
     go (no n) = absurd (n (sym (refused-early kind s w t key own n) ∙ e))
 
-pub call-either : {A : Type 0} (turned : ℕ → A) (kind : RoomKind) (s : Settings) (w : List ℕ) (t : ℕ) (key : List ℕ) (own : List (ℕ × Bool)) (v : Verdict A)
+pub call-either : {A : Type 0} (turned : ℕ → A) (kind : RoomKind) (s : Settings) (w : List ℕ) (t : ℕ) (key : Sent) (own : List (ℕ × Bool)) (v : Verdict A)
     (P : Verdict A → Type 0) →
     ((n : ℕ) → n ≢ 0 → P (verdict (turned n) w)) → (early kind s w t key ≡ 0 → first own ≡ 0 → P v) → P (call turned kind s w t key own v)
 unfolding unlessRefused

@@ -1,13 +1,18 @@
-// What every call with a key judges before it does anything: refusals 1 to 7, and the key's slot opened into a value.
+// What every call with a key judges before it does anything: refusals 1 to 7, 15 and 16, and the key's slot opened into a value.
 ghost use mathlib.Core.Path.{_≡_};
+ghost use mathlib.Core.Bool.{false};
 ghost use Prim.Native.Nat.{_<_, _≤_};
 ghost use Rattle.settings.specs.Settings.{Proper, windowIn};
 ghost use Rattle.room.specs.Room.{Room};
 ghost use Rattle.opened.specs.Sound.{addressed, soundAt};
 ghost use Rattle.opened.specs.Slot.{noSlot, opened};
 ghost use Rattle.opened.specs.Right.{Addresses};
-ghost use Rattle.judge.specs.Judge.{faultOf, early, lookBy, judgedBy};
+ghost use Rattle.parties.specs.Parties.{sent};
+ghost use Rattle.parties.specs.Census.{censusOf};
+ghost use Rattle.judge.specs.Judge.{faultOf, early, standing, lookBy, judgedBy};
 use opened::Slot;
+use parties::Caller;
+use parties::Holdings;
 use rules::RoomKind;
 use settings::Settings;
 
@@ -18,27 +23,41 @@ pub const FIRST_LOOK: bool = true;
 
 pub const NO_LOOK: bool = false;
 
-// The first of refusals 1 to 7, or 0 with the slot.
+// The first of refusals 1 to 7, 15 and 16, or 0 with the slot, and whether the caller's party already holds all slots that it is promised.
 pub struct Judged {
     pub code: u64,
+    pub none: bool,
     pub slot: Slot,
 }
 
-// The lowest slot with the key, or the number of slots.
-pub fn address(w: &[u64], key: &[u8]) -> usize
+// The same without the slot.
+pub struct Standing {
+    pub code: u64,
+    pub none: bool,
+}
+
+// The lowest slot with the caller's key, or the number of slots.
+pub fn address(w: &[u64], caller: Caller, key: &[u8]) -> usize
     requires { ⌜ Room (now w) ⌝ }
-    ensures { λ x. ⌜ x ≡ addressed (now (w .entry)) (now (key .entry)) ⌝ }
+    ensures { λ x. ⌜ x ≡ addressed (now (w .entry)) (sent caller (now (key .entry))) ⌝ }
 {
     if LONGEST_KEY < key.len() {
         return w[layout::SLOTS] as usize;
     }
-    room::find(w, keys::key_of(key))
+    room::find(w, keys::key_of(parties::mark(caller.party), key))
 }
 
 // Whether the slot addressed is sound, if there is one; its key is the one that was looked for.
-fn sound_at(kind: RoomKind, settings: Settings, w: &[u64], key: &[u8], x: Slot) -> bool
-    requires { ⌜ Addresses (now w) (now key) settings x ⌝ }
-    ensures { λ y. ⌜ y ≡ soundAt kind settings (now (w .entry)) (addressed (now (w .entry)) (now (key .entry))) ⌝ }
+fn sound_at(
+    kind: RoomKind,
+    settings: Settings,
+    w: &[u64],
+    caller: Caller,
+    key: &[u8],
+    x: Slot,
+) -> bool
+    requires { ⌜ Addresses (now w) (sent caller (now key)) settings x ⌝ }
+    ensures { λ y. ⌜ y ≡ soundAt kind settings (now (w .entry)) (addressed (now (w .entry)) (sent caller (now (key .entry)))) ⌝ }
 {
     let slots = w[layout::SLOTS] as usize;
     let at = x.at;
@@ -49,10 +68,11 @@ fn sound_at(kind: RoomKind, settings: Settings, w: &[u64], key: &[u8], x: Slot) 
 }
 
 fn refused(code: u64) -> Judged
-    ensures { λ x. ⌜ x ≡ record { code = code; slot = noSlot 0 } ⌝ }
+    ensures { λ x. ⌜ x ≡ record { code = code; none = false; slot = noSlot 0 } ⌝ }
 {
     Judged {
         code,
+        none: false,
         slot: opened::no_slot(0),
     }
 }
@@ -71,19 +91,24 @@ pub fn fault(settings: Settings, w: &[u64]) -> u64
     0
 }
 
-// The first of refusals 5 to 7 that the key's slot, the reading or the key meets, or 0.
-pub fn misfit(
+// The first of refusals 5 to 7, 15 and 16 that the slots, the key's slot, the reading, the key or the caller meets, or 0.
+fn early(
     kind: RoomKind,
     settings: Settings,
     w: &[u64],
     reading: u64,
+    caller: Caller,
     key: &[u8],
     x: Slot,
+    held: Holdings,
 ) -> u64
-    requires { ⌜ Addresses (now w) (now key) settings x × Proper settings ⌝ }
-    ensures { λ n. ⌜ n ≡ early kind settings (now (w .entry)) reading (now (key .entry)) ⌝ }
+    requires { ⌜ Addresses (now w) (sent caller (now key)) settings x × Proper settings × (held ≡ censusOf (now w)) ⌝ }
+    ensures { λ n. ⌜ n ≡ early kind settings (now (w .entry)) reading (sent caller (now (key .entry))) ⌝ }
 {
-    if !sound_at(kind, settings, w, key, x) {
+    if !held.ours {
+        return 5;
+    }
+    if !sound_at(kind, settings, w, caller, key, x) {
         return 5;
     }
     if reading < w[2] {
@@ -92,7 +117,31 @@ pub fn misfit(
     if LONGEST_KEY < key.len() {
         return 7;
     }
-    0
+    parties::refusal(w, caller, held)
+}
+
+// The same, with whether the caller's party has no slot left.
+pub fn misfit(
+    kind: RoomKind,
+    settings: Settings,
+    w: &[u64],
+    reading: u64,
+    caller: Caller,
+    key: &[u8],
+    x: Slot,
+) -> Standing
+    requires { ⌜ Addresses (now w) (sent caller (now key)) settings x × Proper settings ⌝ }
+    ensures { λ y. ⌜ y ≡ standing kind settings (now (w .entry)) reading (sent caller (now (key .entry))) ⌝ }
+{
+    let held = parties::census(w);
+    let code = early(kind, settings, w, reading, caller, key, x, held);
+    if code != 0 {
+        return Standing { code, none: false };
+    }
+    Standing {
+        code: 0,
+        none: parties::none_left(w, caller, held),
+    }
 }
 
 fn look_of(settings: Settings, first: bool) -> u64
@@ -111,10 +160,11 @@ pub fn judge(
     settings: Settings,
     w: &[u64],
     reading: u64,
+    caller: Caller,
     key: &[u8],
     first: bool,
 ) -> Judged
-    ensures { λ x. ⌜ x ≡ judgedBy first kind settings (now (w .entry)) reading (now (key .entry)) ⌝ }
+    ensures { λ x. ⌜ x ≡ judgedBy first kind settings (now (w .entry)) reading (sent caller (now (key .entry))) ⌝ }
 {
     let n = fault(settings, w);
     if n != 0 {
@@ -122,10 +172,15 @@ pub fn judge(
     }
     let window = settings.window_ticks();
     let look = look_of(settings, first);
-    let x = opened::open_at(w, address(w, key), reading, window, look);
-    let m = misfit(kind, settings, w, reading, key, x);
-    if m != 0 {
-        return refused(m);
+    let x = opened::open_at(w, address(w, caller, key), reading, window, look);
+    let m = misfit(kind, settings, w, reading, caller, key, x);
+    let code = m.code;
+    if code != 0 {
+        return refused(code);
     }
-    Judged { code: 0, slot: x }
+    Judged {
+        code: 0,
+        none: m.none,
+        slot: x,
+    }
 }

@@ -14,9 +14,10 @@ use Rattle.keys.specs.Keys.{sameKey, unusedZero}
 
 -- ---- equal keys
 
-pub same-last : (k l : Key) → k .len ≡ l .len → k .a ≡ l .a → k .b ≡ l .b → k .c ≡ l .c → eqb (k .d) (l .d) ≡ sameKey k l
+pub same-last : (k l : Key) → k .len ≡ l .len → k .a ≡ l .a → k .b ≡ l .b → k .c ≡ l .c → k .d ≡ l .d → eqb (k .holder) (l .holder) ≡ sameKey k l
 unfolding sameKey
-same-last k l p q r s = rw (eq-eqb (k .len) (l .len) p, eq-eqb (k .a) (l .a) q, eq-eqb (k .b) (l .b) r, eq-eqb (k .c) (l .c) s)
+same-last k l p q r s t =
+    rw (eq-eqb (k .len) (l .len) p, eq-eqb (k .a) (l .a) q, eq-eqb (k .b) (l .b) r, eq-eqb (k .c) (l .c) s, eq-eqb (k .d) (l .d) t)
 
 -- ---- a word of a key: its bytes past the key's end are 0
 

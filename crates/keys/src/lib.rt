@@ -1,11 +1,12 @@
-// A key in words: its length, and four words of eight bytes.
+// A key in words: who holds it, its length, and four words of eight bytes.
 ghost use mathlib.Core.Path.{_≡_};
 ghost use Prim.Native.Nat.{_+_, _*_, _^_, _<_, _≤_};
 ghost use lib.ListN.{length, getD};
 ghost use Rattle.keys.specs.Keys.{pack, keyOf, sameKey, unusedZero};
 
-// A key as the directory has it: its length, and its bytes in four words, the first one lowest.
+// A key as the directory has it: the mark of the party that it belongs to, its length, and its bytes in four words, the first one lowest.
 pub struct Key {
+    pub holder: u64,
     pub len: u64,
     pub a: u64,
     pub b: u64,
@@ -71,10 +72,11 @@ fn packed(key: &[u8], i: usize) -> u64
     eight(key, i)
 }
 
-pub fn key_of(key: &[u8]) -> Key
-    ensures { λ x. ⌜ x ≡ keyOf (now (key .entry)) ⌝ }
+pub fn key_of(holder: u64, key: &[u8]) -> Key
+    ensures { λ x. ⌜ x ≡ keyOf holder (now (key .entry)) ⌝ }
 {
     Key {
+        holder,
         len: key.len() as u64,
         a: packed(key, 0),
         b: packed(key, 8),
@@ -126,5 +128,8 @@ pub fn same_key(k: Key, l: Key) -> bool
     if k.c != l.c {
         return false;
     }
-    k.d == l.d
+    if k.d != l.d {
+        return false;
+    }
+    k.holder == l.holder
 }

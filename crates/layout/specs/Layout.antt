@@ -1,5 +1,5 @@
 -- Where each word of a room stands, and which numbers the words may be: the code's constants, by the same names. A room is a
--- header, an entry for each slot, and a body for each slot.
+-- header, an entry for each slot, and a body for each slot. The header has a word for each of the 64 slots that a room may have: who holds it.
 -- Assumes nothing.
 use Prim.Native.Nat.{ℕ, _+_, _*_, _^_}
 
@@ -14,8 +14,23 @@ ringWord = 1
 abbrev pub lastWord : ℕ
 lastWord = 2
 
+-- the holders' words start here
+abbrev pub holdersWord : ℕ
+holdersWord = 3
+
 abbrev pub headerWords : ℕ
-headerWords = 3
+headerWords = 67
+
+-- ---- what the word of a slot's holder may be: nobody's slots are free. One sum of such words counts both parties' slots
+
+abbrev pub nobody : ℕ
+nobody = 0
+
+abbrev pub firstMark : ℕ
+firstMark = 1
+
+abbrev pub secondMark : ℕ
+secondMark = 128
 
 -- ---- an entry's words behind the use, which is its first, and how many with it
 
@@ -38,9 +53,6 @@ abbrev pub entryWords : ℕ
 entryWords = 6
 
 -- ---- a slot's use
-
-abbrev pub freeUse : ℕ
-freeUse = 0
 
 abbrev pub seriesUse : ℕ
 seriesUse = 1

@@ -1,5 +1,5 @@
 // Where each word of a room stands, and which numbers the words may be. A room is a header, an entry for each slot, and a
-// body for each slot.
+// body for each slot. The header has a word for each of the 64 slots that a room may have: who holds it.
 
 // The header's words, and how many.
 pub const SLOTS: usize = 0;
@@ -8,7 +8,17 @@ pub const RING: usize = 1;
 
 pub const LAST: usize = 2;
 
-pub const HEADER: usize = 3;
+// The holders' words start here.
+pub const HOLDERS: usize = 3;
+
+pub const HEADER: usize = 67;
+
+// What the word of a slot's holder may be: nobody's slots are free. One sum of such words counts both parties' slots.
+pub const NOBODY: u64 = 0;
+
+pub const FIRST: u64 = 1;
+
+pub const SECOND: u64 = 128;
 
 // A directory entry's words behind the use, which is its first, and how many with it.
 pub const KEY_LEN: usize = 1;
@@ -24,8 +34,6 @@ pub const KEY_D: usize = 5;
 pub const ENTRY: usize = 6;
 
 // A slot's use.
-pub const FREE: u64 = 0;
-
 pub const SERIES: u64 = 1;
 
 pub const CACHED: u64 = 2;

@@ -9,7 +9,7 @@ use Prim.Native.Nat.{ℕ, suc, _-_, _<_}
 use native.Mathlib.Omega.{arith}
 use lib.ListN.{length, getD, drop}
 use lib.Dec.{ltb}
-use borrow.Author.Tests.{eq-eqb, eqb-true, le-ltb, ltb-true, ltb-false, leb-false, not-false}
+use borrow.Author.Tests.{eq-eqb, eqb-true, le-ltb, ltb-true, ltb-false, not-false}
 use Rattle.common.specs.Limits.{absoluteWord, limitOk}
 use Rattle.common.specs.Ranges.{rateOk, one}
 use Rattle.settings.specs.Settings.{windowIn}
@@ -29,10 +29,11 @@ use Rattle.ring.specs.Sound.{Sound}
 use Rattle.ring.specs.Sums.{sum-one, sum-split, sum-at}
 use Rattle.keys.specs.declared.Key.{Key}
 use Rattle.room.specs.Room.{slotsOf, ringOf, lastOf, useOf, keyAt, find, bodyOf, vacant, withReading}
-use Rattle.keys.specs.Keys.{keyFits, keyOf}
+use Rattle.keys.specs.Keys.{keyFits}
 use Rattle.frame.specs.Distinct.{find-key}
 use Rattle.frame.specs.Frame.{Changed, reading-change}
 use Rattle.frame.specs.Keys.{Bytes, key-fits}
+use Rattle.parties.specs.Parties.{Sent, keyFor, markOf, noneLeft}
 use Rattle.change.specs.declared.Change.{Change}
 use Rattle.change.specs.declared.Change.the-variants.{Keep, Update, Take}
 use Rattle.edit.specs.declared.Edit.{Edit}
@@ -44,7 +45,7 @@ use Rattle.rules.specs.declared.RoomKind.the-variants.{Absolute}
 use Rattle.opened.specs.declared.Slot.{Slot}
 use Rattle.opened.specs.Look.{look-series, look-used, look-limit, look-factor, look-time}
 use Rattle.judge.specs.Judge.{refusals, Passed, slotIn, lookedIn}
-use Rattle.judge.specs.Laws.{passed}
+use Rattle.judge.specs.Laws.{passed, free-there}
 use Rattle.base.specs.Decides.{other-true}
 use Rattle.cleanup.specs.Laws.{sound-parts, parts-sound}
 use Rattle.common.specs.Refusals.{first, AllFalse, all-false}
@@ -53,7 +54,7 @@ use Rattle.answers.specs.declared.TotalAnswer.the-variants as total
 use Rattle.rules.specs.Held.{Held, lacksSlot}
 use Rattle.rules.specs.Both.{limitIn, liveOf, overdue, overdueIn, lookedOf, passes, ringFull}
 use Rattle.rules.specs.Absolute.{below, testsAgain, tested, allowedBy, wholeLimit, allowed, pickDecision, rejection, decided, outFor, foundFor, incTurns}
-use Rattle.judge.specs.Held.{heldIn, noneFree, held-here, held-none}
+use Rattle.judge.specs.Held.{heldIn, held-here, held-none}
 use Rattle.opened.specs.Sound.{limitOf, factorOf, factorTimeOf, hasSeries, hasCached, rightUse, declinedRight, soundSeries, addressed}
 use Rattle.judge.specs.Verdict.{Verdict}
 use Rattle.plan.specs.Plan.{placeOf, fullAfter, evicting, opening}
@@ -73,7 +74,7 @@ use Rattle.leaves.specs.Cleanup.{series-later}
 
 -- ---- the key's slot in the room
 
-module _ (s : Settings) (w : List ℕ) (t : ℕ) (key : List ℕ) (p : Passed Absolute s w t key) where
+module _ (s : Settings) (w : List ℕ) (t : ℕ) (key : Sent) (p : Passed Absolute s w t key) where
   there : heldIn w key .known ≡ true → addressed w key < slotsOf w
   there h = go (ltb (addressed w key) (slotsOf w)) refl
     where
@@ -85,13 +86,13 @@ module _ (s : Settings) (w : List ℕ) (t : ℕ) (key : List ℕ) (p : Passed Ab
   slot-found h = found Absolute s w t key p (there h)
 
   -- its directory entry
-  key-here : heldIn w key .known ≡ true → keyAt w (addressed w key) ≡ keyOf key
+  key-here : heldIn w key .known ≡ true → keyAt w (addressed w key) ≡ keyFor key
   unfolding addressed
   key-here h =
-      let a : cond (ltb 32 (length key)) (slotsOf w) (find w (keyOf key)) ≡ find w (keyOf key) =
-      ap (λ (z : Bool). cond z (slotsOf w) (find w (keyOf key))) (le-ltb 32 (length key) (p .short)) in
-      let l : find w (keyOf key) < slotsOf w = subst (λ (i : ℕ). i < slotsOf w) a (there h) in
-      subst (λ (i : ℕ). keyAt w i ≡ keyOf key) (sym a) (find-key w (keyOf key) l)
+      let a : cond (ltb 32 (length (key .bytes))) (slotsOf w) (find w (keyFor key)) ≡ find w (keyFor key) =
+      ap (λ (z : Bool). cond z (slotsOf w) (find w (keyFor key))) (le-ltb 32 (length (key .bytes)) (p .short)) in
+      let l : find w (keyFor key) < slotsOf w = subst (λ (i : ℕ). i < slotsOf w) a (there h) in
+      subst (λ (i : ℕ). keyAt w i ≡ keyFor key) (sym a) (find-key w (keyFor key) l)
 
   series-known : heldIn w key .known ≡ true → slotIn s w t key .series ≡ true
   series-known h = seen Absolute s w t key p .series-is ∙ h
@@ -137,7 +138,7 @@ module _ (s : Settings) (w : List ℕ) (t : ℕ) (key : List ℕ) (p : Passed Ab
       (eq-eqb (e .used) 1 u) (none-right Absolute (declineds ys) d) (ap (limitOk (windowIn s) one) (q .limit-same) ∙ k .limit-ok)
       (λ f. absurd (false≢true (sym (ap (λ (n : ℕ). hasCached n) u) ∙ f))) in
       record {
-        changed = subst (λ (n : ℕ). Changed w v at n (keyOf key) (bodyOf v at) t) u
+        changed = subst (λ (n : ℕ). Changed w v at n (keyFor key) (bodyOf v at) t) u
             (subst (λ (i : Key). Changed w v at (e .used) i (bodyOf v at) t) (key-here h) (z .changed));
         view = z .view;
         limit-is = z .limit-is ∙ q .limit-same ∙ limit-whole s w t key p;
@@ -208,8 +209,8 @@ module _ (s : Settings) (w : List ℕ) (t : ℕ) (key : List ℕ) (p : Passed Ab
       ap₂ (λ (r : ℕ) (b : List ℕ). soundSeries Absolute s r (lastOf v) b) (c .ring) (c .body) ∙
       ap (λ (n : ℕ). soundSeries Absolute s (ringOf w) n (bodyOf w at)) (c .last) ∙ i in
       record {
-        changed = subst (λ (b : List ℕ). Changed w v at 1 (keyOf key) b t) (sym (c .body))
-            (subst (λ (n : ℕ). Changed w v at n (keyOf key) (bodyOf w at) t) (use-known h)
+        changed = subst (λ (b : List ℕ). Changed w v at 1 (keyFor key) b t) (sym (c .body))
+            (subst (λ (n : ℕ). Changed w v at n (keyFor key) (bodyOf w at) t) (use-known h)
             (subst (λ (z : Key). Changed w v at (useOf w at) z (bodyOf w at) t) (key-here h) c));
         view = ap₂ buckets (c .ring) (c .body);
         limit-is = ap (λ (b : List ℕ). limitOf b) (c .body) ∙ sym (slot-known h .limit-is) ∙ limit-whole s w t key p;
@@ -224,17 +225,17 @@ module _ (s : Settings) (w : List ℕ) (t : ℕ) (key : List ℕ) (p : Passed Ab
       }
 
   -- an unknown key's series begins, in the lowest free slot
-  begin-left : (rate : RateLimit) (c : ℕ) → Bytes key → rateOk (rate .0) ≡ true → passes c 0 ≡ false → vacant w < slotsOf w →
+  begin-left : (rate : RateLimit) (c : ℕ) → Bytes (key .bytes) → rateOk (rate .0) ≡ true → passes c 0 ≡ false → vacant w < slotsOf w →
       Stands Absolute s w (applied w (vacant w) key (joinTicks s) t (Take (opening (absoluteWord (rate .0) (windowIn s)) (Increment c 0) 0 0 1))) (vacant w) t
-      (keyOf key) (absoluteWord (rate .0) (windowIn s)) 0 0 1 (bucket c 0 t ∷ [])
+      (keyFor key) (absoluteWord (rate .0) (windowIn s)) 0 0 1 (bucket c 0 t ∷ [])
   unfolding editedView actedView startedView
   begin-left rate c y r o i =
       let l = absoluteWord (rate .0) (windowIn s) in
       let e = opening l (Increment c 0) 0 0 1 in
       let a = opening-applies s w t key p l c 0 o i in
-      stands Absolute s w (applied w (vacant w) key (joinTicks s) t (Take e)) (vacant w) (joinTicks s) t (keyOf key) e a
+      stands Absolute s w (applied w (vacant w) key (joinTicks s) t (Take e)) (vacant w) (joinTicks s) t (keyFor key) e a
       (take-changed w (vacant w) key (joinTicks s) t e a) (bucket c 0 t ∷ []) (begins-view (joinTicks s) t c)
-      (key-fits key y (p .short)) (series-right Absolute) (none-right Absolute _ (sum-one deniedOf (bucket c 0 t)))
+      (key-fits (markOf (key .caller .party)) (key .bytes) y (p .short)) (series-right Absolute) (none-right Absolute _ (sum-one deniedOf (bucket c 0 t)))
       (limit-right Absolute s rate (p .settings) r) (uncached _)
 
   -- ---- the calls, once they are not refused
@@ -325,7 +326,7 @@ module _ (s : Settings) (w : List ℕ) (t : ℕ) (key : List ℕ) (p : Passed Ab
         (sym (b ∙ ap (λ (e : Change). after (pickChange again e Keep)) (look-known h))) (ask-left again h);
   }
 
-  module _ (rate : RateLimit) (c : ℕ) (f : first (incTurns s (ringOf w) (noneFree w) t rate c (heldIn w key)) ≡ 0) where
+  module _ (rate : RateLimit) (c : ℕ) (f : first (incTurns s (ringOf w) (noneLeft w (key .caller)) t rate c (heldIn w key)) ≡ 0) where
     abbrev may : Bool
     may = allowed s t (heldIn w key)
 
@@ -336,8 +337,8 @@ module _ (s : Settings) (w : List ℕ) (t : ℕ) (key : List ℕ) (p : Passed Ab
     counted = applied w (placeOf w (slotIn s w t key)) key (joinTicks s) t
         (incChange (limitIn Absolute s rate) c (allowed s t (heldIn w key)) (outFor s (ringOf w) t c (heldIn w key)) (slotIn s w t key) (lookedIn s w t key))
 
-    unmet : AllFalse (incTurns s (ringOf w) (noneFree w) t rate c (heldIn w key))
-    unmet = all-false (incTurns s (ringOf w) (noneFree w) t rate c (heldIn w key)) (omega arith) f
+    unmet : AllFalse (incTurns s (ringOf w) (noneLeft w (key .caller)) t rate c (heldIn w key))
+    unmet = all-false (incTurns s (ringOf w) (noneLeft w (key .caller)) t rate c (heldIn w key)) (omega arith) f
 
     -- an unknown key's place is a free one
     none-known : heldIn w key .known ≡ false → slotIn s w t key .series ≡ false
@@ -368,19 +369,20 @@ module _ (s : Settings) (w : List ℕ) (t : ℕ) (key : List ℕ) (p : Passed Ab
 
     new-place : heldIn w key .known ≡ false → vacant w < slotsOf w
     new-place h =
-        let e : lacksSlot (noneFree w) (heldIn w key) ≡ false = unmet .1 .1 .0 in
-        leb-false (slotsOf w) (vacant w)
-        (sym (ap (λ (z : Bool). not z && noneFree w) (sym (has-is (windowTicks s) t true (heldIn w key) (slotIn s w t key) (seen Absolute s w t key p)) ∙
+        let e : lacksSlot (noneLeft w (key .caller)) (heldIn w key) ≡ false = unmet .1 .1 .0 in
+        free-there Absolute s w t key p
+        (sym (ap (λ (z : Bool). not z && noneLeft w (key .caller))
+        (sym (has-is (windowTicks s) t true (heldIn w key) (slotIn s w t key) (seen Absolute s w t key p)) ∙
         has-series s w t key p ∙ none-known h)) ∙ e)
 
-    inc-unknown : Bytes key → heldIn w key .known ≡ false →
-        Stands Absolute s w counted (vacant w) t (keyOf key) (limitIn Absolute s rate) 0 0 1 (bucket c 0 t ∷ [])
+    inc-unknown : Bytes (key .bytes) → heldIn w key .known ≡ false →
+        Stands Absolute s w counted (vacant w) t (keyFor key) (limitIn Absolute s rate) 0 0 1 (bucket c 0 t ∷ [])
     unfolding incChange
     inc-unknown y h =
         let x = slotIn s w t key in
         let l = limitIn Absolute s rate in
         let known-change = pickChange may (Update (leaving out x (Increment c 0))) (Update (evicting (lookedIn s w t key) Nothing)) in
-        subst (λ (v : List ℕ). Stands Absolute s w v (vacant w) t (keyOf key) l 0 0 1 (bucket c 0 t ∷ []))
+        subst (λ (v : List ℕ). Stands Absolute s w v (vacant w) t (keyFor key) l 0 0 1 (bucket c 0 t ∷ []))
         (ap₂ (λ (n : ℕ) (z : Bool). applied w n key (joinTicks s) t (pickChange z known-change (Take (opening l (Increment c 0) 0 0 1)))) (sym (place-new h))
         (sym (none-known h)))
         (begin-left rate c y (not-false (rateOk (rate .0)) (unmet .0)) (new-fits h) (new-place h))
@@ -419,13 +421,13 @@ module _ (s : Settings) (w : List ℕ) (t : ℕ) (key : List ℕ) (p : Passed Ab
         (subst (λ (n : ℕ). Left s w (applied w n key (joinTicks s) t (Update (evicting y Nothing))) t key (lookedOf s t (heldIn w key))) (at-known h)
         (looked-left h))
 
-    pub inc-law : Bytes key → (v : Verdict RateLimitDecision) → v .answer ≡ decided s t (heldIn w key) →
+    pub inc-law : Bytes (key .bytes) → (v : Verdict RateLimitDecision) → v .answer ≡ decided s t (heldIn w key) →
         v .words ≡ applied w (placeOf w (slotIn s w t key)) key (joinTicks s) t
         (incChange (limitIn Absolute s rate) c (allowed s t (heldIn w key)) (outFor s (ringOf w) t c (heldIn w key)) (slotIn s w t key) (lookedIn s w t key)) →
         IncLaw s w t key rate c v
     inc-law y v a b = record {
       answer = a;
-      unknown = λ h. subst (λ (z : List ℕ). Stands Absolute s w z (vacant w) t (keyOf key) (limitIn Absolute s rate) 0 0 1 (bucket c 0 t ∷ [])) (sym b)
+      unknown = λ h. subst (λ (z : List ℕ). Stands Absolute s w z (vacant w) t (keyFor key) (limitIn Absolute s rate) 0 0 1 (bucket c 0 t ∷ [])) (sym b)
           (inc-unknown y h);
       accepted = λ h e. subst (λ (z : List ℕ). Left s w z t key (joined (joinTicks s) t c 0 (foundFor s (ringOf w) t c (heldIn w key)))) (sym b)
           (inc-accepted h e);
@@ -507,7 +509,7 @@ allowed-exactly s t h =
 
 -- ---- the calls, for every input
 
-module _ (s : Settings) (w : List ℕ) (t : ℕ) (key : List ℕ) where
+module _ (s : Settings) (w : List ℕ) (t : ℕ) (key : Sent) where
   passing : (own : List (ℕ × Bool)) → first (refusals Absolute s w t key own) ≡ 0 → Passed Absolute s w t key
   passing own e = passed Absolute s w t key (unrefused-early Absolute s w t key own e)
 
@@ -519,11 +521,12 @@ module _ (s : Settings) (w : List ℕ) (t : ℕ) (key : List ℕ) where
   unfolding isAllowed
   ask-follows = follows decision.Refused _ w _ (AskLaw s w t key) (λ e. ask-law s w t key (passing [] e) _ refl refl)
 
-  pub inc-follows : (rate : RateLimit) (c : ℕ) → Bytes key →
-      Follows decision.Refused w (first (refusals Absolute s w t key (incTurns s (ringOf w) (noneFree w) t rate c (heldIn w key)))) (inc s w t key rate c)
+  pub inc-follows : (rate : RateLimit) (c : ℕ) → Bytes (key .bytes) →
+      Follows decision.Refused w (first (refusals Absolute s w t key (incTurns s (ringOf w) (noneLeft w (key .caller)) t rate c (heldIn w key))))
+      (inc s w t key rate c)
       (IncLaw s w t key rate c (inc s w t key rate c))
   unfolding inc
   inc-follows rate c y =
-      let own = incTurns s (ringOf w) (noneFree w) t rate c (heldIn w key) in
+      let own = incTurns s (ringOf w) (noneLeft w (key .caller)) t rate c (heldIn w key) in
       follows decision.Refused _ w _ (IncLaw s w t key rate c)
       (λ e. inc-law s w t key (passing own e) rate c (unrefused-own Absolute s w t key own e) y _ refl refl)

@@ -1,5 +1,5 @@
 -- What stands after the calls, in the rules' own terms: the key's slot has the buckets, limit, cached factor and use that the rules say, it is sound again,
--- and every other slot is word for word as it was. (After `clear` every slot is free: `clear-read-run` of the frame.)
+-- and every other slot is word for word as it was. (After `clear` every slot of the caller's is free: `clear-read-run` of the frame.)
 -- Assumes nothing.
 use mathlib.Core.Path.{_≡_, refl, sym, ap, ap₂, subst, _∙_}
 use mathlib.Core.Bool.{Bool, true, false, not, _&&_, _||_, cond, false≢true}
@@ -29,9 +29,10 @@ use Rattle.ring.specs.Sums.{sum-one, sum-split}
 use Rattle.ring.specs.Sound.{Sound, soundBuckets, true-sound}
 use Rattle.keys.specs.declared.Key.{Key}
 use Rattle.room.specs.Room.{Room, slotsOf, ringOf, lastOf, useOf, keyAt, keySound, bodyOf, withReading}
-use Rattle.keys.specs.Keys.{keyFits, keyOf}
-use Rattle.frame.specs.Frame.{Changed, put-reading, use-run}
+use Rattle.keys.specs.Keys.{keyFits}
+use Rattle.frame.specs.Frame.{Changed, unheld, put-reading, release-run}
 use Rattle.frame.specs.Keys.{Bytes, key-fits}
+use Rattle.parties.specs.Parties.{Sent, keyFor, markOf}
 use Rattle.edit.specs.declared.Then.the-variants as then
 use Rattle.edit.specs.declared.Edit.{Edit}
 use Rattle.change.specs.declared.Change.{Change}
@@ -137,14 +138,14 @@ module _ (kind : RoomKind) (s : Settings) (w v : List ℕ) (at b t : ℕ) (k : K
 
 -- ---- the words after a change
 
-module _ (w : List ℕ) (at : ℕ) (key : List ℕ) (b t : ℕ) where
+module _ (w : List ℕ) (at : ℕ) (key : Sent) (b t : ℕ) where
   pub keep-words : applied w at key b t Keep ≡ withReading w t
   unfolding applied carried
   keep-words = refl
 
-  pub free-changed : Room w → at < slotsOf w → Changed w (applied w at key b t Free) at 0 (keyAt w at) (bodyOf w at) t
+  pub free-changed : Room w → at < slotsOf w → Changed w (applied w at key b t Free) at (useOf w at) (unheld (keyAt w at)) (bodyOf w at) t
   unfolding applied carried
-  free-changed o h = use-run w at t o h 0
+  free-changed o h = release-run w at t o h
 
   pub update-changed : (e : Edit) → EditsAt w at b t e →
       Changed w (applied w at key b t (Update e)) at (e .used) (keyAt w at) (edited (ringOf w) b t (bodyOf w at) e) t
@@ -152,7 +153,7 @@ module _ (w : List ℕ) (at : ℕ) (key : List ℕ) (b t : ℕ) where
   update-changed e o = put-reading (update-change w at b t e o) t
 
   pub take-changed : (e : Edit) → EditsAt w at b t e →
-      Changed w (applied w at key b t (Take e)) at (e .used) (keyOf key) (edited (ringOf w) b t (bodyOf w at) e) t
+      Changed w (applied w at key b t (Take e)) at (e .used) (keyFor key) (edited (ringOf w) b t (bodyOf w at) e) t
   unfolding applied carried
   take-changed e o = put-reading (take-change w at b t e o key) t
 
@@ -243,7 +244,7 @@ pub found-key : (kind : RoomKind) (s : Settings) (w : List ℕ) (t at : ℕ) (x 
 unfolding soundSlot
 found-key kind s w t at x f = and-true (keySound w at) _ (f .sound) .0
 
-module _ (kind : RoomKind) (s : Settings) (w : List ℕ) (t : ℕ) (key : List ℕ) (p : Passed kind s w t key) where
+module _ (kind : RoomKind) (s : Settings) (w : List ℕ) (t : ℕ) (key : Sent) (p : Passed kind s w t key) where
   -- what the answers speak of: the live buckets' counts, and what of them was declined
   pub live-is : slotIn s w t key .series ≡ true → liveIn (slotIn s w t key) ≡
       counts (live (windowTicks s) t (buckets (ringOf w) (bodyOf w (slotIn s w t key .at))))
@@ -270,12 +271,12 @@ module _ (kind : RoomKind) (s : Settings) (w : List ℕ) (t : ℕ) (key : List �
 
   -- the slot is free then, or there is nothing to free
   pub delete-frees : hasSlot (slotIn s w t key) ≡ true →
-      Changed w (applied w (slotIn s w t key .at) key (joinTicks s) t (deleting (slotIn s w t key))) (slotIn s w t key .at) 0 (keyAt w (slotIn s w t key .at))
-      (bodyOf w (slotIn s w t key .at)) t
+      Changed w (applied w (slotIn s w t key .at) key (joinTicks s) t (deleting (slotIn s w t key))) (slotIn s w t key .at)
+      (useOf w (slotIn s w t key .at)) (unheld (keyAt w (slotIn s w t key .at))) (bodyOf w (slotIn s w t key .at)) t
   unfolding deleting
   delete-frees e =
       let at = slotIn s w t key .at in
-      subst (λ (z : Bool). Changed w (applied w at key (joinTicks s) t (cond z Free Keep)) at 0 (keyAt w at) (bodyOf w at) t) (sym e)
+      subst (λ (z : Bool). Changed w (applied w at key (joinTicks s) t (cond z Free Keep)) at (useOf w at) (unheld (keyAt w at)) (bodyOf w at) t) (sym e)
       (free-changed w at key (joinTicks s) t (p .room) (slot-within kind s w t key p e))
 
   pub delete-keeps : hasSlot (slotIn s w t key) ≡ false → applied w (slotIn s w t key .at) key (joinTicks s) t (deleting (slotIn s w t key)) ≡ withReading w t
@@ -321,12 +322,14 @@ module _ (kind : RoomKind) (s : Settings) (w : List ℕ) (t : ℕ) (key : List �
   -- a set of a known series to 0: "the series goes"
   pub set-frees : (limit count : ℕ) (mode : HistoryUpdateMode) → slotIn s w t key .series ≡ true → eqb count 0 ≡ true →
       Changed w (applied w (placeOf w (slotIn s w t key)) key (joinTicks s) t (setting (slotIn s w t key) false limit count mode))
-      (placeOf w (slotIn s w t key)) 0 (keyAt w (placeOf w (slotIn s w t key))) (bodyOf w (placeOf w (slotIn s w t key))) t
+      (placeOf w (slotIn s w t key)) (useOf w (placeOf w (slotIn s w t key))) (unheld (keyAt w (placeOf w (slotIn s w t key))))
+      (bodyOf w (placeOf w (slotIn s w t key))) t
   unfolding setting
   set-frees limit count mode e z =
       let x = slotIn s w t key in
       let at = placeOf w x in
-      subst (λ (y : Bool). Changed w (applied w at key (joinTicks s) t (cond y Free (stored x limit count mode))) at 0 (keyAt w at) (bodyOf w at) t) (sym z)
+      subst (λ (y : Bool). Changed w (applied w at key (joinTicks s) t (cond y Free (stored x limit count mode))) at (useOf w at) (unheld (keyAt w at))
+      (bodyOf w at) t) (sym z)
       (free-changed w at key (joinTicks s) t (p .room) (place-within kind s w t key p (known-has x e)))
 
   -- what is stored of a known series
@@ -421,17 +424,18 @@ module _ (kind : RoomKind) (s : Settings) (w : List ℕ) (t : ℕ) (key : List �
       (found-key kind s w t (x .at) x (found-at kind s w t key p (cached-has x e g))))
       (update-changed w at key (joinTicks s) t edit (begins-applies kind s w t key p l count (x .factor) (x .«factor_time») m i)))
 
-  pub set-begins : (rate : RateLimit) (count : ℕ) (mode : HistoryUpdateMode) → Bytes key → rateOk (rate .0) ≡ true → slotIn s w t key .series ≡ false →
+  pub set-begins : (rate : RateLimit) (count : ℕ) (mode : HistoryUpdateMode) → Bytes (key .bytes) → rateOk (rate .0) ≡ true → slotIn s w t key .series ≡ false →
       slotIn s w t key .cached ≡ false → eqb count 0 ≡ false → count ≤ mostTotal →
       placeOf w (slotIn s w t key) < slotsOf w →
       Stands kind s w (applied w (placeOf w (slotIn s w t key)) key (joinTicks s) t (setting (slotIn s w t key) false (limitIn kind s rate) count mode))
-      (placeOf w (slotIn s w t key)) t (keyOf key)
+      (placeOf w (slotIn s w t key)) t (keyFor key)
       (limitIn kind s rate) 0 0 1 (bucket count 0 t ∷ [])
   set-begins rate count mode y r e g z m i =
       let x = slotIn s w t key in
       let l = limitIn kind s rate in
       let at = placeOf w x in
-      subst (λ (y : Change). Stands kind s w (applied w at key (joinTicks s) t y) at t (keyOf key) l 0 0 1 (bucket count 0 t ∷ []))
+      subst (λ (y : Change). Stands kind s w (applied w at key (joinTicks s) t y) at t (keyFor key) l 0 0 1 (bucket count 0 t ∷ []))
       (setting-new x l count mode e z g)
-      (begins-stands rate count 0 0 (applied w at key (joinTicks s) t (Take (begins l count 0 0))) (keyOf key) r m i (key-fits key y (p .short))
+      (begins-stands rate count 0 0 (applied w at key (joinTicks s) t (Take (begins l count 0 0))) (keyFor key) r m i
+      (key-fits (markOf (key .caller .party)) (key .bytes) y (p .short))
       (take-changed w at key (joinTicks s) t (begins l count 0 0) (begins-applies kind s w t key p l count 0 0 m i)))

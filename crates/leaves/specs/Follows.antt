@@ -7,6 +7,7 @@ use mathlib.Core.Logic.{_≢_}
 use Prim.Native.Nat.{ℕ}
 use lib.Dec.{eqb}
 use borrow.Author.Tests.{eq-eqb, eqb-true, eqb-false}
+use Rattle.parties.specs.Parties.{Sent}
 use Rattle.common.specs.Refusals.{first}
 use Rattle.settings.specs.declared.Settings.{Settings}
 use Rattle.rules.specs.declared.RoomKind.{RoomKind}
@@ -27,7 +28,7 @@ pub follows : {A : Type 0} (turned : ℕ → A) (n : ℕ) (w : List ℕ) (v : Ve
     Follows turned w n (unlessRefused turned n w v) (P (unlessRefused turned n w v))
 follows turned n w v P f = record { refused = told-turned turned n w v; done = λ e. subst P (done-is turned n w v e) (f e) }
 
-module _ (kind : RoomKind) (s : Settings) (w : List ℕ) (t : ℕ) (key : List ℕ) (own : List (ℕ × Bool)) where
+module _ (kind : RoomKind) (s : Settings) (w : List ℕ) (t : ℕ) (key : Sent) (own : List (ℕ × Bool)) where
   -- not refused: not early, and not by its own
   pub unrefused-early : first (refusals kind s w t key own) ≡ 0 → early kind s w t key ≡ 0
   unrefused-early e = go (eqb (early kind s w t key) 0) refl

@@ -23,10 +23,10 @@ use Rattle.ring.specs.declared.Bucket.{Bucket}
 use Rattle.ring.specs.Ring.{buckets}
 use Rattle.keys.specs.declared.Key.{Key}
 use Rattle.room.specs.Room.{slotsOf, ringOf, bodyOf, keyAt, find, withReading}
-use Rattle.keys.specs.Keys.{keyOf}
 use Rattle.frame.specs.Distinct.{find-key}
 use Rattle.frame.specs.Frame.{Changed}
 use Rattle.frame.specs.Keys.{Bytes, key-fits}
+use Rattle.parties.specs.Parties.{Sent, keyFor, markOf, noneLeft}
 use Rattle.rules.specs.declared.RoomKind.the-variants as kind
 use Rattle.opened.specs.declared.Slot.{Slot}
 use Rattle.judge.specs.Judge.{early, Passed, slotIn, lookedIn}
@@ -65,13 +65,13 @@ use Rattle.plan.specs.Seen.{seen, held-there}
 
 -- ---- the slot that a key addresses has the key
 
-addressed-has : (w key : List ℕ) → addressed w key < slotsOf w → keyAt w (addressed w key) ≡ keyOf key
+addressed-has : (w : List ℕ) (key : Sent) → addressed w key < slotsOf w → keyAt w (addressed w key) ≡ keyFor key
 unfolding addressed
-addressed-has w key h = go (ltb 32 (length key)) h
+addressed-has w key h = go (ltb 32 (length (key .bytes))) h
   where
-    go : (z : Bool) → cond z (slotsOf w) (find w (keyOf key)) < slotsOf w → keyAt w (cond z (slotsOf w) (find w (keyOf key))) ≡ keyOf key
+    go : (z : Bool) → cond z (slotsOf w) (find w (keyFor key)) < slotsOf w → keyAt w (cond z (slotsOf w) (find w (keyFor key))) ≡ keyFor key
     go true l = absurd (omega arith)
-    go false l = find-key w (keyOf key) l
+    go false l = find-key w (keyFor key) l
 
 -- ---- a lone cached factor, or none
 
@@ -110,7 +110,7 @@ module _ (s : Settings) (w : List ℕ) (t : ℕ) (x : Slot) (limit : ℕ) where
 -- ---- the calls
 
 -- of the key's slot x, with the expired buckets out or not
-module _ (s : Settings) (w : List ℕ) (t : ℕ) (key : List ℕ) (q : Passed kind.Suppressed s w t key) (out : Bool) (x : Slot) (u : Opens s w t key out x) where
+module _ (s : Settings) (w : List ℕ) (t : ℕ) (key : Sent) (q : Passed kind.Suppressed s w t key) (out : Bool) (x : Slot) (u : Opens s w t key out x) where
   -- the factor that `get` and `get_suppression_factor` answer with
   pub factor-ok : AskedOk t (askedAt s w t x (x .limit))
   factor-ok = asked-ok s (q .settings) w t x (sums s w t out x (u .stood) (ticksIn s)) (λ c. u .cached-there c .word) (x .limit)
@@ -119,7 +119,7 @@ module _ (s : Settings) (w : List ℕ) (t : ℕ) (key : List ℕ) (q : Passed ki
   given-ok a i = subst (λ (y : Asked). AskedOk t y) (sym i) factor-ok
 
   -- its slot has the key
-  key-has : hasSlot x ≡ true → keyAt w (x .at) ≡ keyOf key
+  key-has : hasSlot x ≡ true → keyAt w (x .at) ≡ keyFor key
   key-has h =
       let a : x .at ≡ addressed w key = u .at-is ∙ slot-addressed (windowTicks s) t w key in
       ap (keyAt w) a ∙ addressed-has w key (omega (arith, u .stood .used-in h))
@@ -134,7 +134,7 @@ module _ (s : Settings) (w : List ℕ) (t : ℕ) (key : List ℕ) (q : Passed ki
 
   -- a change of the key's slot, which has a series or a lone cached factor, or is the one that is taken
   changed-by : (d : Edit) (z : Bool) → hasSlot x ≡ z → EditsAt w (placeOf w x) (joinTicks s) t d →
-      Changed w (applied w (placeOf w x) key (joinTicks s) t (cond z (Update d) (Take d))) (placeOf w x) (d .used) (keyOf key)
+      Changed w (applied w (placeOf w x) key (joinTicks s) t (cond z (Update d) (Take d))) (placeOf w x) (d .used) (keyFor key)
       (edited (ringOf w) (joinTicks s) t (bodyOf w (placeOf w x)) d) t
   changed-by d true h o =
       let at = placeOf w x in
@@ -158,22 +158,22 @@ module _ (s : Settings) (w : List ℕ) (t : ℕ) (key : List ℕ) (q : Passed ki
       none true = refl
       none false = refl
 
-  evicted-stands : (k : Caching) → Bytes key → x .series ≡ true → CachingOk t k →
-      Stands kind.Suppressed s w (applied w (x .at) key (joinTicks s) t (Update (recached x k (evicting x Nothing)))) (x .at) t (keyOf key)
+  evicted-stands : (k : Caching) → Bytes (key .bytes) → x .series ≡ true → CachingOk t k →
+      Stands kind.Suppressed s w (applied w (x .at) key (joinTicks s) t (Update (recached x k (evicting x Nothing)))) (x .at) t (keyFor key)
       (x .limit) (factorAfter k (x .factor)) (timeAfter k (x .«factor_time»)) (useAfter k x) (outIf out (windowTicks s) t (heldIn w key .buckets))
   unfolding recached editedView actedView startedView
   evicted-stands k y h o =
       let at = x .at in
       let d : Edit = recached x k (evicting x Nothing) in
       let g : EditsAt w at (joinTicks s) t d = get-edits s w t at out x (q .room) (u .stood .known h) k in
-      stood s w (applied w at key (joinTicks s) t (Update d)) at t (keyOf key) d (outIf out (windowTicks s) t (heldIn w key .buckets)) g
+      stood s w (applied w at key (joinTicks s) t (Update d)) at t (keyFor key) d (outIf out (windowTicks s) t (heldIn w key .buckets)) g
       (subst (λ (j : Key). Changed w (applied w at key (joinTicks s) t (Update d)) at (d .used) j (edited (ringOf w) (joinTicks s) t (bodyOf w at) d) t)
       (key-has (with-series w x h)) (update-changed w at key (joinTicks s) t d g))
-      (key-fits key y (q .short)) (evicted-right s w t key q out x u k o h) (left-known h)
+      (key-fits (markOf (key .caller .party)) (key .bytes) y (q .short)) (evicted-right s w t key q out x u k o h) (left-known h)
 
 -- ---- get
 
-module _ (s : Settings) (w : List ℕ) (t : ℕ) (key : List ℕ) (e : early kind.Suppressed s w t key ≡ 0) where
+module _ (s : Settings) (w : List ℕ) (t : ℕ) (key : Sent) (e : early kind.Suppressed s w t key ≡ 0) where
   passes : Passed kind.Suppressed s w t key
   passes = passed kind.Suppressed s w t key e
 
@@ -189,13 +189,13 @@ module _ (s : Settings) (w : List ℕ) (t : ℕ) (key : List ℕ) (e : early kin
         (applied w (found .at) key (joinTicks s) t (getChange found (a .caching))) refl refl refl .words
 
     -- a known key is rid of its expired buckets
-    pub get-stands : Bytes key → slotIn s w t key .series ≡ true →
+    pub get-stands : Bytes (key .bytes) → slotIn s w t key .series ≡ true →
         let x = slotIn s w t key in
-        Stands kind.Suppressed s w (get s w t key .words) (x .at) t (keyOf key) (x .limit) (factorAfter (a .caching) (x .factor))
+        Stands kind.Suppressed s w (get s w t key .words) (x .at) t (keyFor key) (x .limit) (factorAfter (a .caching) (x .factor))
         (timeAfter (a .caching) (x .«factor_time»)) (useAfter (a .caching) x) (liveOf s t (heldIn w key))
     get-stands y h =
         let x = slotIn s w t key in
-        subst (λ (v : List ℕ). Stands kind.Suppressed s w v (x .at) t (keyOf key) (x .limit) (factorAfter (a .caching) (x .factor))
+        subst (λ (v : List ℕ). Stands kind.Suppressed s w v (x .at) t (keyFor key) (x .limit) (factorAfter (a .caching) (x .factor))
         (timeAfter (a .caching) (x .«factor_time»)) (useAfter (a .caching) x) (liveOf s t (heldIn w key)))
         (ap (applied w (x .at) key (joinTicks s) t) (get-series x (a .caching) h) ∙ get-words)
         (evicted-stands s w t key passes true x (opens-slot s w t key passes) (a .caching) y h (found-ok a i .caching))
@@ -210,7 +210,7 @@ module _ (s : Settings) (w : List ℕ) (t : ℕ) (key : List ℕ) (e : early kin
 
 -- ---- get_suppression_factor and inc, by a first look
 
-module _ (s : Settings) (w : List ℕ) (t : ℕ) (key : List ℕ) (e : early kind.Suppressed s w t key ≡ 0) where
+module _ (s : Settings) (w : List ℕ) (t : ℕ) (key : Sent) (e : early kind.Suppressed s w t key ≡ 0) where
   q : Passed kind.Suppressed s w t key
   q = passed kind.Suppressed s w t key e
 
@@ -227,18 +227,19 @@ module _ (s : Settings) (w : List ℕ) (t : ℕ) (key : List ℕ) (e : early kin
   looked-ok a i = given-ok s w t key q out x opens a i
 
   module _ (a : Asked) (i : a ≡ askedAt s w t (lookedIn s w t key) (lookedIn s w t key .limit)) where
-    module _ (f : lacksAt w (placeOf w x) x ≡ false) where
+    module _ (f : lacksAt (noneLeft w (key .caller)) x ≡ false) where
       factor-words : applied w (placeOf w x) key (joinTicks s) t (factorChange x (a .caching) t) ≡ getFactor s w t key .words
       factor-words =
-          factor-done s w t key e x refl (placeOf w x) refl (lacksAt w (placeOf w x) x) refl f a i (factorChange x (a .caching) t)
+          factor-done s w t key e x refl (placeOf w x) refl (noneLeft w (key .caller)) refl (lacksAt (noneLeft w (key .caller)) x) refl f a i
+          (factorChange x (a .caching) t)
           (applied w (placeOf w x) key (joinTicks s) t (factorChange x (a .caching) t)) refl refl .words
 
-      pub factor-stands : Bytes key → x .series ≡ true →
-          Stands kind.Suppressed s w (getFactor s w t key .words) (x .at) t (keyOf key) (x .limit) (factorAfter (a .caching) (x .factor))
+      pub factor-stands : Bytes (key .bytes) → x .series ≡ true →
+          Stands kind.Suppressed s w (getFactor s w t key .words) (x .at) t (keyFor key) (x .limit) (factorAfter (a .caching) (x .factor))
           (timeAfter (a .caching) (x .«factor_time»)) (useAfter (a .caching) x) (lookedOf s t (heldIn w key))
       factor-stands y h =
           let n = place-used w x (with-series w x h) in
-          subst (λ (v : List ℕ). Stands kind.Suppressed s w v (x .at) t (keyOf key) (x .limit) (factorAfter (a .caching) (x .factor))
+          subst (λ (v : List ℕ). Stands kind.Suppressed s w v (x .at) t (keyFor key) (x .limit) (factorAfter (a .caching) (x .factor))
           (timeAfter (a .caching) (x .«factor_time»)) (useAfter (a .caching) x) (lookedOf s t (heldIn w key)))
           (ap (λ (j : ℕ). applied w j key (joinTicks s) t (Update (recached x (a .caching) (evicting x Nothing)))) (sym n) ∙
           ap (applied w (placeOf w x) key (joinTicks s) t) (get-series x (a .caching) h ∙ factor-series x (a .caching) t h) ∙ factor-words)
@@ -253,8 +254,8 @@ module _ (s : Settings) (w : List ℕ) (t : ℕ) (key : List ℕ) (e : early kin
           keep-words w (placeOf w x) key (joinTicks s) t
 
       -- "does take one and caches 0": a lone cached factor 0, in the slot of the one that is too old, or in the lowest free one
-      pub factor-lone-stands : Bytes key → x .series ≡ false → usableAt (cacheTicks s) t x ≡ false →
-          Stands kind.Suppressed s w (getFactor s w t key .words) (placeOf w x) t (keyOf key) 0 0 t 2 []
+      pub factor-lone-stands : Bytes (key .bytes) → x .series ≡ false → usableAt (cacheTicks s) t x ≡ false →
+          Stands kind.Suppressed s w (getFactor s w t key .words) (placeOf w x) t (keyFor key) 0 0 t 2 []
       unfolding editedView actedView startedView
       factor-lone-stands y h u =
           let at = placeOf w x in
@@ -263,15 +264,16 @@ module _ (s : Settings) (w : List ℕ) (t : ℕ) (key : List ℕ) (e : early kin
           let c : loneBy (x .cached) t ≡ factorChange x (a .caching) t =
           sym (ap (λ (j : Caching). loneChange (x .cached) j t) k) ∙ factor-lone x (a .caching) t h in
           let g : EditsAt w at (joinTicks s) t (loneEdit t) = either s w t key q out x opens (loneEdit t) (x .cached)
-          (factor-applies s w t key e x refl at refl (lacksAt w at x) refl f (a .caching) (loneBy (x .cached) t) c) in
+          (factor-applies s w t key e x refl at refl (noneLeft w (key .caller)) refl (lacksAt (noneLeft w (key .caller)) x) refl f (a .caching)
+          (loneBy (x .cached) t) c) in
           let z : hasSlot x ≡ x .cached = ap (λ (j : Bool). j || x .cached) h in
-          stood s w (getFactor s w t key .words) at t (keyOf key) (loneEdit t) [] g
-          (subst (λ (v : List ℕ). Changed w v at 2 (keyOf key) (edited (ringOf w) (joinTicks s) t (bodyOf w at) (loneEdit t)) t)
+          stood s w (getFactor s w t key .words) at t (keyFor key) (loneEdit t) [] g
+          (subst (λ (v : List ℕ). Changed w v at 2 (keyFor key) (edited (ringOf w) (joinTicks s) t (bodyOf w at) (loneEdit t)) t)
           (ap (applied w at key (joinTicks s) t) c ∙ factor-words) (changed-by s w t key q out x opens (loneEdit t) (x .cached) z g))
-          (key-fits key y (q .short)) (lone-right s w t key q out x opens) refl
+          (key-fits (markOf (key .caller .party)) (key .bytes) y (q .short)) (lone-right s w t key q out x opens) refl
 
   -- ---- inc
-  module _ (rate : RateLimit) (c draw : ℕ) (f : first (incLate s x (lacksAt w (placeOf w x) x) (ringOf w) t rate c draw) ≡ 0) (o : Outcome)
+  module _ (rate : RateLimit) (c draw : ℕ) (f : first (incLate s x (lacksAt (noneLeft w (key .caller)) x) (ringOf w) t rate c draw) ≡ 0) (o : Outcome)
       (i : o ≡ incOutcome s w t rate c draw x) where
     -- the decision's factor, and what is cached
     pub decision-ok : DecisionOk (o .decision) × CachingOk t (o .caching)
@@ -282,7 +284,7 @@ module _ (s : Settings) (w : List ℕ) (t : ℕ) (key : List ℕ) (e : early kin
 
     rate-ok : rateOk (rate .0) ≡ true
     rate-ok =
-        not-false (rateOk (rate .0)) (all-false (incLate s x (lacksAt w (placeOf w x) x) (ringOf w) t rate c draw) (omega arith) f .0)
+        not-false (rateOk (rate .0)) (all-false (incLate s x (lacksAt (noneLeft w (key .caller)) x) (ringOf w) t rate c draw) (omega arith) f .0)
 
     -- of the live buckets, or of a series that begins
     abbrev edit : Bool → Edit
@@ -291,8 +293,8 @@ module _ (s : Settings) (w : List ℕ) (t : ℕ) (key : List ℕ) (e : early kin
 
     inc-words : applied w (placeOf w x) key (joinTicks s) t (incChange x (limitAt s x rate) c (o .declined) (o .caching)) ≡ inc s w t key rate c draw .words
     inc-words =
-        inc-done s w t key e x refl (placeOf w x) refl (lacksAt w (placeOf w x) x) refl rate c draw (ringOf w)
-        (first (incLate s x (lacksAt w (placeOf w x) x) (ringOf w) t rate c draw)) refl refl f o
+        inc-done s w t key e x refl (placeOf w x) refl (noneLeft w (key .caller)) refl (lacksAt (noneLeft w (key .caller)) x) refl rate c draw (ringOf w)
+        (first (incLate s x (lacksAt (noneLeft w (key .caller)) x) (ringOf w) t rate c draw)) refl refl f o
         (limitAt s x rate) (forecastAt x c) refl refl i (incChange x (limitAt s x rate) c (o .declined) (o .caching))
         (applied w (placeOf w x) key (joinTicks s) t (incChange x (limitAt s x rate) c (o .declined) (o .caching))) refl refl .words
 
@@ -300,46 +302,47 @@ module _ (s : Settings) (w : List ℕ) (t : ℕ) (key : List ℕ) (e : early kin
     unfolding incChange incEdit
     inc-edits =
         either s w t key q out x opens (edit (x .series)) (hasSlot x)
-        (inc-applies s w t key e x refl (placeOf w x) refl (lacksAt w (placeOf w x) x) refl rate c draw (ringOf w)
-        (first (incLate s x (lacksAt w (placeOf w x) x) (ringOf w) t rate c draw)) refl refl f o
+        (inc-applies s w t key e x refl (placeOf w x) refl (noneLeft w (key .caller)) refl (lacksAt (noneLeft w (key .caller)) x) refl rate c draw (ringOf w)
+        (first (incLate s x (lacksAt (noneLeft w (key .caller)) x) (ringOf w) t rate c draw)) refl refl f o
         (limitAt s x rate) (forecastAt x c) refl refl i (incChange x (limitAt s x rate) c (o .declined) (o .caching)) refl)
 
     inc-changed :
         Changed w (applied w (placeOf w x) key (joinTicks s) t (incChange x (limitAt s x rate) c (o .declined) (o .caching))) (placeOf w x)
-        (useAfter (o .caching) x) (keyOf key)
+        (useAfter (o .caching) x) (keyFor key)
         (edited (ringOf w) (joinTicks s) t (bodyOf w (placeOf w x)) (edit (x .series))) t
     unfolding incChange incEdit recached
     inc-changed = changed-by s w t key q out x opens (edit (x .series)) (hasSlot x) refl inc-edits
 
     -- the count goes to the live buckets, or to a series that begins: in the slot of a lone cached factor, or in the lowest free one
-    by-series : (z : Bool) → x .series ≡ z → (v : List ℕ) → Bytes key → EditsAt w (placeOf w x) (joinTicks s) t (edit z) →
-        Changed w v (placeOf w x) (useAfter (o .caching) x) (keyOf key) (edited (ringOf w) (joinTicks s) t (bodyOf w (placeOf w x)) (edit z)) t →
-        Stands kind.Suppressed s w v (placeOf w x) t (keyOf key) (limitAt s x rate) (factorAfter (o .caching) (x .factor))
+    by-series : (z : Bool) → x .series ≡ z → (v : List ℕ) → Bytes (key .bytes) → EditsAt w (placeOf w x) (joinTicks s) t (edit z) →
+        Changed w v (placeOf w x) (useAfter (o .caching) x) (keyFor key) (edited (ringOf w) (joinTicks s) t (bodyOf w (placeOf w x)) (edit z)) t →
+        Stands kind.Suppressed s w v (placeOf w x) t (keyFor key) (limitAt s x rate) (factorAfter (o .caching) (x .factor))
         (timeAfter (o .caching) (x .«factor_time»)) (useAfter (o .caching) x)
         (joined (joinTicks s) t c (o .declined) (lookedOf s t (heldIn w key)))
     unfolding recached editedView actedView startedView limitAt
     by-series true h v y g d =
         let at = placeOf w x in
         let n = place-used w x (with-series w x h) in
-        subst (λ (l : ℕ). Stands kind.Suppressed s w v at t (keyOf key) l (factorAfter (o .caching) (x .factor)) (timeAfter (o .caching) (x .«factor_time»))
+        subst (λ (l : ℕ). Stands kind.Suppressed s w v at t (keyFor key) l (factorAfter (o .caching) (x .factor)) (timeAfter (o .caching) (x .«factor_time»))
         (useAfter (o .caching) x) (joined (joinTicks s) t c (o .declined) (lookedOf s t (heldIn w key))))
         (sym (ap (λ (z : Bool). cond z (x .limit) (hardWord (rate .0) (factorIn s) (windowIn s))) h))
-        (stood s w v at t (keyOf key) (edit true) (joined (joinTicks s) t c (o .declined) (lookedOf s t (heldIn w key))) g d (key-fits key y (q .short))
+        (stood s w v at t (keyFor key) (edit true) (joined (joinTicks s) t c (o .declined) (lookedOf s t (heldIn w key))) g d
+        (key-fits (markOf (key .caller .party)) (key .bytes) y (q .short))
         (inc-right s w t key q out x opens rate c (o .declined) (o .caching) (decision-ok .1) rate-ok true h)
         (ap (λ (j : ℕ). joined (joinTicks s) t c (o .declined) (drop (x .pass .expired) (buckets (ringOf w) (bodyOf w j)))) n ∙
         ap (joined (joinTicks s) t c (o .declined)) (left-known s w t key q out x opens h)))
     by-series false h v y g d =
-        stood s w v (placeOf w x) t (keyOf key) (edit false) (joined (joinTicks s) t c (o .declined) (lookedOf s t (heldIn w key))) g d
-        (key-fits key y (q .short))
+        stood s w v (placeOf w x) t (keyFor key) (edit false) (joined (joinTicks s) t c (o .declined) (lookedOf s t (heldIn w key))) g d
+        (key-fits (markOf (key .caller .party)) (key .bytes) y (q .short))
         (inc-right s w t key q out x opens rate c (o .declined) (o .caching) (decision-ok .1) rate-ok false h)
         (ap (joined (joinTicks s) t c (o .declined)) (left-unknown s w t key q out x opens h))
 
-    pub inc-stands : Bytes key →
-        Stands kind.Suppressed s w (inc s w t key rate c draw .words) (placeOf w x) t (keyOf key) (limitAt s x rate) (factorAfter (o .caching) (x .factor))
+    pub inc-stands : Bytes (key .bytes) →
+        Stands kind.Suppressed s w (inc s w t key rate c draw .words) (placeOf w x) t (keyFor key) (limitAt s x rate) (factorAfter (o .caching) (x .factor))
         (timeAfter (o .caching) (x .«factor_time»)) (useAfter (o .caching) x)
         (joined (joinTicks s) t c (o .declined) (lookedOf s t (heldIn w key)))
     inc-stands y =
-        subst (λ (v : List ℕ). Stands kind.Suppressed s w v (placeOf w x) t (keyOf key) (limitAt s x rate) (factorAfter (o .caching) (x .factor))
+        subst (λ (v : List ℕ). Stands kind.Suppressed s w v (placeOf w x) t (keyFor key) (limitAt s x rate) (factorAfter (o .caching) (x .factor))
         (timeAfter (o .caching) (x .«factor_time»)) (useAfter (o .caching) x) (joined (joinTicks s) t c (o .declined) (lookedOf s t (heldIn w key))))
         inc-words (by-series (x .series) refl (applied w (placeOf w x) key (joinTicks s) t (incChange x (limitAt s x rate) c (o .declined) (o .caching))) y
         inc-edits inc-changed)

@@ -7,3 +7,4 @@ pub mod Absolute
 pub mod Suppressed
 pub mod Leaves
 pub mod SuppressedFollows
+pub mod Shared

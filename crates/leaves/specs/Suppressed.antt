@@ -23,6 +23,7 @@ use Rattle.keys.specs.declared.Key.{Key}
 use Rattle.room.specs.Room.{ringOf, bodyOf}
 use Rattle.keys.specs.Keys.{keyFits}
 use Rattle.frame.specs.Frame.{Changed}
+use Rattle.parties.specs.Parties.{Sent}
 use Rattle.rules.specs.declared.RoomKind.the-variants as kind
 use Rattle.opened.specs.declared.Slot.{Slot}
 use Rattle.judge.specs.Held.{heldIn}
@@ -99,13 +100,13 @@ or-right false b e = e
 
 -- ---- the key's slot x, as it is opened or as a first look leaves it; out says whether the expired buckets are out
 
-pub record Opens (s : Settings) (w : List ℕ) (t : ℕ) (key : List ℕ) (out : Bool) (x : Slot) : Type 0 where
+pub record Opens (s : Settings) (w : List ℕ) (t : ℕ) (key : Sent) (out : Bool) (x : Slot) : Type 0 where
   pub at-is : x .at ≡ slotIn s w t key .at
   pub stood : Stood s w t out x
   pub seen : Seen (windowTicks s) t out (heldIn w key) x
   pub cached-there : x .cached ≡ true → FactorOk (x .factor) (x .«factor_time») t
 
-module _ (s : Settings) (w : List ℕ) (t : ℕ) (key : List ℕ) (q : Passed kind.Suppressed s w t key) where
+module _ (s : Settings) (w : List ℕ) (t : ℕ) (key : Sent) (q : Passed kind.Suppressed s w t key) where
   slot-cached : slotIn s w t key .cached ≡ true → FactorOk (slotIn s w t key .factor) (slotIn s w t key .«factor_time») t
   slot-cached e =
       let x = slotIn s w t key in
@@ -131,7 +132,7 @@ module _ (s : Settings) (w : List ℕ) (t : ℕ) (key : List ℕ) (q : Passed ki
             };
       }
 
-module _ (s : Settings) (w : List ℕ) (t : ℕ) (key : List ℕ) (q : Passed kind.Suppressed s w t key) (out : Bool) (x : Slot) (u : Opens s w t key out x) where
+module _ (s : Settings) (w : List ℕ) (t : ℕ) (key : Sent) (q : Passed kind.Suppressed s w t key) (out : Bool) (x : Slot) (u : Opens s w t key out x) where
   -- an increment's edit: of the buckets that are left, or of a series that begins
   pub inc-right : (rate : RateLimit) (c d : ℕ) (k : Caching) → CachingOk t k → rateOk (rate .0) ≡ true → (z : Bool) → x .series ≡ z →
       Right s t (recached x k (cond z (evicting x (Increment c d)) (opening (limitAt s x rate) (Increment c d) (x .factor) (x .«factor_time») (x .used))))

@@ -35,10 +35,10 @@ use Rattle.rules.specs.Both.{liveOf, overdueIn, lookedOf}
 use Rattle.rules.specs.Suppressed.{limitFor, usable, asked, asking, forecast, reachOf, declinedBy, outcomeOf, outcome, admits, incTurns, factorTurns}
 use Rattle.rules.specs.Laws.{empty-admits, reach-admits, reach-soft, reach-hard, reach-over, declined-all}
 use Rattle.room.specs.Room.{ringOf, withReading}
-use Rattle.keys.specs.Keys.{keyOf}
 use Rattle.frame.specs.Keys.{Bytes}
+use Rattle.parties.specs.Parties.{Sent, keyFor, noneLeft}
 use Rattle.opened.specs.declared.Slot.{Slot}
-use Rattle.judge.specs.Held.{heldIn, noneFree}
+use Rattle.judge.specs.Held.{heldIn}
 use Rattle.judge.specs.Judge.{refusals, early, Passed, slotIn, lookedIn}
 use Rattle.judge.specs.Laws.{passed}
 use Rattle.judge.specs.Verdict.{Verdict}
@@ -60,23 +60,23 @@ use Rattle.leaves.specs.Leaves.{asked-anew, found-ok, looked-ok, get-sta
 use Rattle.leaves.specs.Leaves.{decision-ok, inc-stands}
 
 -- the number of a refusal, 0 where there is none
-abbrev pub getNumber : Settings → List ℕ → ℕ → List ℕ → ℕ
+abbrev pub getNumber : Settings → List ℕ → ℕ → Sent → ℕ
 getNumber s w t key = first (refusals kind.Suppressed s w t key [])
 
-abbrev pub factorNumber : Settings → List ℕ → ℕ → List ℕ → ℕ
-factorNumber s w t key = first (refusals kind.Suppressed s w t key (factorTurns (noneFree w) (heldIn w key)))
+abbrev pub factorNumber : Settings → List ℕ → ℕ → Sent → ℕ
+factorNumber s w t key = first (refusals kind.Suppressed s w t key (factorTurns (noneLeft w (key .caller)) (heldIn w key)))
 
-abbrev pub incNumber : Settings → List ℕ → ℕ → List ℕ → RateLimit → ℕ → ℕ → ℕ
-incNumber s w t key rate c draw = first (refusals kind.Suppressed s w t key (incTurns s (ringOf w) (noneFree w) t rate c draw (heldIn w key)))
+abbrev pub incNumber : Settings → List ℕ → ℕ → Sent → RateLimit → ℕ → ℕ → ℕ
+incNumber s w t key rate c draw = first (refusals kind.Suppressed s w t key (incTurns s (ringOf w) (noneLeft w (key .caller)) t rate c draw (heldIn w key)))
 
 -- the slot x of a known key, which is left with buckets ys, once factor a was asked for
-abbrev pub Evicted : Settings → List ℕ → List ℕ → ℕ → List ℕ → Slot → Asked → List Bucket → Type 0
+abbrev pub Evicted : Settings → List ℕ → List ℕ → ℕ → Sent → Slot → Asked → List Bucket → Type 0
 Evicted s w v t key x a ys =
-    Stands kind.Suppressed s w v (x .at) t (keyOf key) (x .limit) (factorAfter (a .caching) (x .factor)) (timeAfter (a .caching) (x .«factor_time»))
+    Stands kind.Suppressed s w v (x .at) t (keyFor key) (x .limit) (factorAfter (a .caching) (x .factor)) (timeAfter (a .caching) (x .«factor_time»))
     (useAfter (a .caching) x) ys
 
 -- `get`: a known key's live totals and factor; "on an unknown key gives zeros and takes no slot"
-pub record Gets (s : Settings) (w : List ℕ) (t : ℕ) (key : List ℕ) (v : Verdict SnapshotAnswer) : Type 0 where
+pub record Gets (s : Settings) (w : List ℕ) (t : ℕ) (key : Sent) (v : Verdict SnapshotAnswer) : Type 0 where
   pub known-answer : heldIn w key .known ≡ true → v .answer ≡ snapshot.Snapshot (record {
     total = counts (liveOf s t (heldIn w key));
     «total_declined» = declineds (liveOf s t (heldIn w key));
@@ -88,30 +88,30 @@ pub record Gets (s : Settings) (w : List ℕ) (t : ℕ) (key : List ℕ) (v : Ve
   pub unknown : heldIn w key .known ≡ false → v .words ≡ withReading w t
 
 -- `get_suppression_factor`: "gives a lone cached factor at age below C"; without one it "does take" a slot "and caches 0"
-pub record GivesFactor (s : Settings) (w : List ℕ) (t : ℕ) (key : List ℕ) (v : Verdict FactorAnswer) : Type 0 where
+pub record GivesFactor (s : Settings) (w : List ℕ) (t : ℕ) (key : Sent) (v : Verdict FactorAnswer) : Type 0 where
   pub answer : v .answer ≡ factor.Factor (asking s t (overdueIn s t (heldIn w key)) (heldIn w key) .factor)
   pub unit : FactorOk (v .answer)
   pub known : heldIn w key .known ≡ true → Evicted s w (v .words) t key (lookedIn s w t key) (asking s t (overdueIn s t (heldIn w key)) (heldIn w key))
       (lookedOf s t (heldIn w key))
   pub kept : heldIn w key .known ≡ false → usable s t (overdueIn s t (heldIn w key)) (heldIn w key) ≡ true → v .words ≡ withReading w t
   pub anew : heldIn w key .known ≡ false → usable s t (overdueIn s t (heldIn w key)) (heldIn w key) ≡ false →
-      Stands kind.Suppressed s w (v .words) (placeOf w (lookedIn s w t key)) t (keyOf key) 0 0 t 2 []
+      Stands kind.Suppressed s w (v .words) (placeOf w (lookedIn s w t key)) t (keyFor key) 0 0 t 2 []
   pub anew-zero : heldIn w key .known ≡ false → usable s t (overdueIn s t (heldIn w key)) (heldIn w key) ≡ false →
       asking s t (overdueIn s t (heldIn w key)) (heldIn w key) .factor ≡ nil
 
 -- `inc`: "Count, and declined if not admitted, go to totals and bucket", of a known key, in the slot of a lone cached factor, or in the lowest free one
-pub record Counts (s : Settings) (w : List ℕ) (t : ℕ) (key : List ℕ) (limit c : ℕ) (x : Slot) (o : Outcome) (v : Verdict RateLimitDecision) : Type 0 where
+pub record Counts (s : Settings) (w : List ℕ) (t : ℕ) (key : Sent) (limit c : ℕ) (x : Slot) (o : Outcome) (v : Verdict RateLimitDecision) : Type 0 where
   pub settings : Proper s
   pub answer : v .answer ≡ o .decision
   pub unit : DecisionOk (o .decision)
   pub stands :
-      Stands kind.Suppressed s w (v .words) (placeOf w x) t (keyOf key) limit (factorAfter (o .caching) (x .factor))
+      Stands kind.Suppressed s w (v .words) (placeOf w x) t (keyFor key) limit (factorAfter (o .caching) (x .factor))
       (timeAfter (o .caching) (x .«factor_time»)) (useAfter (o .caching) x)
       (joined (joinTicks s) t c (declinedBy (admits (v .answer)) c) (lookedOf s t (heldIn w key)))
 
 -- ---- the calls
 
-module _ (s : Settings) (w : List ℕ) (t : ℕ) (key : List ℕ) where
+module _ (s : Settings) (w : List ℕ) (t : ℕ) (key : Sent) where
   -- what stands of the key's slot where the call is not refused early
   module _ (e : early kind.Suppressed s w t key ≡ 0) where
     abbrev x : Slot
@@ -145,7 +145,7 @@ module _ (s : Settings) (w : List ℕ) (t : ℕ) (key : List ℕ) where
     looked-as b f = l .series-is ∙ f
 
     -- ---- get
-    gets : Bytes key → Gets s w t key (get s w t key)
+    gets : Bytes (key .bytes) → Gets s w t key (get s w t key)
     gets y =
         let a = asking s t true h in
         let r = get-done s w t key e x refl a asked-is (snapshotAt x (a .factor)) (getChange x (a .caching))
@@ -165,13 +165,13 @@ module _ (s : Settings) (w : List ℕ) (t : ℕ) (key : List ℕ) where
     usable-as : usableAt (cacheTicks s) t (lookedIn s w t key) ≡ usable s t (overdueIn s t (heldIn w key)) (heldIn w key)
     usable-as = usable-is s t (overdueIn s t h) h z l
 
-    factors : Bytes key → first (factorTurns (noneFree w) (heldIn w key)) ≡ 0 → GivesFactor s w t key (getFactor s w t key)
+    factors : Bytes (key .bytes) → first (factorTurns (noneLeft w (key .caller)) (heldIn w key)) ≡ 0 → GivesFactor s w t key (getFactor s w t key)
     factors y f =
         let a = asking s t (overdueIn s t h) h in
-        let n = all-false (factorTurns (noneFree w) h) (omega arith) f in
-        let k : lacksAt w (placeOf w z) z ≡ false = lacks-is (windowTicks s) t (overdueIn s t h) h z l w ∙ n .0 in
+        let n = all-false (factorTurns (noneLeft w (key .caller)) h) (omega arith) f in
+        let k : lacksAt (noneLeft w (key .caller)) z ≡ false = lacks-is (windowTicks s) t (overdueIn s t h) h z l (noneLeft w (key .caller)) ∙ n .0 in
         let ch = factorChange z (a .caching) t in
-        let r = factor-done s w t key e z refl (placeOf w z) refl (lacksAt w (placeOf w z) z) refl k a looked-is ch
+        let r = factor-done s w t key e z refl (placeOf w z) refl (noneLeft w (key .caller)) refl (lacksAt (noneLeft w (key .caller)) z) refl k a looked-is ch
         (applied w (placeOf w z) key (joinTicks s) t ch) refl refl .answer in
         record {
           answer = sym r;
@@ -201,28 +201,29 @@ module _ (s : Settings) (w : List ℕ) (t : ℕ) (key : List ℕ) where
       declined-is = declined-all (reachOf (forecast (lookedOf s t h) c) (softWord (factorIn s) limit) (cutWord limit))
           (asked s t (overdueIn s t h) limit h) t c draw
 
-      counted : Bytes key → first (incTurns s (ringOf w) (noneFree w) t rate c draw (heldIn w key)) ≡ 0 →
+      counted : Bytes (key .bytes) → first (incTurns s (ringOf w) (noneLeft w (key .caller)) t rate c draw (heldIn w key)) ≡ 0 →
           Counts s w t key (limitFor s rate (heldIn w key)) c (lookedIn s w t key) (outcome s t (limitFor s rate (heldIn w key)) c draw (heldIn w key))
           (inc s w t key rate c draw)
       counted y f =
           let at = placeOf w z in
           let o = outcome s t limit c draw h in
-          let late = incLate s z (lacksAt w at z) (ringOf w) t rate c draw in
+          let late = incLate s z (lacksAt (noneLeft w (key .caller)) z) (ringOf w) t rate c draw in
           let k : first late ≡ 0 = ap first (late-is s w t key rate c draw q) ∙ f in
           let m = limit-is s t (overdueIn s t h) h z l rate in
           let ch = incChange z (limitAt s z rate) c (o .declined) (o .caching) in
           let r : inc s w t key rate c draw .answer ≡ o .decision =
-          sym (inc-done s w t key e z refl at refl (lacksAt w at z) refl rate c draw (ringOf w) (first late) refl refl k o (limitAt s z rate)
+          sym (inc-done s w t key e z refl at refl (noneLeft w (key .caller)) refl (lacksAt (noneLeft w (key .caller)) z) refl rate c draw (ringOf w)
+          (first late) refl refl k o (limitAt s z rate)
           (forecastAt z c) refl refl outcome-told ch (applied w at key (joinTicks s) t ch) refl refl .answer) in
           record {
             settings = q .settings;
             answer = r;
             unit = decision-ok s w t key e rate c draw k o outcome-told .0;
             stands =
-                subst (λ (n : ℕ). Stands kind.Suppressed s w (inc s w t key rate c draw .words) at t (keyOf key) n (factorAfter (o .caching) (z .factor))
+                subst (λ (n : ℕ). Stands kind.Suppressed s w (inc s w t key rate c draw .words) at t (keyFor key) n (factorAfter (o .caching) (z .factor))
                 (timeAfter (o .caching) (z .«factor_time»)) (useAfter (o .caching) z)
                 (joined (joinTicks s) t c (declinedBy (admits (inc s w t key rate c draw .answer)) c) (lookedOf s t h))) m
-                (subst (λ (d : ℕ). Stands kind.Suppressed s w (inc s w t key rate c draw .words) at t (keyOf key) (limitAt s z rate)
+                (subst (λ (d : ℕ). Stands kind.Suppressed s w (inc s w t key rate c draw .words) at t (keyFor key) (limitAt s z rate)
                 (factorAfter (o .caching) (z .factor)) (timeAfter (o .caching) (z .«factor_time»)) (useAfter (o .caching) z)
                 (joined (joinTicks s) t c d (lookedOf s t h)))
                 (declined-is ∙ ap (λ (b : RateLimitDecision). declinedBy (admits b) c) (sym r))
@@ -231,13 +232,14 @@ module _ (s : Settings) (w : List ℕ) (t : ℕ) (key : List ℕ) where
 
   -- ---- for every input
 
-  pub get-follows : Bytes key → Follows snapshot.Refused w (getNumber s w t key) (get s w t key) (Gets s w t key (get s w t key))
+  pub get-follows : Bytes (key .bytes) → Follows snapshot.Refused w (getNumber s w t key) (get s w t key) (Gets s w t key (get s w t key))
   unfolding get
   get-follows y = call-follows kind.Suppressed s w t key [] snapshot.Refused _ (Gets s w t key (get s w t key)) (λ e f. gets e y)
 
-  pub factor-follows : Bytes key → Follows factor.Refused w (factorNumber s w t key) (getFactor s w t key) (GivesFactor s w t key (getFactor s w t key))
+  pub factor-follows : Bytes (key .bytes) → Follows factor.Refused w (factorNumber s w t key) (getFactor s w t key)
+      (GivesFactor s w t key (getFactor s w t key))
   unfolding getFactor
-  factor-follows y = call-follows kind.Suppressed s w t key (factorTurns (noneFree w) (heldIn w key)) factor.Refused _
+  factor-follows y = call-follows kind.Suppressed s w t key (factorTurns (noneLeft w (key .caller)) (heldIn w key)) factor.Refused _
       (GivesFactor s w t key (getFactor s w t key)) (λ e f. factors e y f)
 
   -- what the rules decide of an increment
@@ -246,16 +248,17 @@ module _ (s : Settings) (w : List ℕ) (t : ℕ) (key : List ℕ) where
       Counts s w t key (limitFor s rate (heldIn w key)) c (lookedIn s w t key) (outcome s t (limitFor s rate (heldIn w key)) c draw (heldIn w key))
       (inc s w t key rate c draw)
 
-  pub inc-follows : (rate : RateLimit) (c draw : ℕ) → Bytes key →
+  pub inc-follows : (rate : RateLimit) (c draw : ℕ) → Bytes (key .bytes) →
       Follows decision.Refused w (incNumber s w t key rate c draw) (inc s w t key rate c draw) (Counted rate c draw)
   unfolding inc
   inc-follows rate c draw y =
-      call-follows kind.Suppressed s w t key (incTurns s (ringOf w) (noneFree w) t rate c draw (heldIn w key)) decision.Refused _ (Counted rate c draw)
+      call-follows kind.Suppressed s w t key (incTurns s (ringOf w) (noneLeft w (key .caller)) t rate c draw (heldIn w key)) decision.Refused _
+      (Counted rate c draw)
       (λ e f. counted e rate c draw y f)
 
 -- ---- an increment that is not refused, by its forecast: "Forecast = total - declined + count" of the buckets that its first look leaves
 
-module _ (s : Settings) (w : List ℕ) (t : ℕ) (key : List ℕ) (rate : RateLimit) (c draw : ℕ) (x : Slot) (v : Verdict RateLimitDecision)
+module _ (s : Settings) (w : List ℕ) (t : ℕ) (key : Sent) (rate : RateLimit) (c draw : ℕ) (x : Slot) (v : Verdict RateLimitDecision)
     (k : Counts s w t key (limitFor s rate (heldIn w key)) c x (outcome s t (limitFor s rate (heldIn w key)) c draw (heldIn w key)) v) where
   abbrev hard : ℕ
   hard = cutWord (limitFor s rate (heldIn w key))
@@ -303,7 +306,7 @@ module _ (s : Settings) (w : List ℕ) (t : ℕ) (key : List ℕ) (rate : RateLi
 
 -- ---- so for every input
 
-module _ (s : Settings) (w : List ℕ) (t : ℕ) (key : List ℕ) (rate : RateLimit) (c draw : ℕ) (y : Bytes key) where
+module _ (s : Settings) (w : List ℕ) (t : ℕ) (key : Sent) (rate : RateLimit) (c draw : ℕ) (y : Bytes (key .bytes)) where
   pub inc-admitted : admits (inc s w t key rate c draw .answer) ≡ true → forecast (lookedOf s t (heldIn w key)) c ≤ cutWord (limitFor s rate (heldIn w key))
   inc-admitted h = go (ℕ-discrete (incNumber s w t key rate c draw) 0)
     where

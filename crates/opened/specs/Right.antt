@@ -17,9 +17,9 @@ use Rattle.sweep.specs.Sweep.{found, unsound, pick, passOf}
 use Rattle.ring.specs.Ring.{declinedOf, lenOf, buckets}
 use Rattle.ring.specs.Sound.{soundBuckets}
 use Rattle.room.specs.Room.{Room, slotsOf, ringOf, lastOf, useOf, keySound, find, bodyOf}
-use Rattle.keys.specs.Keys.{keyOf}
 use Rattle.frame.specs.Keys.{Bytes}
 use Rattle.frame.specs.Distinct.{has-sound, find-le, find-has}
+use Rattle.parties.specs.Parties.{Sent, keyFor, markOf}
 use Rattle.rules.specs.declared.RoomKind.{RoomKind}
 use Rattle.opened.specs.declared.Slot.{Slot}
 use Rattle.opened.specs.Sound.{limitOf, hasSeries, hasCached, rightUse, declinedRight, soundSeries, soundCached, soundSlot, addressed, soundAt}
@@ -38,7 +38,7 @@ unfoldable pub slotRight : RoomKind → Settings → ℕ → ℕ → Slot → Bo
 slotRight kind s last u x = rightUse kind u && (seriesRight kind s x && cachedRight last x)
 
 -- x is the slot that a key addresses, as some look leaves it
-pub record Addresses (w key : List ℕ) (s : Settings) (x : Slot) : Type 0 where
+pub record Addresses (w : List ℕ) (key : Sent) (s : Settings) (x : Slot) : Type 0 where
   pub room : Room w
   pub reading : ℕ
   pub look : ℕ
@@ -102,38 +102,40 @@ slot-at W t w at h = go (ltb at (slotsOf w)) refl
     go true e = refl
     go false e = omega (arith, ltb-false at (slotsOf w) e)
 
-pub addressed-le : (w key : List ℕ) → addressed w key ≤ slotsOf w
+pub addressed-le : (w : List ℕ) (key : Sent) → addressed w key ≤ slotsOf w
 unfolding addressed
-addressed-le w key = go (ltb 32 (length key))
+addressed-le w key = go (ltb 32 (length (key .bytes)))
   where
-    go : (x : Bool) → cond x (slotsOf w) (find w (keyOf key)) ≤ slotsOf w
+    go : (x : Bool) → cond x (slotsOf w) (find w (keyFor key)) ≤ slotsOf w
     go true = omega arith
-    go false = find-le w (keyOf key)
+    go false = find-le w (keyFor key)
 
-pub slot-addressed : (W t : ℕ) (w key : List ℕ) → slotOf W w t (addressed w key) .at ≡ addressed w key
+pub slot-addressed : (W t : ℕ) (w : List ℕ) (key : Sent) → slotOf W w t (addressed w key) .at ≡ addressed w key
 slot-addressed W t w key = slot-at W t w (addressed w key) (addressed-le w key)
 
-pub addressed-at : (w key : List ℕ) (s : Settings) (x : Slot) → Addresses w key s x → x .at ≡ addressed w key
+pub addressed-at : (w : List ℕ) (key : Sent) (s : Settings) (x : Slot) → Addresses w key s x → x .at ≡ addressed w key
 addressed-at w key s x a =
     ap (λ (y : Slot). y .at) (a .is) ∙ look-at (a .look) (a .reading) (slotOf (windowTicks s) w (a .reading) (addressed w key)) ∙
     slot-addressed (windowTicks s) (a .reading) w key
 
 -- its key is the one that was looked for
-pub addressed-key : (w key : List ℕ) → Bytes key → addressed w key < slotsOf w → keySound w (addressed w key) ≡ true
+pub addressed-key : (w : List ℕ) (key : Sent) → Bytes (key .bytes) → addressed w key < slotsOf w → keySound w (addressed w key) ≡ true
 unfolding addressed
-addressed-key w key y h = go (ltb 32 (length key)) refl h
+addressed-key w key y h = go (ltb 32 (length (key .bytes))) refl h
   where
-    go : (x : Bool) → ltb 32 (length key) ≡ x → cond x (slotsOf w) (find w (keyOf key)) < slotsOf w →
-        keySound w (cond x (slotsOf w) (find w (keyOf key))) ≡ true
+    go : (x : Bool) → ltb 32 (length (key .bytes)) ≡ x → cond x (slotsOf w) (find w (keyFor key)) < slotsOf w →
+        keySound w (cond x (slotsOf w) (find w (keyFor key))) ≡ true
     go true e l = absurd (omega arith)
-    go false e l = has-sound w key (find w (keyOf key)) y (ltb-false 32 (length key) e) (find-has w (keyOf key) l)
+    go false e l = has-sound w (markOf (key .caller .party)) (key .bytes) (find w (keyFor key)) y (ltb-false 32 (length (key .bytes)) e)
+        (find-has w (keyFor key) l)
 
-pub sound-none : (kind : RoomKind) (s : Settings) (w key : List ℕ) (x : Slot) → Addresses w key s x → slotsOf w ≤ x .at →
+pub sound-none : (kind : RoomKind) (s : Settings) (w : List ℕ) (key : Sent) (x : Slot) → Addresses w key s x → slotsOf w ≤ x .at →
     true ≡ soundAt kind s w (addressed w key)
 unfolding soundAt
 sound-none kind s w key x a h = rw (le-ltb (addressed w key) (slotsOf w) (omega (arith, addressed-at w key s x a)))
 
-pub sound-some : (kind : RoomKind) (s : Settings) (w key : List ℕ) (x : Slot) (y : Bool) → Bytes key → Addresses w key s x → x .at < slotsOf w →
+pub sound-some : (kind : RoomKind) (s : Settings) (w : List ℕ) (key : Sent) (x : Slot) (y : Bool) → Bytes (key .bytes) → Addresses w key s x →
+    x .at < slotsOf w →
     y ≡ slotRight kind s (lastOf w) (useOf w (x .at)) x → y ≡ soundAt kind s w (addressed w key)
 unfolding soundAt
 sound-some kind s w key x y z a h e =

@@ -13,7 +13,7 @@ use Rattle.layout.specs.Layout.{limitAt, factorAt, factorTimeAt, seriesUse, cac
 use Rattle.ring.specs.Ring.{declinedOf}
 use Rattle.ring.specs.Sound.{soundBuckets}
 use Rattle.room.specs.Room.{slotsOf, ringOf, lastOf, useOf, keySound, find, bodyOf}
-use Rattle.keys.specs.Keys.{keyOf}
+use Rattle.parties.specs.Parties.{Sent, keyFor}
 use Rattle.rules.specs.Both.{divisor}
 use Rattle.rules.specs.declared.RoomKind.{RoomKind}
 use Rattle.rules.specs.declared.RoomKind.the-variants.{Absolute, Suppressed}
@@ -63,8 +63,8 @@ soundSlot kind s w at =
     (not (hasCached (useOf w at)) || soundCached (lastOf w) (bodyOf w at))))
 
 -- ---- the slot addressed: "the lowest slot with their key", or the number of slots; a key of over 32 bytes has none
-unfoldable pub addressed : List ℕ → List ℕ → ℕ
-addressed w key = cond (ltb longestKey (length key)) (slotsOf w) (find w (keyOf key))
+unfoldable pub addressed : List ℕ → Sent → ℕ
+addressed w key = cond (ltb longestKey (length (key .bytes))) (slotsOf w) (find w (keyFor key))
 
 unfoldable pub soundAt : RoomKind → Settings → List ℕ → ℕ → Bool
 soundAt kind s w at = cond (ltb at (slotsOf w)) (soundSlot kind s w at) true

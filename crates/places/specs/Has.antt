@@ -8,30 +8,31 @@ use Prim.Native.Nat.{ℕ, _<_}
 use native.Mathlib.Decide.{ℕ-discrete, decLt}
 use native.Mathlib.Omega.{arith}
 use Rattle.keys.specs.declared.Key.{Key}
-use Rattle.room.specs.Room.{slotsOf, ringOf, lastOf, useOf, keyAt, find, bodyOf}
-use Rattle.frame.specs.Distinct.{Distinct, find-key, find-where}
-use Rattle.frame.specs.Frame.{Changed, other-use, other-key}
+use Rattle.room.specs.Room.{slotsOf, ringOf, lastOf, holderOf, useOf, usedAt, keyAt, find, bodyOf}
+use Rattle.room.specs.Entries.{used-free, used-ext}
+use Rattle.frame.specs.Distinct.{Distinct, holder-ext, find-key, find-where}
+use Rattle.frame.specs.Frame.{Changed, other-holder, other-use, other-key}
 use Rattle.opened.specs.Sound.{hasSeries}
 
 -- slot i has key k's series
 pub record Has (w : List ℕ) (k : Key) (i : ℕ) : Type 0 where
   pub inside : i < slotsOf w
   pub key : keyAt w i ≡ k
-  pub series : hasSeries (useOf w i) ≡ true
+  pub series : hasSeries (usedAt w i) ≡ true
 
-pub free-has : {w : List ℕ} {k : Key} {i : ℕ} → useOf w i ≡ 0 → Has w k i → ⊥
-free-has e h = false≢true (sym (ap hasSeries e) ∙ h .series)
+pub free-has : {w : List ℕ} {k : Key} {i : ℕ} → holderOf w i ≡ 0 → Has w k i → ⊥
+free-has {w} {k} {i} e h = false≢true (sym (ap hasSeries (used-free w i e)) ∙ h .series)
 
 -- k has a series or not
 pub has-or : {A : Type 0} (w : List ℕ) (k : Key) → Distinct w → ((i : ℕ) → Has w k i → A) → (((i : ℕ) → Has w k i → ⊥) → A) → A
-has-or {A} w k d f g = go (decLt (find w k) (slotsOf w)) (hasSeries (useOf w (find w k))) refl
+has-or {A} w k d f g = go (decLt (find w k) (slotsOf w)) (hasSeries (usedAt w (find w k))) refl
   where
-    none : (find w k < slotsOf w → hasSeries (useOf w (find w k)) ≡ true → ⊥) → (i : ℕ) → Has w k i → ⊥
+    none : (find w k < slotsOf w → hasSeries (usedAt w (find w k)) ≡ true → ⊥) → (i : ℕ) → Has w k i → ⊥
     none n i h =
         let e : find w k ≡ i = find-where w k i d (h .inside) (λ z. free-has z h) (h .key) in
-        n (omega (arith, h .inside)) (ap (λ (j : ℕ). hasSeries (useOf w j)) e ∙ h .series)
+        n (omega (arith, h .inside)) (ap (λ (j : ℕ). hasSeries (usedAt w j)) e ∙ h .series)
 
-    go : Dec (find w k < slotsOf w) → (z : Bool) → hasSeries (useOf w (find w k)) ≡ z → A
+    go : Dec (find w k < slotsOf w) → (z : Bool) → hasSeries (usedAt w (find w k)) ≡ z → A
     go (yes n) true e = f (find w k) (record { inside = n; key = find-key w k n; series = e })
     go (yes n) false e = g (none (λ m h. false≢true (sym e ∙ h)))
     go (no n) z e = g (none (λ m h. n m))
@@ -47,7 +48,8 @@ pub record Same (k : Key) (w v : List ℕ) (t : ℕ) : Type 0 where
   pub body : (i : ℕ) → Has v k i → bodyOf v i ≡ bodyOf w i
 
 has-by : (w v : List ℕ) (k : Key) (i : ℕ) → slotsOf v ≡ slotsOf w → keyAt v i ≡ keyAt w i → useOf v i ≡ useOf w i → Has v k i → Has w k i
-has-by w v k i n p q h = record { inside = omega (arith, h .inside); key = sym p ∙ h .key; series = ap hasSeries (sym q) ∙ h .series }
+has-by w v k i n p q h =
+    record { inside = omega (arith, h .inside); key = sym p ∙ h .key; series = ap hasSeries (sym (used-ext w v i (holder-ext w v i p) q)) ∙ h .series }
 
 module _ {w v : List ℕ} {at u : ℕ} {k′ : Key} {b : List ℕ} {t : ℕ} (c : Changed w v at u k′ b t) where
   pub other-back : (k : Key) (i : ℕ) → i ≢ at → Has v k i → Has w k i
@@ -101,9 +103,10 @@ still-same {w} {v} {at} {t} c k = record {
 -- ---- slots that a change does not address
 
 pub record Untouched (w v : List ℕ) (i : ℕ) : Type 0 where
+  pub holder : holderOf v i ≡ holderOf w i
   pub used : useOf v i ≡ useOf w i
   pub key : keyAt v i ≡ keyAt w i
   pub body : bodyOf v i ≡ bodyOf w i
 
 pub changed-untouched : {w v : List ℕ} {at u : ℕ} {k : Key} {b : List ℕ} {t : ℕ} → Changed w v at u k b t → (i : ℕ) → i < slotsOf w → i ≢ at → Untouched w v i
-changed-untouched c i h n = record { used = other-use c i h n; key = other-key c i h n; body = c .bodies i h n }
+changed-untouched c i h n = record { holder = other-holder c i h n; used = other-use c i h n; key = other-key c i h n; body = c .bodies i h n }

@@ -1,5 +1,5 @@
--- A sound room: its lengths are right and every slot in use is sound. An empty room is, and a call on a sound room does not meet 5 (`empty-sound`,
--- `five-unmet`).
+-- A sound room: its lengths are right, and every slot in use is a party's and sound. An empty room is, and a call on a sound room does not meet 5
+-- (`empty-sound`, `five-unmet`).
 -- Assumes nothing.
 use mathlib.Core.Path.{_≡_, refl, ap, _∙_}
 use mathlib.Core.Bool.{Bool, true, false, not, _||_, _&&_, cond}
@@ -12,21 +12,24 @@ use lib.ListN.{length}
 use borrow.Author.Tests.{ltb-true}
 use Rattle.base.specs.Decides.{true-and}
 use Rattle.settings.specs.declared.Settings.{Settings}
-use Rattle.room.specs.Room.{Room, slotsOf, ringOf, lastOf, useOf, find, bodyOf, sized, fits, empty}
-use Rattle.keys.specs.Keys.{keyFits, keyOf}
+use Rattle.room.specs.Room.{Room, slotsOf, ringOf, lastOf, holderOf, useOf, find, bodyOf, sized, fits, empty}
+use Rattle.keys.specs.Keys.{keyFits}
 use Rattle.room.specs.Laws.{room-sized}
-use Rattle.frame.specs.Distinct.{find-use}
+use Rattle.frame.specs.Distinct.{find-held}
 use Rattle.frame.specs.Whole.{empty-free, empty-room}
+use Rattle.parties.specs.Parties.{Sent, keyFor, ours}
+use Rattle.parties.specs.Laws.{none, all-ours}
 use Rattle.rules.specs.declared.RoomKind.{RoomKind}
 use Rattle.opened.specs.Sound.{rightUse, hasSeries, hasCached, soundSeries, soundCached, soundSlot, addressed, soundAt}
 use Rattle.cleanup.specs.Laws.{sound-parts, parts-sound}
 use Rattle.leaves.specs.Cleanup.{series-later, cached-later}
 use Rattle.places.specs.Has.{Untouched}
 
--- the lengths are right, and "a slot is sound if .." of every slot in use
+-- the lengths are right, no "slot in use is neither party's", and "a slot is sound if .." of every slot in use
 pub record SoundRoom (kind : RoomKind) (s : Settings) (w : List ℕ) : Type 0 where
   pub room : Room w
-  pub slots : (i : ℕ) → i < slotsOf w → useOf w i ≢ 0 → soundSlot kind s w i ≡ true
+  pub theirs : ours w ≡ true
+  pub slots : (i : ℕ) → i < slotsOf w → holderOf w i ≢ 0 → soundSlot kind s w i ≡ true
 
 -- ---- a slot whose words stay is sound at a later reading
 
@@ -58,22 +61,28 @@ module _ (kind : RoomKind) (s : Settings) (w v : List ℕ) (ring : ringOf v ≡ 
 -- ---- an empty room is sound, and a sound one does not meet 5
 
 pub empty-sound : (kind : RoomKind) (s : Settings) (slots ring l : ℕ) → fits slots ring l ≡ true → SoundRoom kind s (empty slots ring)
-empty-sound kind s slots ring l e = record { room = empty-room slots ring l e; slots = λ i h n. absurd (n (empty-free slots ring i)) }
+empty-sound kind s slots ring l e = record {
+  room = empty-room slots ring l e;
+  theirs = all-ours (empty slots ring) (λ i h. none (empty-free slots ring i));
+  slots = λ i h n. absurd (n (empty-free slots ring i));
+}
 
 -- the slot that a key addresses is in use
-addressed-used : (w key : List ℕ) → addressed w key < slotsOf w → useOf w (addressed w key) ≢ 0
+pub addressed-held : (w : List ℕ) (key : Sent) → addressed w key < slotsOf w → holderOf w (addressed w key) ≢ 0
 unfolding addressed
-addressed-used w key h = go (ltb 32 (length key)) h
+addressed-held w key h = go (ltb 32 (length (key .bytes))) h
   where
-    go : (x : Bool) → cond x (slotsOf w) (find w (keyOf key)) < slotsOf w → useOf w (cond x (slotsOf w) (find w (keyOf key))) ≢ 0
+    go : (x : Bool) → cond x (slotsOf w) (find w (keyFor key)) < slotsOf w → holderOf w (cond x (slotsOf w) (find w (keyFor key))) ≢ 0
     go true l = absurd (omega arith)
-    go false l = find-use w (keyOf key) l
+    go false l = find-held w (keyFor key) l
 
 -- "the room's lengths are wrong, or the slot addressed is unsound": neither, whatever the key
-pub five-unmet : (kind : RoomKind) (s : Settings) (w key : List ℕ) → SoundRoom kind s w → sized w && soundAt kind s w (addressed w key) ≡ true
+pub five-unmet : (kind : RoomKind) (s : Settings) (w : List ℕ) (key : Sent) → SoundRoom kind s w → sized w &&
+    (ours w && soundAt kind s w (addressed w key)) ≡ true
 unfolding soundAt
-five-unmet kind s w key o = true-and (sized w) _ (room-sized w (o .room)) (go (ltb (addressed w key) (slotsOf w)) refl)
+five-unmet kind s w key o =
+    true-and (sized w) _ (room-sized w (o .room)) (true-and (ours w) _ (o .theirs) (go (ltb (addressed w key) (slotsOf w)) refl))
   where
     go : (b : Bool) → ltb (addressed w key) (slotsOf w) ≡ b → cond b (soundSlot kind s w (addressed w key)) true ≡ true
-    go true e = let h = ltb-true (addressed w key) (slotsOf w) e in o .slots (addressed w key) h (addressed-used w key h)
+    go true e = let h = ltb-true (addressed w key) (slotsOf w) e in o .slots (addressed w key) h (addressed-held w key h)
     go false e = refl

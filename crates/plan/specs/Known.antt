@@ -1,4 +1,4 @@
--- What a call that passes refusals 1 to 7 knows of its key's slot, in the buckets' own terms; and that the planned edits can be carried out.
+-- What a call that passes refusals 1 to 7, 15 and 16 knows of its key's slot, in the buckets' own terms; and that the planned edits can be carried out.
 -- Assumes nothing.
 use mathlib.Core.Path.{_≡_, sym, ap, _∙_}
 use mathlib.Core.Bool.{Bool, true, false, not, _||_, false≢true}
@@ -22,6 +22,7 @@ use Rattle.ring.specs.Ring.{counts, declineds, totalOf, declinedOf, buckets}
 use Rattle.ring.specs.Sound.{Sound, soundBuckets, sound-true, sound-later}
 use Rattle.room.specs.Room.{Room, slotsOf, ringOf, lastOf, useOf, bodyOf, keySound}
 use Rattle.room.specs.Laws.{body-length}
+use Rattle.parties.specs.Parties.{Sent}
 use Rattle.edit.specs.declared.Edit.{Edit}
 use Rattle.edit.specs.declared.Then.{Then}
 use Rattle.change.specs.Words.{EditsAt}
@@ -66,7 +67,7 @@ sound-there : (kind : RoomKind) (s : Settings) (w : List ℕ) (at : ℕ) → at 
 unfolding soundAt
 sound-there kind s w at h e = rw (lt-ltb at (slotsOf w) h) at e
 
-module _ (kind : RoomKind) (s : Settings) (w : List ℕ) (t : ℕ) (key : List ℕ) (p : Passed kind s w t key) where
+module _ (kind : RoomKind) (s : Settings) (w : List ℕ) (t : ℕ) (key : Sent) (p : Passed kind s w t key) where
   pub found : addressed w key < slotsOf w → Found kind s w t (addressed w key) (slotOf (windowTicks s) w t (addressed w key))
   found h = record { inside = h; is = slot-here (windowTicks s) t w (addressed w key) h; sound = sound-there kind s w (addressed w key) h (p .sound) }
 

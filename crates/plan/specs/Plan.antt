@@ -4,7 +4,7 @@ use mathlib.Core.Bool.{Bool, true, false, not, _&&_, cond}
 use mathlib.Core.List.{List}
 use Prim.Native.Nat.{ℕ, _-_}
 use lib.Dec.{leb, ltb}
-use Rattle.room.specs.Room.{slotsOf, vacant}
+use Rattle.room.specs.Room.{vacant}
 use Rattle.opened.specs.Slot.{hasSlot}
 use Rattle.edit.specs.declared.Edit.{Edit}
 use Rattle.edit.specs.declared.Then.{Then}
@@ -16,9 +16,9 @@ use Rattle.opened.specs.declared.Slot.{Slot}
 unfoldable pub placeOf : List ℕ → Slot → ℕ
 placeOf w x = cond (hasSlot x) (x .at) (vacant w)
 
--- "a slot is needed and none is free", where at is the place
-unfoldable pub lacksAt : List ℕ → ℕ → Slot → Bool
-lacksAt w at x = not (hasSlot x) && leb (slotsOf w) at
+-- "a slot is needed and the party already holds its promised number", which none says
+unfoldable pub lacksAt : Bool → Slot → Bool
+lacksAt none x = not (hasSlot x) && none
 
 -- ---- an increment, once the oldest k buckets are out; b is the bucket size, r the ring
 

@@ -20,13 +20,14 @@ use Rattle.ring.specs.View.{view-length}
 use Rattle.rules.specs.declared.RoomKind.{RoomKind}
 use Rattle.rules.specs.Held.{Held, nothing, hasAny, lacksSlot}
 use Rattle.rules.specs.Both.{overdueIn, ringFull}
-use Rattle.room.specs.Room.{slotsOf, ringOf, lastOf, useOf, bodyOf, vacant}
+use Rattle.room.specs.Room.{slotsOf, ringOf, lastOf, useOf, bodyOf}
+use Rattle.parties.specs.Parties.{Sent}
 use Rattle.opened.specs.declared.Slot.{Slot}
 use Rattle.opened.specs.Sound.{limitOf, factorOf, factorTimeOf, hasSeries, hasCached, addressed}
 use Rattle.opened.specs.Slot.{noSlot, pickPass, opened, hasSlot, passing, allStay, firstLook}
-use Rattle.judge.specs.Held.{heldBy, heldOf, heldIn, noneFree, held-here, held-none}
+use Rattle.judge.specs.Held.{heldBy, heldOf, heldIn, held-here, held-none}
 use Rattle.judge.specs.Judge.{Passed, slotIn}
-use Rattle.plan.specs.Plan.{placeOf, lacksAt, joinsAfter, fullAfter}
+use Rattle.plan.specs.Plan.{lacksAt, joinsAfter, fullAfter}
 use Rattle.plan.specs.Looked.{by-overdue}
 use Rattle.plan.specs.Known.{Found, Known, found, none, at-as, series-known, series-is, cached-is}
 
@@ -135,8 +136,8 @@ module _ (kind : RoomKind) (s : Settings) (w : List ℕ) (t at : ℕ) (x : Slot)
 no-seen : (W t n : ℕ) → Seen W t true nothing (noSlot n)
 no-seen W t n = pass-of-none W t (noSlot n) false 0 0 refl refl refl (λ y. refl) (λ y. refl)
 
--- a call that passes refusals 1 to 7
-pub seen : (kind : RoomKind) (s : Settings) (w : List ℕ) (t : ℕ) (key : List ℕ) → Passed kind s w t key →
+-- a call that passes refusals 1 to 7, 15 and 16
+pub seen : (kind : RoomKind) (s : Settings) (w : List ℕ) (t : ℕ) (key : Sent) → Passed kind s w t key →
     Seen (windowTicks s) t true (heldIn w key) (slotIn s w t key)
 seen kind s w t key p = go (ltb (addressed w key) (slotsOf w)) refl
   where
@@ -196,7 +197,7 @@ module _ (s : Settings) (t : ℕ) (h : Held) (x : Slot) (o : Seen (windowTicks s
       (λ n e. seen-all n)
 
 -- the buckets of a key that has a series stand in its slot
-pub held-there : (kind : RoomKind) (s : Settings) (w : List ℕ) (t : ℕ) (key : List ℕ) → Passed kind s w t key → slotIn s w t key .series ≡ true →
+pub held-there : (kind : RoomKind) (s : Settings) (w : List ℕ) (t : ℕ) (key : Sent) → Passed kind s w t key → slotIn s w t key .series ≡ true →
     buckets (ringOf w) (bodyOf w (slotIn s w t key .at)) ≡ heldIn w key .buckets
 held-there kind s w t key p e = go (ltb (addressed w key) (slotsOf w)) refl
   where
@@ -243,11 +244,7 @@ module _ (W t : ℕ) (out : Bool) (h : Held) (x : Slot) (o : Seen W t out h x) w
   pub has-is : hasSlot x ≡ hasAny h
   has-is = ap₂ _||_ (o .series-is) (o .cached-is)
 
-  -- "a slot is needed and none is free"
-  pub lacks-is : (w : List ℕ) → lacksAt w (placeOf w x) x ≡ lacksSlot (noneFree w) h
-  unfolding lacksAt placeOf
-  lacks-is w = go (hasSlot x) has-is
-    where
-      go : (z : Bool) → z ≡ hasAny h → not z && leb (slotsOf w) (cond z (x .at) (vacant w)) ≡ lacksSlot (noneFree w) h
-      go true e = ap (λ (y : Bool). not y && noneFree w) e
-      go false e = ap (λ (y : Bool). not y && noneFree w) e
+  -- "a slot is needed and the party already holds its promised number"
+  pub lacks-is : (none : Bool) → lacksAt none x ≡ lacksSlot none h
+  unfolding lacksAt
+  lacks-is none = ap (λ (y : Bool). not y && none) has-is

@@ -22,16 +22,14 @@ pub fn place(w: &[u64], x: Slot) -> usize
     room::vacant(w)
 }
 
-// Whether a slot is needed and none is free, where `at` is the place.
-pub fn lacks_slot(w: &[u64], at: usize, x: Slot) -> bool
-    requires { ⌜ Room (now w) ⌝ }
-    ensures { λ y. ⌜ y ≡ lacksAt (now (w .entry)) at x ⌝ }
+// Whether a slot is needed and the party has none left.
+pub fn lacks_slot(none: bool, x: Slot) -> bool
+    ensures { λ y. ⌜ y ≡ lacksAt none x ⌝ }
 {
-    let slots = w[layout::SLOTS] as usize;
     if opened::has_slot(x) {
         return false;
     }
-    slots <= at
+    none
 }
 
 // ---- whether an increment fits

@@ -17,6 +17,7 @@ use Rattle.answers.specs.declared.TotalAnswer.the-variants as total
 use Rattle.common.specs.Refusals.{first}
 use Rattle.settings.specs.declared.Settings.{Settings}
 use Rattle.ring.specs.Ring.{counts}
+use Rattle.parties.specs.declared.Caller.{Caller}
 use Rattle.rules.specs.declared.RoomKind.{RoomKind}
 use Rattle.rules.specs.declared.RoomKind.the-variants.{Absolute, Suppressed}
 use Rattle.rules.specs.Both.{liveOf, overdueIn}
@@ -50,9 +51,9 @@ ruleRow kind s w t (setRate key rate) = oldRateRow (rules.oldRate kind s (heldIn
 ruleRow kind s w t (set key rate comparator count mode) =
     setRow (setAnswer.Set (rules.outcome s t (rules.stillFor kind s t rate comparator count mode (heldIn w key)) comparator count (heldIn w key)))
 ruleRow kind s w t (delete key) = deleteRow (rules.deleted s t (heldIn w key))
-ruleRow kind s w t (cleanup stale) = row 0 1 0 0 0
-ruleRow kind s w t (cleanupBoth other stale) = row 0 1 0 0 0
-ruleRow kind s w t clear = row 0 1 0 0 0
+ruleRow kind s w t (cleanup who stale) = row 0 1 0 0 0
+ruleRow kind s w t (cleanupBoth who other whose stale) = row 0 1 0 0 0
+ruleRow kind s w t (clear who) = row 0 1 0 0 0
 
 -- ---- and that they do
 
@@ -61,11 +62,11 @@ row-done : {A : Type 0} (rowOf : A → List ℕ) (turned : ℕ → A) (n : ℕ) 
 unfolding unlessRefused
 row-done rowOf turned n w v e = ap (λ (b : Bool). rowOf (cond b (v .answer) (turned n))) (eq-eqb n 0 e)
 
-both-done : (kind : RoomKind) (s : Settings) (w : List ℕ) (t : ℕ) (other : List ℕ) (stale : ℕ) → first (bothTable kind s w other t) ≡ 0 →
-    doneRow (cleanedBoth kind s w other t stale .answer) ≡ row 0 1 0 0 0
+both-done : (kind : RoomKind) (s : Settings) (w : List ℕ) (t : ℕ) (who : Caller) (other : List ℕ) (whose : Caller) (stale : ℕ) →
+    first (bothTable kind s w who other whose t) ≡ 0 → doneRow (cleanedBoth kind s w who other whose t stale .answer) ≡ row 0 1 0 0 0
 unfolding Provider.decided doneRow
-both-done Absolute s w t other stale e = rw (both-by-table s w other t ∙ e)
-both-done Suppressed s w t other stale e = rw (both-by-table s other w t ∙ e)
+both-done Absolute s w t who other whose stale e = rw (both-by-table s w other t who whose ∙ e)
+both-done Suppressed s w t who other whose stale e = rw (both-by-table s other w t whose who ∙ e)
 
 pub answered : (kind : RoomKind) (s : Settings) (w : List ℕ) (t : ℕ) (op : Op kind) → first (tableOf kind s w t op) ≡ 0 →
     answerRow kind s w t op ≡ ruleRow kind s w t op
@@ -80,6 +81,6 @@ answered kind s w t (getFactor key) e = row-done factorRow factor.Refused _ w _ 
 answered kind s w t (setRate key rate) e = row-done oldRateRow oldRate.Refused _ w _ e
 answered kind s w t (set key rate comparator count mode) e = row-done setRow setAnswer.Refused _ w _ e
 answered kind s w t (delete key) e = row-done deleteRow deleteAnswer.Refused _ w _ e
-answered kind s w t (cleanup stale) e = row-done doneRow done.Refused _ w _ e
-answered kind s w t (cleanupBoth other stale) e = both-done kind s w t other stale e
-answered kind s w t clear e = row-done doneRow done.Refused _ w _ e
+answered kind s w t (cleanup who stale) e = row-done doneRow done.Refused _ w _ e
+answered kind s w t (cleanupBoth who other whose stale) e = both-done kind s w t who other whose stale e
+answered kind s w t (clear who) e = row-done doneRow done.Refused _ w _ e

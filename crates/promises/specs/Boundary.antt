@@ -7,7 +7,7 @@ use mathlib.Core.List.{[], _∷_}
 use mathlib.Core.Logic.{_≢_}
 use Prim.Native.Nat.{ℕ, _^_, _+_}
 use lib.Ieee as Ieee
-use lib.ListN.{set}
+use lib.ListN.{set, replicate}
 use borrow.Author.Tests.{ne-eqb}
 use Rattle.base.specs.Seek as Seek
 use Rattle.base.specs.Splice as Splice
@@ -21,6 +21,7 @@ use Rattle.common.specs.Refusals.{first}
 use Rattle.settings.specs.Settings as Settings
 use Rattle.settings.specs.Settings.{defaults, withWindow}
 use Rattle.share.specs.Share as Share
+use Rattle.answers.specs.declared.DoneAnswer.the-variants as done
 use Rattle.answers.specs.declared.FactorAnswer.the-variants as factor
 use Rattle.answers.specs.declared.RateLimitDecision.the-variants.{Allowed, Rejected, Suppressed, Refused}
 use Rattle.answers.specs.HistoryMode.{noSnapshot}
@@ -36,7 +37,9 @@ use Rattle.history.specs.Words as HistoryWords
 use Rattle.preserve.specs.Preserving as Preserving
 use Rattle.room.specs.Room as Room
 use Rattle.keys.specs.Keys as Keys
-use Rattle.room.specs.Room.{useOf, vacant}
+use Rattle.room.specs.Room.{holderOf, usedAt, vacant}
+use Rattle.parties.specs.Parties as Parties
+use Rattle.parties.specs.Parties.{sent}
 use Rattle.judge.specs.Judge as Judge
 use Rattle.judge.specs.Judge.{lookedIn}
 use Rattle.opened.specs.Slot as Slot
@@ -45,10 +48,11 @@ use Rattle.opened.specs.Sound.{addressed}
 use Rattle.judge.specs.Verdict as Verdicts
 use Rattle.change.specs.Words as Words
 use Rattle.edit.specs.Bodies as Bodies
+use Rattle.clearing.specs.Clear as Clear
 use Rattle.calls.specs.Set as Sets
 use Rattle.cleanup.specs.Cleanup as Cleanup
 use Rattle.stale.specs.Uses as Uses
-use Rattle.cleanup.specs.Every as Every
+use Rattle.base.specs.Every as Every
 use Rattle.absolute_verdicts.specs.Calls as Absolute
 use Rattle.absolute_opened.specs.Opened as AbsoluteEdits
 use Rattle.rules.specs.declared.RoomKind.{RoomKind}
@@ -72,6 +76,7 @@ use Rattle.finding.specs.Finding.{bucketsOf}
 use Rattle.promises.specs.Rules.{incTable}
 use Rattle.promises.specs.Cases.{half, hardBy, perSecond, key, room, ainc, aget, ten, sinc, factorAt, sget, eightAndTwo, twenty, clean}
 use Rattle.promises.specs.Cases.{at, ninc, nask, nget, ndraws, nfactor, nsnapshot, nclean, nthree, nten, ntwenty, neight}
+use Rattle.promises.specs.Cases.{sentBy, pinc, pclear, pair, ofOne, ofBoth}
 use Rattle.promises.specs.Cases.{incAt, most, full, single, inSlot, sevenFive, preserve, twentieth, linkTested}
 
 pub record Boundary : Type 0 where
@@ -112,8 +117,8 @@ pub record Boundary : Type 0 where
   pub most-taken : aget 1 (ainc 1 (2 ^ 53) (ainc 0 0 room .words) .words) .answer ≡ total.Total (2 ^ 53)
   pub most-passed : ainc 1 (2 ^ 53 + 1) (ainc 0 0 room .words) .answer ≡ Refused 10
   -- "cleanup 500: newest bucket and cached factor both aged 500: series stays, factor goes": the slot's use, 3 for both and 1 for a series
-  pub both-before : useOf twenty 0 ≡ 3
-  pub series-after : useOf (clean 500 500 twenty .words) 0 ≡ 1
+  pub both-before : usedAt twenty 0 ≡ 3
+  pub series-after : usedAt (clean 500 500 twenty .words) 0 ≡ 1
 
 -- the boundary values with readings in nanoseconds (document 02, ticket 8): `at m n` is m milliseconds and n nanoseconds
 pub record NanoBoundary : Type 0 where
@@ -153,9 +158,38 @@ pub record NanoBoundary : Type 0 where
   -- 6 compares nanoseconds
   pub back-1 : nget 0 (ninc 1 3 room .words) .answer ≡ total.Refused 6
   -- cleanup 500: both stay a nanosecond before 500 ms, the series up to 500 ms and 999,999 ns
-  pub both-499 : useOf (nclean (at 499 999999) 500 ntwenty .words) 0 ≡ 3
-  pub series-500 : useOf (nclean (at 500 999999) 500 ntwenty .words) 0 ≡ 1
-  pub none-501 : useOf (nclean (at 501 0) 500 ntwenty .words) 0 ≡ 0
+  pub both-499 : usedAt (nclean (at 499 999999) 500 ntwenty .words) 0 ≡ 3
+  pub series-500 : usedAt (nclean (at 500 999999) 500 ntwenty .words) 0 ≡ 1
+  pub none-501 : holderOf (nclean (at 501 0) 500 ntwenty .words) 0 ≡ 0
+
+-- what two parties in one room meet (document 02, ticket 6): `sentBy` names a party, the promises of both and the key's byte
+pub record PartyBoundary : Type 0 where
+  -- "the same bytes under the other party are another key"
+  pub first-own : bucketsOf ofBoth (sentBy 1 1 1 97) ≡ bucket 3 0 0 ∷ []
+  pub second-own : bucketsOf ofBoth (sentBy 2 1 1 97) ≡ bucket 5 0 0 ∷ []
+  -- 11 "when a slot is needed and the party already holds its promised number", though one is free; the other party takes it
+  pub one-free : vacant ofOne ≡ 1
+  pub none-left : pinc (sentBy 1 1 1 98) 1 ofOne .answer ≡ Refused 11
+  pub one-left : pinc (sentBy 2 1 1 98) 1 ofOne .answer ≡ Allowed
+  pub none-needed : pinc (sentBy 1 1 1 97) 1 ofOne .answer ≡ Allowed
+  -- "15 for a party other than 1 and 2"
+  pub party-0 : pinc (sentBy 0 1 1 97) 1 pair .answer ≡ Refused 15
+  pub party-3 : pinc (sentBy 3 1 1 97) 1 pair .answer ≡ Refused 15
+  -- "16 for promises that together pass the room's slots", by any number, "or where either party holds more than its own"
+  pub promised-2 : pinc (sentBy 1 2 0 97) 1 pair .answer ≡ Allowed
+  pub promised-3 : pinc (sentBy 1 1 2 97) 1 pair .answer ≡ Refused 16
+  pub promised-most : pinc (sentBy 1 (2 ^ 63) (2 ^ 63 + 2) 97) 1 pair .answer ≡ Refused 16
+  pub holds-more : pinc (sentBy 2 0 2 98) 1 ofOne .answer ≡ Refused 16
+  -- "judged after 7 in that order"
+  pub long-first : pinc (sent (sentBy 3 1 1 97 .caller) (replicate 33 97)) 1 pair .answer ≡ Refused 7
+  pub party-first : pinc (sentBy 3 1 2 97) 1 pair .answer ≡ Refused 15
+  pub promise-first : pinc (sentBy 1 1 2 97) (2 ^ 53 + 1) pair .answer ≡ Refused 16
+  -- 5 "where a slot in use is neither party's", "by clear too": word 3 says who holds slot 0
+  pub stray : pinc (sentBy 1 1 1 97) 1 (set pair 3 2) .answer ≡ Refused 5
+  pub stray-clear : pclear 1 (set pair 3 2) .answer ≡ done.Refused 5
+  -- "Clear removes the caller's keys only"
+  pub clear-frees : holderOf (pclear 1 ofBoth .words) 0 ≡ 0
+  pub clear-leaves : bucketsOf (pclear 1 ofBoth .words) (sentBy 2 1 1 97) ≡ bucket 5 0 0 ∷ []
 
 -- further cases that other promises are told by, computed beside these
 
@@ -194,35 +228,34 @@ pub record Further : Type 0 where
   -- the factor after the link test, by the two calls that give it
   pub link-factor : SuppressedCalls.getFactor (hardBy 4) linkTested 1 key .answer ≡ factor.Factor nil
   pub link-snapshot : SuppressedCalls.get (hardBy 4) linkTested 1 key .answer ≡ snapshot.Snapshot noSnapshot
-  -- the totals that `get` gives; and a total, word 10 of the room, that is not the sum, which is unsound
+  -- the totals that `get` gives; and a total, word 74 of the room, that is not the sum, which is unsound
   pub twenty-known : heldIn twenty key .known ≡ true
   pub twenty-given : sget 0 twenty .answer ≡ snapshot.Snapshot (record { total = 20; «total_declined» = 0; «suppression_factor» = one })
-  pub made-up : (n : ℕ) → n ≢ 20 → sget 0 (set twenty 10 n) .answer ≡ snapshot.Refused 5
-  pub absolute-made-up : (n : ℕ) → n ≢ 10 → aget 0 (set ten 10 n) .answer ≡ total.Refused 5
+  pub made-up : (n : ℕ) → n ≢ 20 → sget 0 (set twenty 74 n) .answer ≡ snapshot.Refused 5
+  pub absolute-made-up : (n : ℕ) → n ≢ 10 → aget 0 (set ten 74 n) .answer ≡ total.Refused 5
 
 pub record Computed : Type 0 where
   pub table : Boundary
   pub nano-table : NanoBoundary
+  pub party-table : PartyBoundary
   pub further : Further
 
 pub computed : Computed
-unfolding Seek.seek Splice.splice Tab.tab Factor.freshFactor Factor.factorWordOk Factor.admitted Limits.absoluteWord Limits.hardWord
-    Limits.cutWord Limits.softWord Limits.limitOk Ranges.rateOk Ranges.factorOk Refusals.first Settings.faults Share.mulDiv Order.fine Ring.sumOf Ring.wrap
-    Ring.bucketAt Ring.buckets Ring.shaped Ring.pushed Ring.rewritten Ring.without RingSound.soundBuckets Rules.older Rules.recent Rules.ahead Rules.joins
-    Rules.partial Sweep.passOf HistoryWords.incremented Preserving.wholes Preserving.partWords Preserving.shrunkWords Preserving.preservedWords
-    Room.fits Room.empty Keys.keyOf Keys.sameKey Keys.unusedZero Keys.keyFits Room.keyAt Room.free Room.has Room.bodyFrom Room.entered Room.withUse
-    Room.withReading Judge.misfits Slot.opened Slot.slotOf Slot.firstLook Sound.rightUse Sound.soundSeries Sound.soundCached Sound.soundSlot Sound.addressed
-    Sound.soundAt
+unfolding Seek.seek Splice.splice Tab.tab Factor.freshFactor Factor.factorWordOk Factor.admitted Limits.absoluteWord Limits.hardWord Limits.cutWord
+    Limits.softWord Limits.limitOk Ranges.rateOk Ranges.factorOk Refusals.first Settings.faults Share.mulDiv Order.fine Ring.sumOf Ring.wrap Ring.bucketAt
+    Ring.buckets Ring.shaped Ring.pushed Ring.rewritten Ring.without RingSound.soundBuckets Rules.older Rules.recent Rules.ahead Rules.joins Rules.partial
+    Sweep.passOf HistoryWords.incremented Preserving.wholes Preserving.partWords Preserving.shrunkWords Preserving.preservedWords Room.fits Room.empty
+    Keys.keyOf Keys.sameKey Keys.unusedZero Keys.keyFits Room.keyAt Room.free Room.has Room.bodyFrom Room.entered Room.withUse Room.withReading
+    Room.released Room.releasedOwn Room.freed Parties.ours Parties.many Parties.slotsHeld Parties.overdrawn Parties.turns Parties.noneLeft Judge.misfits
+    Slot.opened Slot.slotOf Slot.firstLook Sound.rightUse Sound.soundSeries Sound.soundCached Sound.soundSlot Sound.addressed Sound.soundAt
     Verdicts.unlessRefused Bodies.begun Bodies.started Bodies.acted Bodies.fixed Bodies.edited Words.withEdit Words.updated Words.taken Words.carried
-    Words.applied Every.every Uses.useAfter Uses.swept Uses.cleaned Cleanup.slotPasses Cleanup.misfits Cleanup.cleanup Absolute.get Absolute.isAllowed
-    Absolute.inc
-    Edits.recached Edits.getChange Edits.factorChange Edits.incEdit Edits.incChange Finding.bucketsOf Ieee.le Ieee.lt Ieee.eq Ieee.mul Ieee.div Ieee.sub
-    Ieee.add Ieee.ofInt Ieee.ofBits Ieee.ofFields Ieee.toBits Ieee.toUnsigned Ieee.fits SuppressedCalls.get SuppressedCalls.getFactor SuppressedCalls.inc
-    Sets.set Held.heldIn Plan.placeOf Both.overdue Both.passes Both.ringFull AbsoluteRules.below AbsoluteRules.tested AbsoluteRules.allowed
-    AbsoluteRules.decided
-    AbsoluteRules.takesOut AbsoluteEdits.getChange AbsoluteEdits.incChange SuppressedRules.stays SuppressedRules.asked SuppressedRules.reachOf
-    SuppressedRules.drawn SuppressedRules.outcome SuppressedSlots.staysAt SetRules.already SetRules.idle SetRules.outcome SetsOpened.stored SetsOpened.setting
-    Stale.seriesStays Stale.factorStays
+    Words.applied Every.every Uses.useAfter Uses.settled Uses.swept Uses.cleaned Cleanup.slotPasses Cleanup.misfits Cleanup.cleanup Clear.unclear
+    Absolute.get Absolute.isAllowed Absolute.inc Edits.recached Edits.getChange Edits.factorChange Edits.incEdit Edits.incChange Finding.bucketsOf Ieee.le
+    Ieee.lt Ieee.eq Ieee.mul Ieee.div Ieee.sub Ieee.add Ieee.ofInt Ieee.ofBits Ieee.ofFields Ieee.toBits Ieee.toUnsigned Ieee.fits SuppressedCalls.get
+    SuppressedCalls.getFactor SuppressedCalls.inc Sets.set Held.heldIn Plan.placeOf Both.overdue Both.passes Both.ringFull AbsoluteRules.below
+    AbsoluteRules.tested AbsoluteRules.allowed AbsoluteRules.decided AbsoluteRules.takesOut AbsoluteEdits.getChange AbsoluteEdits.incChange
+    SuppressedRules.stays SuppressedRules.asked SuppressedRules.reachOf SuppressedRules.drawn SuppressedRules.outcome SuppressedSlots.staysAt
+    SetRules.already SetRules.idle SetRules.outcome SetsOpened.stored SetsOpened.setting Stale.seriesStays Stale.factorStays
 computed = record {
   table = record {
     live-10000 = refl;
@@ -284,6 +317,27 @@ computed = record {
     series-500 = refl;
     none-501 = refl;
   };
+  party-table = record {
+    first-own = refl;
+    second-own = refl;
+    one-free = refl;
+    none-left = refl;
+    one-left = refl;
+    none-needed = refl;
+    party-0 = refl;
+    party-3 = refl;
+    promised-2 = refl;
+    promised-3 = refl;
+    promised-most = refl;
+    holds-more = refl;
+    long-first = refl;
+    party-first = refl;
+    promise-first = refl;
+    stray = refl;
+    stray-clear = refl;
+    clear-frees = refl;
+    clear-leaves = refl;
+  };
   further = record {
     empty-slot = refl;
     empty-buckets = refl;
@@ -331,6 +385,9 @@ boundary = computed .table
 
 pub nano-boundary : NanoBoundary
 nano-boundary = computed .nano-table
+
+pub party-boundary : PartyBoundary
+party-boundary = computed .party-table
 
 pub further : Further
 further = computed .further

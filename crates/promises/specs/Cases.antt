@@ -22,16 +22,19 @@ use Rattle.common.specs.declared.units.RateLimit.{RateLimit}
 use Rattle.ring.specs.declared.Bucket.{Bucket}
 use Rattle.ring.specs.Ring.{buckets}
 use Rattle.room.specs.Room.{ringOf, bodyOf, empty}
+use Rattle.parties.specs.declared.Caller.{Caller}
+use Rattle.parties.specs.Parties.{Sent, sent}
 use Rattle.rules.specs.declared.RoomKind.{RoomKind}
 use Rattle.rules.specs.declared.RoomKind.the-variants as kind
 use Rattle.judge.specs.Verdict.{Verdict}
+use Rattle.clearing.specs.Clear as Clear
 use Rattle.calls.specs.Set as Sets
 use Rattle.cleanup.specs.Cleanup as Cleanup
 use Rattle.absolute_verdicts.specs.Calls as Absolute
 use Rattle.suppressed_verdicts.specs.Calls as Suppressed
 use Rattle.promises.specs.Rules.{Inc, incOf}
 
--- ---- settings, rates, the room and the key
+-- ---- settings, rates, the room, the caller and the key
 
 -- a quotient of two whole numbers, as a double
 abbrev pub whole : ℕ → Float
@@ -53,8 +56,12 @@ perSecond x = record { 0 = x }
 abbrev pub room : List ℕ
 room = empty 1 3
 
-abbrev pub key : List ℕ
-key = 97 ∷ []
+-- party 1, promised the slot
+abbrev pub who : Caller
+who = record { party = 1; first = 1; second = 0 }
+
+abbrev pub key : Sent
+key = sent who (97 ∷ [])
 
 -- ---- the absolute limiter at rate 1: the limit is 10
 
@@ -88,7 +95,7 @@ abbrev pub twenty : List ℕ
 twenty = sinc 0 20 0 room .words
 
 abbrev pub clean : ℕ → ℕ → List ℕ → Verdict DoneAnswer
-clean t stale w = Cleanup.cleanup kind.Suppressed (hardBy 2) w t stale
+clean t stale w = Cleanup.cleanup kind.Suppressed (hardBy 2) w t who stale
 
 -- ---- either limiter at rate 1, and any function in its place, by words, reading and count
 
@@ -168,7 +175,7 @@ abbrev pub nsnapshot : ℕ → List ℕ → Verdict SnapshotAnswer
 nsnapshot t w = Suppressed.get (nano (hardBy 2)) w t key
 
 abbrev pub nclean : ℕ → ℕ → List ℕ → Verdict DoneAnswer
-nclean t stale w = Cleanup.cleanup kind.Suppressed (nano (hardBy 2)) w t stale
+nclean t stale w = Cleanup.cleanup kind.Suppressed (nano (hardBy 2)) w t who stale
 
 -- 3 and 10 of the absolute limiter, and 20 of the suppressed one, at reading 0
 abbrev pub nthree : List ℕ
@@ -183,3 +190,26 @@ ntwenty = ndraws 0 20 room .words
 -- 8 at reading 0 and 2 at 1500 ms
 abbrev pub neight : List ℕ
 neight = ndraws (at 1500 0) 2 (ndraws 0 8 room .words) .words
+
+-- ---- two parties in a room of two slots, at the absolute limiter's rate 1 and reading 0
+
+abbrev pub pair : List ℕ
+pair = empty 2 3
+
+-- a party and both promises, and the key's only byte
+abbrev pub sentBy : ℕ → ℕ → ℕ → ℕ → Sent
+sentBy party first second byte = sent (record { party = party; first = first; second = second }) (byte ∷ [])
+
+abbrev pub pinc : Sent → ℕ → List ℕ → Verdict RateLimitDecision
+pinc k count w = Absolute.inc defaults w 0 k (perSecond one) count
+
+-- a clear by a party with promises of one slot each
+abbrev pub pclear : ℕ → List ℕ → Verdict DoneAnswer
+pclear party w = Clear.clear defaults w 0 (record { party = party; first = 1; second = 1 })
+
+-- 3 of party 1, and 5 of party 2 under the same byte
+abbrev pub ofOne : List ℕ
+ofOne = pinc (sentBy 1 1 1 97) 3 pair .words
+
+abbrev pub ofBoth : List ℕ
+ofBoth = pinc (sentBy 2 1 1 97) 5 ofOne .words

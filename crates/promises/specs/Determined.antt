@@ -14,6 +14,8 @@ use Rattle.common.specs.declared.units.RateLimit.{RateLimit}
 use Rattle.ring.specs.declared.Bucket.{Bucket}
 use Rattle.ring.specs.Ring.{Shape}
 use Rattle.room.specs.Room.{Room, Made, Starts}
+use Rattle.parties.specs.declared.Caller.{Caller}
+use Rattle.parties.specs.Parties.{Sent}
 use Rattle.rules.specs.declared.RoomKind.{RoomKind}
 use Rattle.judge.specs.Verdict.{Verdict, verdict, Told}
 use Rattle.provider.specs.Provider as Provider
@@ -69,15 +71,15 @@ pub record Determined : Type 1 where
   -- every call of either limiter; of the provider's cleanup, each room
   pub calls : (kind : RoomKind) (s : Settings) (w : List ℕ) (t : ℕ) (op : Op kind) → TellsOne (verdictOf kind s w t op)
   -- both rooms
-  pub provider-cleanup : (s : Settings) (a b : List ℕ) (t stale : ℕ) →
-      Once {R = Provider.Verdict} (λ x. Provider.Told (Provider.cleanup s a b t stale) (x .answer) (x .absolute) (x .suppressed))
+  pub provider-cleanup : (s : Settings) (a b : List ℕ) (t : ℕ) (c d : Caller) (stale : ℕ) →
+      Once {R = Provider.Verdict} (λ x. Provider.Told (Provider.cleanup s a b t c d stale) (x .answer) (x .absolute) (x .suppressed))
   -- the row
-  pub read-out : (kind : RoomKind) (s : Settings) (w key : List ℕ) (row : List Bucket) →
+  pub read-out : (kind : RoomKind) (s : Settings) (w : List ℕ) (key : Sent) (row : List Bucket) →
       Once {R = ReadOut.Filled} (λ x. ReadOut.Shown (ReadOut.readOut kind s w key row) (x .answer) (x .row))
   -- making a room: yes or no, and the words
   pub make : (slots ring : ℕ) (w : List ℕ) → Once {R = Bool × List ℕ} (λ x. Made slots ring w (x .0) (x .1))
   -- a gateway's shot: table and room; its new season; making a table
-  pub shot : (s : Settings) (w r : List ℕ) (t : ℕ) (key : List ℕ) (number : ℕ) (rate : RateLimit) (draw : ℕ) →
+  pub shot : (s : Settings) (w r : List ℕ) (t : ℕ) (key : Sent) (number : ℕ) (rate : RateLimit) (draw : ℕ) →
       Once {R = Gateway.Verdict} (λ x. Gateway.Told (Gateway.shot s w r t key number rate draw) (x .answer) (x .table) (x .room))
   pub new-season : (w : List ℕ) → TellsOne (Gateway.newSeason w)
   pub make-table : (w : List ℕ) → Once {R = Bool × List ℕ} (λ x. TableMade w (x .0) (x .1))
@@ -118,7 +120,7 @@ feeding-one w block out x y p q =
 pub determined : Determined
 determined = record {
   calls = λ kind s w t op. told-one (verdictOf kind s w t op);
-  provider-cleanup = λ s a b t stale x y p q i. record {
+  provider-cleanup = λ s a b t c d stale x y p q i. record {
     answer = (p .answer ∙ sym (q .answer)) i;
     absolute = (p .absolute ∙ sym (q .absolute)) i;
     suppressed = (p .suppressed ∙ sym (q .suppressed)) i;

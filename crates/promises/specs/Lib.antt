@@ -3,7 +3,6 @@ pub mod Shots
 pub mod Refusals
 pub mod Determined
 pub mod Answers
-pub mod Shared
 pub mod Rules
 pub mod Cases
 pub mod Boundary

@@ -17,6 +17,8 @@ use Rattle.settings.specs.declared.Settings.{Settings}
 use Rattle.common.specs.declared.units.RateLimit.{RateLimit}
 use Rattle.ring.specs.declared.Bucket.{Bucket}
 use Rattle.room.specs.Room.{sized}
+use Rattle.parties.specs.declared.Caller.{Caller}
+use Rattle.parties.specs.Parties.{Sent, isParty, ours, turns}
 use Rattle.rules.specs.declared.RoomKind.{RoomKind}
 use Rattle.opened.specs.Sound.{addressed, soundAt}
 use Rattle.judge.specs.Judge.{misfits}
@@ -39,14 +41,16 @@ use Rattle.promises.specs.Units.{Makes, makes}
 
 -- ---- the read-out's table: the calls' stand with the steps (`tableOf`)
 
--- 1 to 5 and 7
-abbrev pub reads : RoomKind → Settings → List ℕ → List ℕ → List (ℕ × Bool)
-reads kind s w key = faults s ++ ((5, not (sized w && soundAt kind s w (addressed w key))) ∷ (7, ltb 32 (length key)) ∷ [])
+-- 1 to 5, 7 and 15; of a caller the party alone
+abbrev pub reads : RoomKind → Settings → List ℕ → Sent → List (ℕ × Bool)
+reads kind s w key =
+    let unsound = not (sized w && (ours w && soundAt kind s w (addressed w key))) in
+    faults s ++ ((5, unsound) ∷ (7, ltb 32 (length (key .bytes))) ∷ (15, not (isParty (key .caller .party))) ∷ [])
 
 -- ---- the table of a set over a face for C or Rust
 
 -- as of any set; where comparator or mode is not named, all of it that can be judged without them, and else 14
-abbrev pub setsShown : RoomKind → Settings → List ℕ → ℕ → List ℕ → RateLimit → Comparison → ℕ → Mode → List (ℕ × Bool)
+abbrev pub setsShown : RoomKind → Settings → List ℕ → ℕ → Sent → RateLimit → Comparison → ℕ → Mode → List (ℕ × Bool)
 setsShown kind s w t key rate (compared.Named c) count (chosen.Named m) = sets kind s w t key rate c count m
 setsShown kind s w t key rate (compared.Named c) count chosen.Unnamed = unnamed kind s w t key rate count
 setsShown kind s w t key rate compared.Unnamed count m = unnamed kind s w t key rate count
@@ -58,26 +62,26 @@ pub record Demand1 : Type 0 where
   pub calls : (kind : RoomKind) (s : Settings) (w : List ℕ) (t : ℕ) (op : Op kind) →
       TurnedBy (tableOf kind s w t op) (answerRow kind s w t op) w (after kind s w t op)
   -- both rooms stay
-  pub provider-cleanup : (s : Settings) (a b : List ℕ) (t stale : ℕ) →
-      TurnedBy {B = List ℕ × List ℕ} (cleansBoth s a b t) (doneRow (Provider.cleanup s a b t stale .answer)) (a, b)
-      (Provider.cleanup s a b t stale .absolute, Provider.cleanup s a b t stale .suppressed)
+  pub provider-cleanup : (s : Settings) (a b : List ℕ) (t : ℕ) (c d : Caller) (stale : ℕ) →
+      TurnedBy {B = List ℕ × List ℕ} (cleansBoth s a b t c d) (doneRow (Provider.cleanup s a b t c d stale .answer)) (a, b)
+      (Provider.cleanup s a b t c d stale .absolute, Provider.cleanup s a b t c d stale .suppressed)
   -- the row stays
-  pub read-out : (kind : RoomKind) (s : Settings) (w key : List ℕ) (cells : List Bucket) →
+  pub read-out : (kind : RoomKind) (s : Settings) (w : List ℕ) (key : Sent) (cells : List Bucket) →
       TurnedBy (reads kind s w key) (readOutRow (ReadOut.readOut kind s w key cells .answer)) cells (ReadOut.readOut kind s w key cells .row)
   -- the constructors of units: 1, 2, 3 and 8
   pub units : Makes
   -- the sets over a face
-  pub set-shown : (kind : RoomKind) (s : Settings) (w : List ℕ) (t : ℕ) (key : List ℕ) (rate : RateLimit) (comparison : Comparison) (count : ℕ) (mode : Mode) →
+  pub set-shown : (kind : RoomKind) (s : Settings) (w : List ℕ) (t : ℕ) (key : Sent) (rate : RateLimit) (comparison : Comparison) (count : ℕ) (mode : Mode) →
       TurnedBy (setsShown kind s w t key rate comparison count mode) (shownSet kind s w t key rate comparison count mode .row) w
       (shownSet kind s w t key rate comparison count mode .words)
   -- a gateway's shots, and its new season
   pub gateway : TurnsShots
 
-pub reads-number : (kind : RoomKind) (s : Settings) (w key : List ℕ) → Finding.refusal kind s w key ≡ first (reads kind s w key)
+pub reads-number : (kind : RoomKind) (s : Settings) (w : List ℕ) (key : Sent) → Finding.refusal kind s w key ≡ first (reads kind s w key)
 unfolding Finding.refusal
 reads-number kind s w key = refl
 
-read-turned : (kind : RoomKind) (s : Settings) (w key : List ℕ) (cells : List Bucket) →
+read-turned : (kind : RoomKind) (s : Settings) (w : List ℕ) (key : Sent) (cells : List Bucket) →
     TurnedBy (reads kind s w key) (readOutRow (ReadOut.readOut kind s w key cells .answer)) cells (ReadOut.readOut kind s w key cells .row)
 unfolding ReadOut.readOut readOutRow faults
 read-turned kind s w key cells =
@@ -88,12 +92,12 @@ read-turned kind s w key cells =
     (λ z. rw (e, ne-eqb (first (reads kind s w key)) 0 z))
 
 -- a number is always given, and 14 where none is met before it
-unnamed-turned : (kind : RoomKind) (s : Settings) (w : List ℕ) (t : ℕ) (key : List ℕ) (rate : RateLimit) (count : ℕ) →
+unnamed-turned : (kind : RoomKind) (s : Settings) (w : List ℕ) (t : ℕ) (key : Sent) (rate : RateLimit) (count : ℕ) →
     TurnedBy (unnamed kind s w t key rate count) (refusedRow (Unnamed.refusal kind s w t key rate count)) w w
-unfolding Unnamed.refusal faults misfits
+unfolding Unnamed.refusal faults misfits turns
 unnamed-turned kind s w t key rate count = turned-by (unnamed kind s w t key rate count) _ w w (omega arith) (λ z. refl) (λ z. z) (λ z. refl)
 
-set-turned : (kind : RoomKind) (s : Settings) (w : List ℕ) (t : ℕ) (key : List ℕ) (rate : RateLimit) (comparison : Comparison) (count : ℕ) (mode : Mode) →
+set-turned : (kind : RoomKind) (s : Settings) (w : List ℕ) (t : ℕ) (key : Sent) (rate : RateLimit) (comparison : Comparison) (count : ℕ) (mode : Mode) →
     TurnedBy (setsShown kind s w t key rate comparison count mode) (shownSet kind s w t key rate comparison count mode .row) w
     (shownSet kind s w t key rate comparison count mode .words)
 unfolding shownSet

@@ -20,6 +20,8 @@ use Rattle.settings.specs.declared.Settings.{Settings}
 use Rattle.common.specs.declared.units.RateLimit.{RateLimit}
 use Rattle.ring.specs.declared.Bucket.{Bucket}
 use Rattle.frame.specs.Keys.{Bytes}
+use Rattle.parties.specs.declared.Caller.{Caller}
+use Rattle.parties.specs.Parties.{Sent, markOf}
 use Rattle.rules.specs.declared.RoomKind.{RoomKind}
 use Rattle.rules.specs.declared.RoomKind.the-variants as kind
 use Rattle.judge.specs.Judge.{slotIn, lookedIn}
@@ -48,37 +50,37 @@ use Rattle.steps.specs.Ops.{Op, answerRow}
 use Rattle.steps.specs.Table.{tableOf, absoluteInc, plain, suppressedInc, suppressedFactor, setRate, sets, clears, cleans, cleansBoth}
 use Rattle.promises.specs.Answers.{ruleRow, answered}
 use Rattle.promises.specs.Refusals.{reads, reads-number}
-use Rattle.promises.specs.Shared.{RateRule, DeleteRule, SetRule, ClearRule, CleanRule, rate-follows, delete-follows, set-follows, clear-follows}
-use Rattle.promises.specs.Shared.{clean-follows}
+use Rattle.leaves.specs.Shared.{RateRule, DeleteRule, SetRule, ClearRule, CleanRule, rate-follows, delete-follows, set-follows, clear-follows}
+use Rattle.leaves.specs.Shared.{clean-follows}
 
 -- cleanup of one room
-pub record CleansRoom (kind : RoomKind) (s : Settings) (w : List ℕ) (t stale : ℕ) : Type 0 where
-  pub answer : Cleanup.cleanup kind s w t stale .answer ≡ done.Done
-  pub room : CleanRule kind s w (Cleanup.cleanup kind s w t stale .words) t stale
+pub record CleansRoom (kind : RoomKind) (s : Settings) (w : List ℕ) (t : ℕ) (who : Caller) (stale : ℕ) : Type 0 where
+  pub answer : Cleanup.cleanup kind s w t who stale .answer ≡ done.Done
+  pub room : CleanRule kind s w (Cleanup.cleanup kind s w t who stale .words) t stale
 
 -- "The provider's cleanup cleans both rooms or neither"
-pub record CleansBoth (s : Settings) (a b : List ℕ) (t stale : ℕ) : Type 0 where
-  pub answer : Provider.cleanup s a b t stale .answer ≡ done.Done
-  pub absolute : CleanRule kind.Absolute s a (Provider.cleanup s a b t stale .absolute) t stale
-  pub suppressed : CleanRule kind.Suppressed s b (Provider.cleanup s a b t stale .suppressed) t stale
+pub record CleansBoth (s : Settings) (a b : List ℕ) (t : ℕ) (c d : Caller) (stale : ℕ) : Type 0 where
+  pub answer : Provider.cleanup s a b t c d stale .answer ≡ done.Done
+  pub absolute : CleanRule kind.Absolute s a (Provider.cleanup s a b t c d stale .absolute) t stale
+  pub suppressed : CleanRule kind.Suppressed s b (Provider.cleanup s a b t c d stale .suppressed) t stale
 
 -- ---- an increment, whatever function makes it
 
 -- what it answers and what it leaves, by settings, words, reading, key, rate, count and draw
 abbrev pub Inc : Type 0
-Inc = Settings → List ℕ → ℕ → List ℕ → RateLimit → ℕ → ℕ → Verdict RateLimitDecision
+Inc = Settings → List ℕ → ℕ → Sent → RateLimit → ℕ → ℕ → Verdict RateLimitDecision
 
 -- the limiters' own; an absolute increment has no draw
 abbrev pub incOf : RoomKind → Inc
 incOf kind.Absolute s w t key rate count draw = Absolute.inc s w t key rate count
 incOf kind.Suppressed s w t key rate count draw = Suppressed.inc s w t key rate count draw
 
-abbrev pub incTable : RoomKind → Settings → List ℕ → ℕ → List ℕ → RateLimit → ℕ → ℕ → List (ℕ × Bool)
+abbrev pub incTable : RoomKind → Settings → List ℕ → ℕ → Sent → RateLimit → ℕ → ℕ → List (ℕ × Bool)
 incTable kind.Absolute s w t key rate count draw = absoluteInc s w t key rate count
 incTable kind.Suppressed s w t key rate count draw = suppressedInc s w t key rate count draw
 
 -- answer and room by the rules: of the suppressed limiter `outcome` is what they decide
-abbrev pub IncRule : RoomKind → Settings → List ℕ → ℕ → List ℕ → RateLimit → ℕ → ℕ → Verdict RateLimitDecision → Type 0
+abbrev pub IncRule : RoomKind → Settings → List ℕ → ℕ → Sent → RateLimit → ℕ → ℕ → Verdict RateLimitDecision → Type 0
 IncRule kind.Absolute s w t key rate count draw v = IncLaw s w t key rate count v
 IncRule kind.Suppressed s w t key rate count draw v =
     Counts s w t key (limitFor s rate (heldIn w key)) count (lookedIn s w t key) (outcome s t (limitFor s rate (heldIn w key)) count draw (heldIn w key)) v
@@ -86,16 +88,17 @@ IncRule kind.Suppressed s w t key rate count draw v =
 -- of a key of bytes, where it is not turned away
 abbrev pub IncByRules : RoomKind → Inc → Type 0
 IncByRules kind f =
-    (s : Settings) (w : List ℕ) (t : ℕ) (key : List ℕ) (rate : RateLimit) (count draw : ℕ) → Bytes key → first (incTable kind s w t key rate count draw) ≡ 0 →
-    IncRule kind s w t key rate count draw (f s w t key rate count draw)
+    (s : Settings) (w : List ℕ) (t : ℕ) (key : Sent) (rate : RateLimit) (count draw : ℕ) → Bytes (key .bytes) →
+    first (incTable kind s w t key rate count draw) ≡ 0 → IncRule kind s w t key rate count draw (f s w t key rate count draw)
 
 -- ---- `get`, whatever function makes it: the absolute limiter's, and the suppressed one's
 
-abbrev pub TotalByRules : (Settings → List ℕ → ℕ → List ℕ → Verdict TotalAnswer) → Type 0
-TotalByRules f = (s : Settings) (w : List ℕ) (t : ℕ) (key : List ℕ) → first (plain kind.Absolute s w t key) ≡ 0 → GetLaw s w t key (f s w t key)
+abbrev pub TotalByRules : (Settings → List ℕ → ℕ → Sent → Verdict TotalAnswer) → Type 0
+TotalByRules f = (s : Settings) (w : List ℕ) (t : ℕ) (key : Sent) → first (plain kind.Absolute s w t key) ≡ 0 → GetLaw s w t key (f s w t key)
 
-abbrev pub SnapshotByRules : (Settings → List ℕ → ℕ → List ℕ → Verdict SnapshotAnswer) → Type 0
-SnapshotByRules f = (s : Settings) (w : List ℕ) (t : ℕ) (key : List ℕ) → Bytes key → first (plain kind.Suppressed s w t key) ≡ 0 → Gets s w t key (f s w t key)
+abbrev pub SnapshotByRules : (Settings → List ℕ → ℕ → Sent → Verdict SnapshotAnswer) → Type 0
+SnapshotByRules f =
+    (s : Settings) (w : List ℕ) (t : ℕ) (key : Sent) → Bytes (key .bytes) → first (plain kind.Suppressed s w t key) ≡ 0 → Gets s w t key (f s w t key)
 
 -- ---- the promise
 
@@ -105,49 +108,51 @@ pub record Demand2 : Type 0 where
       answerRow kind s w t op ≡ ruleRow kind s w t op
   -- the absolute limiter
   pub absolute-inc : IncByRules kind.Absolute (incOf kind.Absolute)
-  pub absolute-is-allowed : (s : Settings) (w : List ℕ) (t : ℕ) (key : List ℕ) → first (plain kind.Absolute s w t key) ≡ 0 →
+  pub absolute-is-allowed : (s : Settings) (w : List ℕ) (t : ℕ) (key : Sent) → first (plain kind.Absolute s w t key) ≡ 0 →
       AskLaw s w t key (Absolute.isAllowed s w t key)
   pub absolute-get : TotalByRules Absolute.get
   -- the suppressed limiter
   pub suppressed-inc : IncByRules kind.Suppressed (incOf kind.Suppressed)
   pub suppressed-get : SnapshotByRules Suppressed.get
-  pub suppressed-factor : (s : Settings) (w : List ℕ) (t : ℕ) (key : List ℕ) → Bytes key → first (suppressedFactor s w t key) ≡ 0 →
+  pub suppressed-factor : (s : Settings) (w : List ℕ) (t : ℕ) (key : Sent) → Bytes (key .bytes) → first (suppressedFactor s w t key) ≡ 0 →
       GivesFactor s w t key (Suppressed.getFactor s w t key)
   -- the calls that both limiters have; `set_if` has mode Replace, `set_if_preserve_history` Preserve
-  pub set-rate-limit : (kind : RoomKind) (s : Settings) (w : List ℕ) (t : ℕ) (key : List ℕ) (rate : RateLimit) → first (setRate kind s w t key rate) ≡ 0 →
+  pub set-rate-limit : (kind : RoomKind) (s : Settings) (w : List ℕ) (t : ℕ) (key : Sent) (rate : RateLimit) → first (setRate kind s w t key rate) ≡ 0 →
       RateRule kind s w t key rate (slotIn s w t key) (Rate.setRateLimit kind s w t key rate)
-  pub delete : (kind : RoomKind) (s : Settings) (w : List ℕ) (t : ℕ) (key : List ℕ) → first (plain kind s w t key) ≡ 0 →
+  pub delete : (kind : RoomKind) (s : Settings) (w : List ℕ) (t : ℕ) (key : Sent) → first (plain kind s w t key) ≡ 0 →
       DeleteRule s w t key (slotIn s w t key) (Delete.delete kind s w t key)
-  pub set-if : (kind : RoomKind) (s : Settings) (w : List ℕ) (t : ℕ) (key : List ℕ) (rate : RateLimit) (comparator : RateLimitComparator) (count : ℕ)
-      (mode : HistoryUpdateMode) → Bytes key → first (sets kind s w t key rate comparator count mode) ≡ 0 →
+  pub set-if : (kind : RoomKind) (s : Settings) (w : List ℕ) (t : ℕ) (key : Sent) (rate : RateLimit) (comparator : RateLimitComparator) (count : ℕ)
+      (mode : HistoryUpdateMode) → Bytes (key .bytes) → first (sets kind s w t key rate comparator count mode) ≡ 0 →
       SetRule kind s w t key rate comparator count mode (stillFor kind s t rate comparator count mode (heldIn w key)) (slotIn s w t key)
       (Sets.set kind s w t key rate comparator count mode)
-  pub clear : (s : Settings) (w : List ℕ) (t : ℕ) → first (clears s w t) ≡ 0 → ClearRule w t (Clear.clear s w t)
-  pub cleanup : (kind : RoomKind) (s : Settings) (w : List ℕ) (t stale : ℕ) → first (cleans kind s w t) ≡ 0 → CleansRoom kind s w t stale
-  pub provider-cleanup : (s : Settings) (a b : List ℕ) (t stale : ℕ) → first (cleansBoth s a b t) ≡ 0 → CleansBoth s a b t stale
-  pub read-out : (kind : RoomKind) (s : Settings) (w key : List ℕ) (cells : List Bucket) → first (reads kind s w key) ≡ 0 →
+  pub clear : (s : Settings) (w : List ℕ) (t : ℕ) (who : Caller) → first (clears s w t who) ≡ 0 → ClearRule w (markOf (who .party)) t (Clear.clear s w t who)
+  pub cleanup : (kind : RoomKind) (s : Settings) (w : List ℕ) (t : ℕ) (who : Caller) (stale : ℕ) → first (cleans kind s w t who) ≡ 0 →
+      CleansRoom kind s w t who stale
+  pub provider-cleanup : (s : Settings) (a b : List ℕ) (t : ℕ) (c d : Caller) (stale : ℕ) → first (cleansBoth s a b t c d) ≡ 0 → CleansBoth s a b t c d stale
+  pub read-out : (kind : RoomKind) (s : Settings) (w : List ℕ) (key : Sent) (cells : List Bucket) → first (reads kind s w key) ≡ 0 →
       ReadsOut w key cells (ReadOut.readOut kind s w key cells)
 
-cleans-room : (kind : RoomKind) (s : Settings) (w : List ℕ) (t stale : ℕ) → Cleanup.refusal kind s w t ≡ 0 → CleansRoom kind s w t stale
-cleans-room kind s w t stale e =
+cleans-room : (kind : RoomKind) (s : Settings) (w : List ℕ) (t : ℕ) (who : Caller) (stale : ℕ) → Cleanup.refusal kind s w t who ≡ 0 →
+    CleansRoom kind s w t who stale
+cleans-room kind s w t who stale e =
     record {
-      answer = done-answer kind s w t stale e;
-      room = subst (λ (v : List ℕ). CleanRule kind s w v t stale) (sym (done-words kind s w t stale e))
-          (clean-follows kind s w t stale e);
+      answer = done-answer kind s w t who stale e;
+      room = subst (λ (v : List ℕ). CleanRule kind s w v t stale) (sym (done-words kind s w t who stale e))
+          (clean-follows kind s w t who stale e);
     }
 
-cleans-both : (s : Settings) (a b : List ℕ) (t stale : ℕ) → first (cleansBoth s a b t) ≡ 0 → CleansBoth s a b t stale
+cleans-both : (s : Settings) (a b : List ℕ) (t : ℕ) (c d : Caller) (stale : ℕ) → first (cleansBoth s a b t c d) ≡ 0 → CleansBoth s a b t c d stale
 unfolding Provider.decided
-cleans-both s a b t stale e =
-    let n : Provider.refusalOfBoth s a b t ≡ 0 = both-by-table s a b t ∙ e in
-    let z = lowest-none (Cleanup.refusal kind.Absolute s a t) (Cleanup.refusal kind.Suppressed s b t) n in
-    let y : true ≡ eqb (Provider.refusalOfBoth s a b t) 0 = sym (eq-eqb _ 0 n) in
+cleans-both s a b t c d stale e =
+    let n : Provider.refusalOfBoth s a b t c d ≡ 0 = both-by-table s a b t c d ∙ e in
+    let z = lowest-none (Cleanup.refusal kind.Absolute s a t c) (Cleanup.refusal kind.Suppressed s b t d) n in
+    let y : true ≡ eqb (Provider.refusalOfBoth s a b t c d) 0 = sym (eq-eqb _ 0 n) in
     record {
       answer = rw n;
       absolute = subst (λ (x : Bool). CleanRule kind.Absolute s a (cond x (Uses.cleaned a t (ticksIn s) stale) a) t stale) y
-          (clean-follows kind.Absolute s a t stale (z .0));
+          (clean-follows kind.Absolute s a t c stale (z .0));
       suppressed = subst (λ (x : Bool). CleanRule kind.Suppressed s b (cond x (Uses.cleaned b t (ticksIn s) stale) b) t stale) y
-          (clean-follows kind.Suppressed s b t stale (z .1));
+          (clean-follows kind.Suppressed s b t d stale (z .1));
     }
 
 pub demand2 : Demand2

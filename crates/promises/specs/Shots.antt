@@ -7,6 +7,8 @@ use mathlib.Core.List.{List, [], _∷_, _++_}
 use Prim.Native.Nat.{ℕ}
 use native.Mathlib.Omega.{arith}
 use borrow.Author.Tests.{eq-eqb, ne-eqb}
+use Rattle.parties.specs.Parties as Parties
+use Rattle.parties.specs.Parties.{Sent}
 use Rattle.answers.specs.Rows.{decisionRow, shotRow, doneRow, numberOf}
 use Rattle.answers.specs.declared.DoneAnswer.the-variants as done
 use Rattle.common.specs.Refusals.{first, first-none, first-both}
@@ -24,7 +26,7 @@ use Rattle.steps.specs.Table.{turned, in-order}
 
 pub record TurnsShots : Type 0 where
   -- a shot by its number: table and room stay
-  pub shots : (s : Settings) (w r : List ℕ) (t : ℕ) (key : List ℕ) (number : ℕ) (rate : RateLimit) (draw : ℕ) →
+  pub shots : (s : Settings) (w r : List ℕ) (t : ℕ) (key : Sent) (number : ℕ) (rate : RateLimit) (draw : ℕ) →
       TurnedBy {B = List ℕ × List ℕ} (shotTurns s w r t key number rate draw) (shotRow (shot s w r t key number rate draw .answer)) (w, r)
       (shot s w r t key number rate draw .table, shot s w r t key number rate draw .room)
   -- a new season
@@ -32,25 +34,26 @@ pub record TurnsShots : Type 0 where
 
 -- ---- the order
 
-module _ (s : Settings) (w r : List ℕ) (t : ℕ) (key : List ℕ) (number : ℕ) (rate : RateLimit) (draw : ℕ) where
-  pub shot-in-order : (held : Bool) → InOrder 0 (gateTurns w key number ++ unlessHeld held (limiterTurns s w r t key rate draw))
-  unfolding gateTurns faults misfits
+module _ (s : Settings) (w r : List ℕ) (t : ℕ) (key : Sent) (number : ℕ) (rate : RateLimit) (draw : ℕ) where
+  pub shot-in-order : (held : Bool) → InOrder 0 (gateTurns w (key .bytes) number ++ unlessHeld held (limiterTurns s w r t key rate draw))
+  unfolding gateTurns faults misfits Parties.turns
   shot-in-order true = omega arith
   shot-in-order false = omega arith
 
   -- ---- what is not turned away is answered without a number
 
   -- the limiter's own list, without the table's 5
-  asked-none : first (gateTurns w key number ++ limiterTurns s w r t key rate draw) ≡ 0 → numberOf (decisionRow (inc s r t key rate 1 draw .answer)) ≡ 0
+  asked-none : first (gateTurns w (key .bytes) number ++ limiterTurns s w r t key rate draw) ≡ 0 →
+      numberOf (decisionRow (inc s r t key rate 1 draw .answer)) ≡ 0
   unfolding gateTurns faults
   asked-none e =
-      let a = first-both (gateTurns w key number) (limiterTurns s w r t key rate draw) (omega arith) e .1 in
+      let a = first-both (gateTurns w (key .bytes) number) (limiterTurns s w r t key rate draw) (omega arith) e .1 in
       let b = first-both (faults s) _ (omega arith) a in
       let c = first-both ((5, _) ∷ []) _ (omega arith) (b .1) .1 in
       not-refused _ (in-order s r t key rate 1 draw) _ _ _ (turned kind.Suppressed s r t (Ops.draws key rate 1 draw))
       (first-none (faults s) _ (omega arith) (b .0) ∙ c)
 
-  passed-none : (held : Bool) → first (gateTurns w key number ++ unlessHeld held (limiterTurns s w r t key rate draw)) ≡ 0 →
+  passed-none : (held : Bool) → first (gateTurns w (key .bytes) number ++ unlessHeld held (limiterTurns s w r t key rate draw)) ≡ 0 →
       numberOf (shotRow (passed held s w r t key number rate draw .answer)) ≡ 0
   unfolding shotRow
   passed-none true e = refl
@@ -61,9 +64,9 @@ module _ (s : Settings) (w r : List ℕ) (t : ℕ) (key : List ℕ) (number : �
   unfolding shot unlessRefused shotRow
   shot-turned =
       let turns = shotTurns s w r t key number rate draw in
-      turned-by turns _ _ _ (shot-in-order (isHeld w key number))
+      turned-by turns _ _ _ (shot-in-order (isHeld w (key .bytes) number))
       (λ z. rw (ne-eqb (first turns) 0 z))
-      (λ z. rw (eq-eqb (first turns) 0 z) (passed-none (isHeld w key number) z))
+      (λ z. rw (eq-eqb (first turns) 0 z) (passed-none (isHeld w (key .bytes) number) z))
       (λ z. rw (ne-eqb (first turns) 0 z))
 
 season-turned : (w : List ℕ) → TurnedBy (seasonTurns w) (doneRow (newSeason w .answer)) w (newSeason w .words)

@@ -1,6 +1,6 @@
--- A sound room stays sound: its lengths are right and every slot in use is sound (`SoundRoom`) after any call, refused or not, if they were before it
--- (`StaysSound`). A call on a sound room is not answered 5, whatever it is (`sound-unmet`), and an empty room is sound. So no call is ever answered 5 where
--- only these calls, with these settings, have written (`NeverFive`).
+-- A sound room stays sound: its lengths are right and every slot in use is a party's and sound (`SoundRoom`) after any call, refused or not, if they were
+-- before it (`StaysSound`). A call on a sound room is not answered 5, whatever it is (`sound-unmet`), and an empty room is sound. So no call is ever
+-- answered 5 where only these calls, with these settings, have written (`NeverFive`).
 -- Assumes nothing.
 use mathlib.Core.Path.{_≡_, refl, sym, _∙_}
 use mathlib.Core.Bool.{Bool, true, false, _&&_}
@@ -14,13 +14,15 @@ use Rattle.answers.specs.Rows.{doneRow, readOutRow, numberOf}
 use Rattle.settings.specs.Settings.{faults}
 use Rattle.settings.specs.declared.Settings.{Settings}
 use Rattle.ring.specs.declared.Bucket.{Bucket}
-use Rattle.room.specs.Room.{Room, slotsOf, useOf, sized, fits, empty}
+use Rattle.room.specs.Room.{Room, slotsOf, holderOf, sized, fits, empty}
 use Rattle.room.specs.Laws.{room-sized}
+use Rattle.parties.specs.declared.Caller.{Caller}
+use Rattle.parties.specs.Parties.{Sent, ours, turns}
 use Rattle.rules.specs.declared.RoomKind.{RoomKind}
 use Rattle.rules.specs.declared.RoomKind.the-variants.{Absolute, Suppressed}
 use Rattle.rules.specs.Sets.{rateTurns}
 use Rattle.judge.specs.Judge as Judge
-use Rattle.cleanup.specs.Every.{every}
+use Rattle.base.specs.Every.{every}
 use Rattle.cleanup.specs.Cleanup as Cleanup
 use Rattle.cleanup.specs.Cleanup.{slotPasses, allPass}
 use Rattle.cleanup.specs.Laws.{passes-free, passes-used}
@@ -54,7 +56,8 @@ otherKind Absolute = Suppressed
 otherKind Suppressed = Absolute
 
 abbrev pub OtherSound : (kind : RoomKind) → Settings → Op kind → Type 0
-OtherSound kind s op = (other : List ℕ) (stale : ℕ) → op ≡ Ops.cleanupBoth other stale → SoundRoom (otherKind kind) s other
+OtherSound kind s op =
+    (who : Caller) (other : List ℕ) (whose : Caller) (stale : ℕ) → op ≡ Ops.cleanupBoth who other whose stale → SoundRoom (otherKind kind) s other
 
 -- "Cleanup judges every slot in use"
 each-passes : (p : ℕ → Bool) (n : ℕ) → ((i : ℕ) → i < n → p i ≡ true) → every p n ≡ true
@@ -62,27 +65,28 @@ unfolding every
 each-passes p zero f = refl
 each-passes p (suc n) f = true-and (every p n) (p n) (each-passes p n (λ i h. f i (omega arith))) (f n (omega arith))
 
-clean-unmet : (kind : RoomKind) (s : Settings) (w : List ℕ) → SoundRoom kind s w → sized w && allPass kind s w ≡ true
+clean-unmet : (kind : RoomKind) (s : Settings) (w : List ℕ) → SoundRoom kind s w → sized w && (ours w && allPass kind s w) ≡ true
 clean-unmet kind s w o =
-    true-and (sized w) _ (room-sized w (o .room)) (each-passes (slotPasses kind s w) (slotsOf w) (λ i h. go i h (ℕ-discrete (useOf w i) 0)))
+    true-and (sized w) _ (room-sized w (o .room))
+    (true-and (ours w) _ (o .theirs) (each-passes (slotPasses kind s w) (slotsOf w) (λ i h. go i h (ℕ-discrete (holderOf w i) 0))))
   where
-    go : (i : ℕ) → i < slotsOf w → Dec (useOf w i ≡ 0) → slotPasses kind s w i ≡ true
+    go : (i : ℕ) → i < slotsOf w → Dec (holderOf w i ≡ 0) → slotPasses kind s w i ≡ true
     go i h (yes e) = sym (passes-free kind s w i e)
     go i h (no n) = passes-used kind s w i n ∙ o .slots i h n
 
-both-unmet : (s : Settings) (a b : List ℕ) (t : ℕ) → SoundRoom Absolute s a → SoundRoom Suppressed s b → met (cleansBoth s a b t) 5 ≡ false
+both-unmet : (s : Settings) (a b : List ℕ) (t : ℕ) (c d : Caller) → SoundRoom Absolute s a → SoundRoom Suppressed s b → met (cleansBoth s a b t c d) 5 ≡ false
 unfolding met faults
-both-unmet s a b t o p = rw (clean-unmet Absolute s a o, clean-unmet Suppressed s b p)
+both-unmet s a b t c d o p = rw (clean-unmet Absolute s a o, clean-unmet Suppressed s b p)
 
--- "clear judges lengths only"
-clear-fails : (s : Settings) (w : List ℕ) (t : ℕ) → Room w → met (clears s w t) 5 ≡ false
-unfolding met faults Clear.unclear
-clear-fails s w t o = rw (room-sized w o)
+-- "clear judges lengths only", and that no "slot in use is neither party's"
+clear-fails : (s : Settings) (w : List ℕ) (t : ℕ) (who : Caller) → Room w → ours w ≡ true → met (clears s w t who) 5 ≡ false
+unfolding met faults turns Clear.unclear
+clear-fails s w t who o theirs = rw (room-sized w o, theirs)
 
 -- the condition of 5 does not hold
 five-fails : (kind : RoomKind) (s : Settings) (w : List ℕ) (t : ℕ) (op : Op kind) → SoundRoom kind s w → OtherSound kind s op →
     met (tableOf kind s w t op) 5 ≡ false
-unfolding met faults rateTurns Judge.misfits Cleanup.misfits
+unfolding met faults rateTurns turns Judge.misfits Cleanup.misfits
 five-fails kind s w t (Ops.inc key rate count) o b = rw (five-unmet kind s w key o)
 five-fails kind s w t (Ops.isAllowed key) o b = rw (five-unmet kind s w key o)
 five-fails kind s w t (Ops.get key) o b = rw (five-unmet kind s w key o)
@@ -92,20 +96,20 @@ five-fails kind s w t (Ops.getFactor key) o b = rw (five-unmet kind s w key o)
 five-fails kind s w t (Ops.setRate key rate) o b = rw (five-unmet kind s w key o)
 five-fails kind s w t (Ops.set key rate comparator count mode) o b = rw (five-unmet kind s w key o)
 five-fails kind s w t (Ops.delete key) o b = rw (five-unmet kind s w key o)
-five-fails kind s w t (Ops.cleanup stale) o b = rw (clean-unmet kind s w o)
-five-fails Absolute s w t (Ops.cleanupBoth other stale) o b = both-unmet s w other t o (b other stale refl)
-five-fails Suppressed s w t (Ops.cleanupBoth other stale) o b = both-unmet s other w t (b other stale refl) o
-five-fails kind s w t Ops.clear o b = clear-fails s w t (o .room)
+five-fails kind s w t (Ops.cleanup who stale) o b = rw (clean-unmet kind s w o)
+five-fails Absolute s w t (Ops.cleanupBoth who other whose stale) o b = both-unmet s w other t who whose o (b who other whose stale refl)
+five-fails Suppressed s w t (Ops.cleanupBoth who other whose stale) o b = both-unmet s other w t whose who (b who other whose stale refl) o
+five-fails kind s w t (Ops.clear who) o b = clear-fails s w t who (o .room) (o .theirs)
 
 pub sound-unmet : (kind : RoomKind) (s : Settings) (w : List ℕ) (t : ℕ) (op : Op kind) → SoundRoom kind s w → OtherSound kind s op →
     answerNumber kind s w t op ≢ 5
 sound-unmet kind s w t op o b = unmet kind s w t op 5 (λ z. omega (arith, z)) (five-fails kind s w t op o b)
 
--- clear is not, whatever its slots hold
-pub clear-unmet : (kind : RoomKind) (s : Settings) (w : List ℕ) (t : ℕ) → Room w → answerNumber kind s w t Ops.clear ≢ 5
-clear-unmet kind s w t o = unmet kind s w t Ops.clear 5 (λ z. omega (arith, z)) (clear-fails s w t o)
+-- clear is not, whatever its slots hold, where each that is in use is a party's
+pub clear-unmet : (kind : RoomKind) (s : Settings) (w : List ℕ) (t : ℕ) (who : Caller) → Room w → ours w ≡ true → answerNumber kind s w t (Ops.clear who) ≢ 5
+clear-unmet kind s w t who o theirs = unmet kind s w t (Ops.clear who) 5 (λ z. omega (arith, z)) (clear-fails s w t who o theirs)
 
-read-unmet : (kind : RoomKind) (s : Settings) (w key : List ℕ) (cells : List Bucket) → SoundRoom kind s w →
+read-unmet : (kind : RoomKind) (s : Settings) (w : List ℕ) (key : Sent) (cells : List Bucket) → SoundRoom kind s w →
     numberOf (readOutRow (ReadOut.readOut kind s w key cells .answer)) ≢ 5
 unfolding met faults
 read-unmet kind s w key cells o =
@@ -126,19 +130,20 @@ pub record NeverFive : Type 0 where
   pub provider-cleanup : (s : Settings)
       (slots ring l : ℕ) → fits slots ring l ≡ true → (made : List (Call Absolute)) → AllKeyed made →
       (slots′ ring′ l′ : ℕ) → fits slots′ ring′ l′ ≡ true → (made′ : List (Call Suppressed)) → AllKeyed made′ →
-      (t stale : ℕ) →
-      numberOf (doneRow (Provider.cleanup s (words Absolute s (empty slots ring) made) (words Suppressed s (empty slots′ ring′) made′) t stale .answer)) ≢ 5
+      (t : ℕ) (c d : Caller) (stale : ℕ) →
+      numberOf (doneRow
+      (Provider.cleanup s (words Absolute s (empty slots ring) made) (words Suppressed s (empty slots′ ring′) made′) t c d stale .answer)) ≢ 5
   pub read-out : (kind : RoomKind) (s : Settings) (slots ring l : ℕ) → fits slots ring l ≡ true → (made : List (Call kind)) → AllKeyed made →
-      (key : List ℕ) (cells : List Bucket) →
+      (key : Sent) (cells : List Bucket) →
       numberOf (readOutRow (ReadOut.readOut kind s (words kind s (empty slots ring) made) key cells .answer)) ≢ 5
 
 pub never-five : NeverFive
 never-five = record {
   calls = λ kind s slots ring l e made k t op b. sound-unmet kind s _ t op (always-sound kind s slots ring l e made k) b;
-  provider-cleanup = λ s slots ring l e made k slots′ ring′ l′ e′ made′ k′ t stale.
+  provider-cleanup = λ s slots ring l e made k slots′ ring′ l′ e′ made′ k′ t c d stale.
       let a = words Absolute s (empty slots ring) made in
       let b = words Suppressed s (empty slots′ ring′) made′ in
-      not-given (cleansBoth s a b t) _ _ _ (demand1 .provider-cleanup s a b t stale) 5 (λ z. omega (arith, z))
-      (both-unmet s a b t (always-sound Absolute s slots ring l e made k) (always-sound Suppressed s slots′ ring′ l′ e′ made′ k′));
+      not-given (cleansBoth s a b t c d) _ _ _ (demand1 .provider-cleanup s a b t c d stale) 5 (λ z. omega (arith, z))
+      (both-unmet s a b t c d (always-sound Absolute s slots ring l e made k) (always-sound Suppressed s slots′ ring′ l′ e′ made′ k′));
   read-out = λ kind s slots ring l e made k key cells. read-unmet kind s _ key cells (always-sound kind s slots ring l e made k);
 }

@@ -2,6 +2,7 @@
 ghost use mathlib.Core.Path.{_≡_};
 ghost use Rattle.provider.specs.Provider.{lowest, refusalOfBoth, cleanup, Told};
 use answers::DoneAnswer;
+use parties::Caller;
 use rules::RoomKind;
 use settings::Settings;
 
@@ -22,26 +23,48 @@ fn lowest(m: u64, n: u64) -> u64
 }
 
 // The lowest refusal over both rooms, or 0.
-fn judge_both(settings: Settings, absolute: &[u64], suppressed: &[u64], reading: u64) -> u64
-    ensures { λ x. ⌜ x ≡ refusalOfBoth settings (now (absolute .entry)) (now (suppressed .entry)) reading ⌝ }
+fn judge_both(
+    settings: Settings,
+    absolute: &[u64],
+    suppressed: &[u64],
+    reading: u64,
+    absolutes: Caller,
+    suppresseds: Caller,
+) -> u64
+    ensures { λ x. ⌜ x ≡ refusalOfBoth settings (now (absolute .entry)) (now (suppressed .entry)) reading absolutes suppresseds ⌝ }
 {
-    let m = cleanup::judge_all(RoomKind::Absolute, settings, absolute, reading);
-    let n = cleanup::judge_all(RoomKind::Suppressed, settings, suppressed, reading);
+    let m = cleanup::judge_all(RoomKind::Absolute, settings, absolute, reading, absolutes);
+    let n = cleanup::judge_all(
+        RoomKind::Suppressed,
+        settings,
+        suppressed,
+        reading,
+        suppresseds,
+    );
     lowest(m, n)
 }
 
-// Cleans both rooms or neither.
+// Cleans both rooms or neither. Each room has a caller of its own: its promises are those of that room.
 pub fn cleanup(
     settings: Settings,
     absolute: &mut [u64],
     suppressed: &mut [u64],
     reading: u64,
+    absolutes: Caller,
+    suppresseds: Caller,
     stale: u64,
 ) -> DoneAnswer
-    ensures { λ r. ⌜ Told (cleanup settings (now (absolute .entry)) (now (suppressed .entry)) reading stale) r (now (absolute .exit))
-        (now (suppressed .exit)) ⌝ }
+    ensures { λ r. ⌜ Told (cleanup settings (now (absolute .entry)) (now (suppressed .entry)) reading absolutes suppresseds stale) r
+        (now (absolute .exit)) (now (suppressed .exit)) ⌝ }
 {
-    let code = judge_both(settings, absolute, suppressed, reading);
+    let code = judge_both(
+        settings,
+        absolute,
+        suppressed,
+        reading,
+        absolutes,
+        suppresseds,
+    );
     if code != 0 {
         return DoneAnswer::Refused(code);
     }

@@ -12,6 +12,7 @@ use Rattle.rules.specs.declared.RoomKind.{RoomKind}
 use Rattle.ring.specs.declared.Bucket.{Bucket}
 use Rattle.ring.specs.Ring.{noBucket, buckets}
 use Rattle.room.specs.Room.{ringOf, bodyOf}
+use Rattle.parties.specs.Parties.{Sent}
 use Rattle.finding.specs.declared.Found.{Found}
 use Rattle.readout.specs.declared.Plan.{Plan}
 use Rattle.answers.specs.declared.ReadOutAnswer.{ReadOutAnswer}
@@ -24,7 +25,7 @@ plan-path : {r r′ : ReadOutAnswer} {at n n′ : ℕ} → r ≡ r′ → n ≡ 
     _≡_ {A = Plan} (record { answer = r; slot = at; fitting = n }) (record { answer = r′; slot = at; fitting = n′ })
 plan-path {at = at} p q = λ i. record { answer = p i; slot = at; fitting = q i }
 
-module _ (kind : RoomKind) (s : Settings) (w key : List ℕ) where
+module _ (kind : RoomKind) (s : Settings) (w : List ℕ) (key : Sent) where
   -- ---- what `decide` says
 
   pub plan-is : (x : Found) → x ≡ found kind s w key → (r : ReadOutAnswer) → r ≡ answerOf x → (n m : ℕ) → m ≡ min (x .count) n →

@@ -9,6 +9,7 @@ use lib.Dec.{eqb}
 use Rattle.settings.specs.declared.Settings.{Settings}
 use Rattle.rules.specs.declared.RoomKind.{RoomKind}
 use Rattle.ring.specs.declared.Bucket.{Bucket}
+use Rattle.parties.specs.Parties.{Sent}
 use Rattle.finding.specs.declared.Found.{Found}
 use Rattle.readout.specs.declared.Plan.{Plan}
 use Rattle.answers.specs.declared.ReadOutAnswer.{ReadOutAnswer}
@@ -23,7 +24,7 @@ pub record Filled : Type 0 where
   pub row : List Bucket
 
 -- "as many as fit, leaving the others; it gives the ring's bucket count, 0 for an unknown key"; refusals "leave the row"
-unfoldable pub readOut : RoomKind → Settings → List ℕ → List ℕ → List Bucket → Filled
+unfoldable pub readOut : RoomKind → Settings → List ℕ → Sent → List Bucket → Filled
 readOut kind s w key row =
     let n = refusal kind s w key in
     record {
@@ -44,5 +45,5 @@ abbrev pub planOf : Found → ℕ → Plan
 planOf x n = record { answer = answerOf x; slot = x .slot; fitting = min (x .count) n }
 
 -- the row once i buckets are written
-abbrev pub rowAt : RoomKind → Settings → List ℕ → List ℕ → List Bucket → ℕ → List Bucket
+abbrev pub rowAt : RoomKind → Settings → List ℕ → Sent → List Bucket → ℕ → List Bucket
 rowAt kind s w key row i = upTo i (shown kind s w key) row

@@ -17,6 +17,7 @@ use Rattle.settings.specs.declared.Settings.{Settings}
 use Rattle.rules.specs.declared.RoomKind.{RoomKind}
 use Rattle.ring.specs.declared.Bucket.{Bucket}
 use Rattle.ring.specs.Ring.{noBucket}
+use Rattle.parties.specs.Parties.{Sent}
 use Rattle.judge.specs.Held.{heldIn}
 use Rattle.finding.specs.Finding.{refusal}
 use Rattle.finding.specs.FindingLaws.{buckets-held, buckets-rise}
@@ -25,7 +26,7 @@ use Rattle.readout.specs.ReadOut.{Filled, readOut}
 
 -- "fills a lent row of bucket records, oldest first, expired ones too, as many as fit, leaving the others; it gives the ring's bucket count, 0 for an
 -- unknown key": of all buckets that the key holds, by place from the oldest
-pub record ReadsOut (w key : List ℕ) (cells : List Bucket) (v : Filled) : Type 0 where
+pub record ReadsOut (w : List ℕ) (key : Sent) (cells : List Bucket) (v : Filled) : Type 0 where
   pub answer : readOutRow (v .answer) ≡ row 0 1 (length (heldIn w key .buckets)) 0 0
   pub unknown : heldIn w key .known ≡ false → readOutRow (v .answer) ≡ row 0 1 0 0 0
   pub oldest-first : (i j : ℕ) → i ≤ j → j < length (heldIn w key .buckets) →
@@ -34,11 +35,11 @@ pub record ReadsOut (w key : List ℕ) (cells : List Bucket) (v : Filled) : Type
   pub filled : (i : ℕ) → i < length (heldIn w key .buckets) → i < length cells → getD (v .row) i noBucket ≡ getD (heldIn w key .buckets) i noBucket
   pub others : (i : ℕ) → length (heldIn w key .buckets) ≤ i → getD (v .row) i noBucket ≡ getD cells i noBucket
 
-none-unknown : (w key : List ℕ) → heldIn w key .known ≡ false → heldIn w key .buckets ≡ []
+none-unknown : (w : List ℕ) (key : Sent) → heldIn w key .known ≡ false → heldIn w key .buckets ≡ []
 unfolding heldIn
 none-unknown w key e = rw e
 
-module _ (kind : RoomKind) (s : Settings) (w key : List ℕ) (cells : List Bucket) (n : refusal kind s w key ≡ 0) where
+module _ (kind : RoomKind) (s : Settings) (w : List ℕ) (key : Sent) (cells : List Bucket) (n : refusal kind s w key ≡ 0) where
   abbrev xs : List Bucket
   xs = heldIn w key .buckets
 
@@ -74,7 +75,7 @@ buckets-row (Refused m) n e = let z : _≡_ {A = ℕ} 0 1 = ap (λ (ys : List �
 filled-path : {v u : Filled} → v .answer ≡ u .answer → v .row ≡ u .row → v ≡ u
 filled-path p q = λ i. record { answer = p i; row = q i }
 
-module _ (w key : List ℕ) (cells : List Bucket) (v u : Filled) (p : ReadsOut w key cells v) (q : ReadsOut w key cells u) where
+module _ (w : List ℕ) (key : Sent) (cells : List Bucket) (v u : Filled) (p : ReadsOut w key cells v) (q : ReadsOut w key cells u) where
   abbrev n : ℕ
   n = length (heldIn w key .buckets)
 

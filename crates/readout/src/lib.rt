@@ -3,7 +3,7 @@
 ghost use mathlib.Core.Path.{_≡_};
 ghost use Prim.Native.Nat.{min};
 ghost use Rattle.readout.specs.ReadOut.{answerOf, planOf, readOut, Shown};
-ghost use Rattle.finding.specs.Finding.{found};
+ghost use Rattle.finding.specs.Finding.{asked, found};
 use answers::ReadOutAnswer;
 use finding::Found;
 use ring::Bucket;
@@ -35,10 +35,17 @@ fn answer(found: Found) -> ReadOutAnswer
 }
 
 // What is to be done with a row of so many places.
-fn decide(kind: RoomKind, settings: Settings, room: &[u64], key: &[u8], places: usize) -> Plan
-    ensures { λ x. ⌜ x ≡ planOf (found kind settings (now (room .entry)) (now (key .entry))) places ⌝ }
+fn decide(
+    kind: RoomKind,
+    settings: Settings,
+    room: &[u64],
+    party: u64,
+    key: &[u8],
+    places: usize,
+) -> Plan
+    ensures { λ x. ⌜ x ≡ planOf (found kind settings (now (room .entry)) (asked party (now (key .entry)))) places ⌝ }
 {
-    let found = finding::find_series(kind, settings, room, key);
+    let found = finding::find_series(kind, settings, room, party, key);
     Plan {
         answer: answer(found),
         slot: found.slot,
@@ -51,12 +58,13 @@ pub fn read_out(
     kind: RoomKind,
     settings: Settings,
     room: &[u64],
+    party: u64,
     key: &[u8],
     row: &mut [Bucket],
 ) -> ReadOutAnswer
-    ensures { λ r. ⌜ Shown (readOut kind settings (now (room .entry)) (now (key .entry)) (now (row .entry))) r (now (row .exit)) ⌝ }
+    ensures { λ r. ⌜ Shown (readOut kind settings (now (room .entry)) (asked party (now (key .entry))) (now (row .entry))) r (now (row .exit)) ⌝ }
 {
-    let plan = decide(kind, settings, room, key, row.len());
+    let plan = decide(kind, settings, room, party, key, row.len());
     let slot = plan.slot;
     let fitting = plan.fitting;
     let mut i = 0;

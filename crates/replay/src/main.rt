@@ -1,6 +1,6 @@
 // Replays a list of calls with their answers and states: cases worked out by hand, and a sample of the original's answers. The
 // list's lines are described in oracle/README.md; a line that starts with '#' is a heading. For each heading one line says how many calls
-// came out, and each call that did not is shown with what was found.
+// came out, and each call that did not is shown with what was found. Every call is of party 1, which is promised every slot.
 ghost use Prim.Native.Nat.{_+_, _≤_};
 ghost use lib.ListN.{length};
 use answers::DeleteAnswer;
@@ -18,6 +18,7 @@ use common::RateLimit;
 use common::RateLimitComparator;
 use common::SuppressionFactorCachePeriod;
 use common::WindowSize;
+use desk_lines::alone;
 use rules::RoomKind;
 use settings::ClockMode;
 use settings::Settings;
@@ -173,34 +174,37 @@ fn call_of(n: [u64; 24]) -> Call {
 // The calls that both limiters have, by the number below 10.
 fn shared(kind: RoomKind, s: Settings, w: &mut [u64], key: &[u8], op: u64, c: Call) -> Row {
     let t = c.reading;
+    let who = alone(w);
     let comparator = c.comparator;
     let mode = c.mode;
     match op {
-        4 => rate_row(calls::set_rate_limit(kind, s, w, t, key, c.rate)),
-        5 => delete_row(calls::delete(kind, s, w, t, key)),
-        6 => done_row(clearing::clear(s, w, t)),
-        7 => set_row(calls::set(kind, s, w, t, key, c.rate, comparator, c.count, mode)),
-        _ => done_row(cleanup::cleanup(kind, s, w, t, c.stale)),
+        4 => rate_row(calls::set_rate_limit(kind, s, w, t, who, key, c.rate)),
+        5 => delete_row(calls::delete(kind, s, w, t, who, key)),
+        6 => done_row(clearing::clear(s, w, t, who)),
+        7 => set_row(calls::set(kind, s, w, t, who, key, c.rate, comparator, c.count, mode)),
+        _ => done_row(cleanup::cleanup(kind, s, w, t, who, c.stale)),
     }
 }
 
 fn absolute_row(s: Settings, w: &mut [u64], key: &[u8], c: Call) -> Row {
     let op = c.op;
     let t = c.reading;
+    let who = alone(w);
     match op {
-        1 => decision_row(absolute::inc(s, w, t, key, c.rate, c.count)),
-        2 => decision_row(absolute::is_allowed(s, w, t, key)),
-        3 => total_row(absolute::get(s, w, t, key)),
+        1 => decision_row(absolute::inc(s, w, t, who, key, c.rate, c.count)),
+        2 => decision_row(absolute::is_allowed(s, w, t, who, key)),
+        3 => total_row(absolute::get(s, w, t, who, key)),
         _ => shared(RoomKind::Absolute, s, w, key, op, c),
     }
 }
 
 fn suppressed_row(s: Settings, w: &mut [u64], key: &[u8], op: u64, c: Call) -> Row {
     let t = c.reading;
+    let who = alone(w);
     match op {
-        1 => decision_row(suppressed::inc(s, w, t, key, c.rate, c.count, c.draw)),
-        2 => factor_row(suppressed::get_suppression_factor(s, w, t, key)),
-        3 => snapshot_row(suppressed::get(s, w, t, key)),
+        1 => decision_row(suppressed::inc(s, w, t, who, key, c.rate, c.count, c.draw)),
+        2 => factor_row(suppressed::get_suppression_factor(s, w, t, who, key)),
+        3 => snapshot_row(suppressed::get(s, w, t, who, key)),
         _ => shared(RoomKind::Suppressed, s, w, key, op, c),
     }
 }
@@ -208,7 +212,9 @@ fn suppressed_row(s: Settings, w: &mut [u64], key: &[u8], op: u64, c: Call) -> R
 fn called(s: Settings, a: &mut [u64], b: &mut [u64], key: &[u8], c: Call) -> Row {
     let op = c.op;
     if op == 9 {
-        return done_row(provider::cleanup(s, a, b, c.reading, c.stale));
+        let who = alone(a);
+        let whose = alone(b);
+        return done_row(provider::cleanup(s, a, b, c.reading, who, whose, c.stale));
     }
     if op < 10 {
         return absolute_row(s, a, key, c);
@@ -263,7 +269,7 @@ fn state_of(w: &[u64], key: &[u8]) -> State {
     if !room::sized(w) {
         return nothing();
     }
-    let at = room::find(w, keys::key_of(key));
+    let at = room::find(w, keys::key_of(layout::FIRST, key));
     let slots = w[0] as usize;
     if slots <= at {
         return nothing();

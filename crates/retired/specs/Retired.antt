@@ -19,6 +19,8 @@ use Rattle.settings.specs.declared.Settings.{Settings}
 use Rattle.ring.specs.declared.Bucket.{Bucket}
 use Rattle.ring.specs.Ring.{noBucket}
 use Rattle.room.specs.Room.{empty}
+use Rattle.parties.specs.declared.Caller.{Caller}
+use Rattle.parties.specs.Parties.{Sent, sent}
 use Rattle.table.specs.Table.{emptyTable}
 use Rattle.rules.specs.declared.RoomKind.{RoomKind}
 use Rattle.rules.specs.declared.RoomKind.the-variants as kind
@@ -42,7 +44,7 @@ use Rattle.lines.specs.declared.SettingsLine.the-variants as settings
 use Rattle.shot_lines.specs.Reading.{readShot}
 use Rattle.shot_lines.specs.declared.ShotLine.{ShotLine}
 use Rattle.shot_lines.specs.declared.ShotLine.the-variants as shotLine
-use Rattle.desk_lines.specs.Lines.{badLine, perMinute}
+use Rattle.desk_lines.specs.Lines.{alone, badLine, perMinute}
 use Rattle.desk_step.specs.Desk as Calls
 use Rattle.desk_step.specs.Desk.{settingsOf, openWith, openingIn, openingOf}
 use Rattle.desk_step.specs.declared.Opening.the-variants as opening
@@ -69,24 +71,24 @@ NotTold n m a = (m ≢ n) × (numberOf a ≢ n)
 pub record NeverGiven (n : ℕ) : Type 0 where
   -- every call of both limiters, and of the provider
   pub calls : (kind : RoomKind) (s : Settings) (w : List ℕ) (t : ℕ) (op : Op kind) → answerNumber kind s w t op ≢ n
-  pub provider-cleanup : (s : Settings) (a b : List ℕ) (t stale : ℕ) → numberOf (doneRow (Provider.cleanup s a b t stale .answer)) ≢ n
-  pub read-out : (kind : RoomKind) (s : Settings) (w key : List ℕ) (cells : List Bucket) →
+  pub provider-cleanup : (s : Settings) (a b : List ℕ) (t : ℕ) (c d : Caller) (stale : ℕ) → numberOf (doneRow (Provider.cleanup s a b t c d stale .answer)) ≢ n
+  pub read-out : (kind : RoomKind) (s : Settings) (w : List ℕ) (key : Sent) (cells : List Bucket) →
       numberOf (readOutRow (ReadOut.readOut kind s w key cells .answer)) ≢ n
   -- the gateway
-  pub shots : (s : Settings) (w r : List ℕ) (t : ℕ) (key : List ℕ) (number : ℕ) (rate : RateLimit) (draw : ℕ) →
+  pub shots : (s : Settings) (w r : List ℕ) (t : ℕ) (key : Sent) (number : ℕ) (rate : RateLimit) (draw : ℕ) →
       numberOf (shotRow (shot s w r t key number rate draw .answer)) ≢ n
   pub new-season : (w : List ℕ) → numberOf (doneRow (newSeason w .answer)) ≢ n
   -- the faces for C and Rust, by what their contracts name
   pub face-calls : (kind : RoomKind) (s : Settings) (w : List ℕ) (t : ℕ) (op : Op kind) (m : ℕ) (a v : List ℕ) →
       Faced (shown (rowOf op) (verdictOf kind s w t op)) m a v → NotTold n m a
-  pub face-sets : (kind : RoomKind) (s : Settings) (w : List ℕ) (t : ℕ) (key : List ℕ) (rate : RateLimit) (c : Comparison) (count : ℕ) (mode : Mode)
+  pub face-sets : (kind : RoomKind) (s : Settings) (w : List ℕ) (t : ℕ) (key : Sent) (rate : RateLimit) (c : Comparison) (count : ℕ) (mode : Mode)
       (m : ℕ) (a v : List ℕ) → Faced (shownSet kind s w t key rate c count mode) m a v → NotTold n m a
-  pub face-both : (s : Settings) (a b : List ℕ) (t stale m : ℕ) (r : List ℕ) (v : List ℕ × List ℕ) →
-      Faced (shownBoth (Provider.cleanup s a b t stale)) m r v → NotTold n m r
-  pub face-shot : (s : Settings) (w r : List ℕ) (t : ℕ) (key : List ℕ) (number : ℕ) (rate : RateLimit) (draw m : ℕ) (a : List ℕ) (v : List ℕ × List ℕ) →
+  pub face-both : (s : Settings) (a b : List ℕ) (t : ℕ) (c d : Caller) (stale m : ℕ) (r : List ℕ) (v : List ℕ × List ℕ) →
+      Faced (shownBoth (Provider.cleanup s a b t c d stale)) m r v → NotTold n m r
+  pub face-shot : (s : Settings) (w r : List ℕ) (t : ℕ) (key : Sent) (number : ℕ) (rate : RateLimit) (draw m : ℕ) (a : List ℕ) (v : List ℕ × List ℕ) →
       Faced (shownGateway (shot s w r t key number rate draw)) m a v → NotTold n m a
   pub face-season : (w : List ℕ) (m : ℕ) (a v : List ℕ) → Faced (shown doneRow (newSeason w)) m a v → NotTold n m a
-  pub face-bucket : (kind : RoomKind) (s : Settings) (w key : List ℕ) (i m : ℕ) (a : List ℕ) → Given (bucketRow kind s w key i) m a → NotTold n m a
+  pub face-bucket : (kind : RoomKind) (s : Settings) (w : List ℕ) (key : Sent) (i m : ℕ) (a : List ℕ) → Given (bucketRow kind s w key i) m a → NotTold n m a
   -- making a room or a table
   pub face-make : (made : Bool) → makeNumber made ≢ n
   -- all that the programs print, for any input
@@ -105,7 +107,7 @@ module _ (n : ℕ) (z : n ≢ 0) (h : Numbered n → ⊥) where
   by-calls : (kind : RoomKind) (s : Settings) (w : List ℕ) (t : ℕ) (op : Op kind) → answerNumber kind s w t op ≢ n
   by-calls kind s w t op = from _ _ _ _ (demand1 .calls kind s w t op)
 
-  by-shots : (s : Settings) (w r : List ℕ) (t : ℕ) (key : List ℕ) (number : ℕ) (rate : RateLimit) (draw : ℕ) →
+  by-shots : (s : Settings) (w r : List ℕ) (t : ℕ) (key : Sent) (number : ℕ) (rate : RateLimit) (draw : ℕ) →
       numberOf (shotRow (shot s w r t key number rate draw .answer)) ≢ n
   by-shots s w r t key number rate draw = from _ _ _ _ (demand1 .gateway .shots s w r t key number rate draw)
 
@@ -117,7 +119,7 @@ module _ (n : ℕ) (z : n ≢ 0) (h : Numbered n → ⊥) where
   faced : {W : Type 0} (f : Face W) (m : ℕ) (a : List ℕ) (v : W) → numberOf (f .row) ≢ n → Faced f m a v → NotTold n m a
   faced f m a v k g = not-told (f .row) m a k (g .number) (g .answer)
 
-  bucket-turned : (kind : RoomKind) (s : Settings) (w key : List ℕ) (i : ℕ) → TurnedBy (reads kind s w key) (bucketRow kind s w key i) w w
+  bucket-turned : (kind : RoomKind) (s : Settings) (w : List ℕ) (key : Sent) (i : ℕ) → TurnedBy (reads kind s w key) (bucketRow kind s w key i) w w
   unfolding bucketRow faults
   bucket-turned kind s w key i =
       let e = reads-number kind s w key in
@@ -140,11 +142,11 @@ module _ (n : ℕ) (z : n ≢ 0) (h : Numbered n → ⊥) where
       Calls.callOf s a b t op key rate c draw .answer .code ≢ n
   unfolding Calls.callOf Calls.absoluteInc Calls.absoluteGet Calls.suppressedInc Calls.suppressedGet
   desk-call s a b t AbsoluteInc key rate c draw e =
-      by-calls kind.Absolute s a t (Ops.inc key (perMinute rate) c) (sym (decision-code t _ _) ∙ e)
-  desk-call s a b t AbsoluteGet key rate c draw e = by-calls kind.Absolute s a t (Ops.get key) (sym (total-code t _) ∙ e)
+      by-calls kind.Absolute s a t (Ops.inc (sent (alone a) key) (perMinute rate) c) (sym (decision-code t _ _) ∙ e)
+  desk-call s a b t AbsoluteGet key rate c draw e = by-calls kind.Absolute s a t (Ops.get (sent (alone a) key)) (sym (total-code t _) ∙ e)
   desk-call s a b t SuppressedInc key rate c draw e =
-      by-calls kind.Suppressed s b t (Ops.draws key (perMinute rate) c draw) (sym (decision-code t _ _) ∙ e)
-  desk-call s a b t SuppressedGet key rate c draw e = by-calls kind.Suppressed s b t (Ops.snapshot key) (sym (snapshot-code t _ _) ∙ e)
+      by-calls kind.Suppressed s b t (Ops.draws (sent (alone b) key) (perMinute rate) c draw) (sym (decision-code t _ _) ∙ e)
+  desk-call s a b t SuppressedGet key rate c draw e = by-calls kind.Suppressed s b t (Ops.snapshot (sent (alone b) key)) (sym (snapshot-code t _ _) ∙ e)
 
   desk-step : (s : Settings) (a b line : List ℕ) (c : CallLine) → Calls.stepOf s a b line c .answer .code ≢ n
   desk-step s a b line call.Bad = other badLine (omega arith)
@@ -154,7 +156,7 @@ module _ (n : ℕ) (z : n ≢ 0) (h : Numbered n → ⊥) where
   unfolding Shots.shotOf
   shot-step s w r line shotLine.Bad = other badLine (omega arith)
   shot-step s w r line (shotLine.Shot t start end number rate draw) = λ e.
-      by-shots s w r t (keyIn line start end) number (perMinute rate) draw (sym (shot-code t _ _) ∙ e)
+      by-shots s w r t (sent (alone r) (keyIn line start end)) number (perMinute rate) draw (sym (shot-code t _ _) ∙ e)
 
   stepped : (g : Program) (s : Settings) (a b line : List ℕ) → steppedBy g s a b line .answer .code ≢ n
   unfolding steppedBy Calls.stepped Shots.stepped
@@ -191,13 +193,13 @@ module _ (n : ℕ) (z : n ≢ 0) (h : Numbered n → ⊥) where
   pub unnumbered : NeverGiven n
   unnumbered = record {
     calls = by-calls;
-    provider-cleanup = λ s a b t stale. from _ _ _ _ (demand1 .provider-cleanup s a b t stale);
+    provider-cleanup = λ s a b t c d stale. from _ _ _ _ (demand1 .provider-cleanup s a b t c d stale);
     read-out = λ kind s w key cells. from _ _ _ _ (demand1 .read-out kind s w key cells);
     shots = by-shots;
     new-season = λ w. from _ _ _ _ (demand1 .gateway .new-season w);
     face-calls = λ kind s w t op m a v. faced _ m a v (by-calls kind s w t op);
     face-sets = λ kind s w t key rate c count mode m a v. faced _ m a v (from _ _ _ _ (demand1 .set-shown kind s w t key rate c count mode));
-    face-both = λ s a b t stale m r v. faced _ m r v (from _ _ _ _ (demand1 .provider-cleanup s a b t stale));
+    face-both = λ s a b t c d stale m r v. faced _ m r v (from _ _ _ _ (demand1 .provider-cleanup s a b t c d stale));
     face-shot = λ s w r t key number rate draw m a v. faced _ m a v (by-shots s w r t key number rate draw);
     face-season = λ w m a v. faced _ m a v (from _ _ _ _ (demand1 .gateway .new-season w));
     face-bucket = λ kind s w key i m a g. not-told _ m a (from _ _ _ _ (bucket-turned kind s w key i)) (g .number) (g .answer);

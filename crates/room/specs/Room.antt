@@ -1,5 +1,5 @@
--- A room's words: slots, ring, last reading; an entry of six words for each slot (use, key length, four words of key); then a body for
--- each slot. Which lengths are right, what an entry and a body are, which slot is found, and what each change writes.
+-- A room's words: slots, ring, last reading; who holds each of 64 slots; an entry of six words for each slot (use, key length, four words of key);
+-- then a body for each slot. Which lengths are right, what an entry and a body are, which slot is found, and what each change writes.
 -- Assumes nothing.
 use mathlib.Core.Path.{_≡_}
 use mathlib.Core.Bool.{Bool, cond, not, _&&_}
@@ -10,8 +10,8 @@ use lib.Dec.{leb, eqb}
 use Rattle.base.specs.Writes.{writes}
 use Rattle.base.specs.Splice.{splice}
 use Rattle.base.specs.Seek.{seek}
-use Rattle.layout.specs.Layout.{slotsWord, ringWord, lastWord, headerWords, lenWord, aWord, bWord, cWord, dWord, entryWords, freeUse, mostSlots, mostRing}
-use Rattle.layout.specs.Layout.{sizeOf}
+use Rattle.layout.specs.Layout.{slotsWord, ringWord, lastWord, holdersWord, headerWords, lenWord, aWord, bWord, cWord, dWord, entryWords, nobody}
+use Rattle.layout.specs.Layout.{mostSlots, mostRing, sizeOf}
 use Rattle.keys.specs.declared.Key.{Key}
 use Rattle.keys.specs.Keys.{sameKey, keyFits}
 
@@ -29,6 +29,10 @@ lastOf w = getD w lastWord 0
 -- all words of a room
 abbrev pub lengthOf : ℕ → ℕ → ℕ
 lengthOf n r = headerWords + entryWords * n + n * sizeOf r
+
+-- where it stands who holds slot s
+abbrev pub holderAt : ℕ → ℕ
+holderAt s = holdersWord + s
 
 -- where slot s's entry starts; where its body starts and ends
 abbrev pub entryOf : ℕ → ℕ
@@ -68,7 +72,7 @@ pub record Directory (w : List ℕ) : Type 0 where
 
 -- an empty room: last reading 0, every slot free, every other word 0
 unfoldable pub empty : ℕ → ℕ → List ℕ
-empty n r = n ∷ r ∷ 0 ∷ replicate (entryWords * n + n * sizeOf r) 0
+empty n r = n ∷ r ∷ 0 ∷ replicate (mostSlots + entryWords * n + n * sizeOf r) 0
 
 -- making one in lent words: said yes exactly where they fit; else every word stays
 pub record Made (n r : ℕ) (w : List ℕ) (x : Bool) (v : List ℕ) : Type 0 where
@@ -77,12 +81,17 @@ pub record Made (n r : ℕ) (w : List ℕ) (x : Bool) (v : List ℕ) : Type 0 wh
 
 -- ---- entries
 
--- slot s's use: 0 where it is free
+-- who holds slot s: it is in use unless nobody does
+abbrev pub holderOf : List ℕ → ℕ → ℕ
+holderOf w s = getD w (holderAt s) 0
+
+-- slot s's use
 abbrev pub useOf : List ℕ → ℕ → ℕ
 useOf w s = getD w (entryOf s) 0
 
 unfoldable pub keyAt : List ℕ → ℕ → Key
 keyAt w s = record {
+  holder = holderOf w s;
   len = getD w (entryOf s + lenWord) 0;
   a = getD w (entryOf s + aWord) 0;
   b = getD w (entryOf s + bWord) 0;
@@ -91,7 +100,11 @@ keyAt w s = record {
 }
 
 unfoldable pub free : List ℕ → ℕ → Bool
-free w s = eqb (useOf w s) freeUse
+free w s = eqb (holderOf w s) nobody
+
+-- slot s's use as it counts: none where it is free
+abbrev pub usedAt : List ℕ → ℕ → ℕ
+usedAt w s = cond (free w s) 0 (useOf w s)
 
 -- slot s is in use with key k
 unfoldable pub has : List ℕ → Key → ℕ → Bool
@@ -134,20 +147,28 @@ withBody w s b = withFrom w (startOf w s) b
 unfoldable pub entered : List ℕ → ℕ → ℕ → Key → List ℕ
 entered w s u k =
     writes w
-    ((entryOf s, u) ∷ (entryOf s + lenWord, k .len) ∷ (entryOf s + aWord, k .a) ∷ (entryOf s + bWord, k .b) ∷ (entryOf s + cWord, k .c) ∷
-    (entryOf s + dWord, k .d) ∷ [])
+    ((holderAt s, k .holder) ∷ (entryOf s, u) ∷ (entryOf s + lenWord, k .len) ∷ (entryOf s + aWord, k .a) ∷ (entryOf s + bWord, k .b) ∷
+    (entryOf s + cWord, k .c) ∷ (entryOf s + dWord, k .d) ∷ [])
 
--- use u alone: 0 frees the slot
+-- use u alone
 unfoldable pub withUse : List ℕ → ℕ → ℕ → List ℕ
 withUse w s u = set w (entryOf s) u
+
+-- the slot freed: nobody holds it
+unfoldable pub released : List ℕ → ℕ → List ℕ
+released w s = set w (holderAt s) nobody
+
+-- freed where m holds it
+unfoldable pub releasedOwn : List ℕ → ℕ → ℕ → List ℕ
+releasedOwn w s m = cond (eqb (holderOf w s) m) (released w s) w
 
 unfoldable pub withReading : List ℕ → ℕ → List ℕ
 withReading w t = set w lastWord t
 
--- the first n slots freed; all of them
-unfoldable pub freed : List ℕ → ℕ → List ℕ
-freed w zero = w
-freed w (suc n) = withUse (freed w n) n freeUse
+-- of the first n slots those freed that m holds; of all of them
+unfoldable pub freed : List ℕ → ℕ → ℕ → List ℕ
+freed w m zero = w
+freed w m (suc n) = releasedOwn (freed w m n) n m
 
-abbrev pub cleared : List ℕ → List ℕ
-cleared w = freed w (slotsOf w)
+abbrev pub cleared : List ℕ → ℕ → List ℕ
+cleared w m = freed w m (slotsOf w)

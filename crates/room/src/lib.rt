@@ -3,8 +3,9 @@ ghost use mathlib.Core.Path.{_≡_};
 ghost use Prim.Native.Nat.{_+_, _*_, _<_};
 ghost use lib.ListN.{length, replicate};
 ghost use Rattle.base.specs.Decides.{Decides};
-ghost use Rattle.room.specs.Room.{Room, Directory, Lengths, Made, Starts, slotsOf, useOf, keyAt};
-ghost use Rattle.room.specs.Room.{keySound, has, find, vacant, entered, withUse, withReading, cleared};
+ghost use Rattle.room.specs.Room.{Room, Directory, Lengths, Made, Starts, slotsOf, useOf, holderOf, usedAt, keyAt};
+ghost use Rattle.room.specs.Room.{keySound, has, find, vacant, entered, withUse, released, releasedOwn};
+ghost use Rattle.room.specs.Room.{withReading, cleared};
 use keys::Key;
 
 // Whether a room of these slots and ring has `len` words.
@@ -82,6 +83,7 @@ pub fn key_at(w: &[u64], s: usize) -> Key
 {
     let e = layout::HEADER + layout::ENTRY * s;
     Key {
+        holder: w[layout::HOLDERS + s],
         len: w[e + layout::KEY_LEN],
         a: w[e + layout::KEY_A],
         b: w[e + layout::KEY_B],
@@ -112,12 +114,31 @@ pub fn key_fits(w: &[u64], s: usize) -> bool
     keys::is_unused_zero(len, 24, k.d)
 }
 
-// Slot `slot`'s use: 0 where it is free.
+// Slot `slot`'s use.
 pub fn use_of(w: &[u64], slot: usize) -> u64
     requires { ⌜ Directory (now w) × (slot < slotsOf (now w)) ⌝ }
     ensures { λ x. ⌜ x ≡ useOf (now (w .entry)) slot ⌝ }
 {
     w[layout::HEADER + layout::ENTRY * slot]
+}
+
+// Who holds slot `slot`: nobody where it is free.
+pub fn holder_of(w: &[u64], slot: usize) -> u64
+    requires { ⌜ Directory (now w) × (slot < slotsOf (now w)) ⌝ }
+    ensures { λ x. ⌜ x ≡ holderOf (now (w .entry)) slot ⌝ }
+{
+    w[layout::HOLDERS + slot]
+}
+
+// Slot `slot`'s use, 0 where it is free.
+pub fn used_at(w: &[u64], slot: usize) -> u64
+    requires { ⌜ Directory (now w) × (slot < slotsOf (now w)) ⌝ }
+    ensures { λ x. ⌜ x ≡ usedAt (now (w .entry)) slot ⌝ }
+{
+    if holder_of(w, slot) == layout::NOBODY {
+        return 0;
+    }
+    use_of(w, slot)
 }
 
 // Whether slot `s` is in use with key `k`.
@@ -128,7 +149,7 @@ fn holds(w: &[u64], k: Key, s: usize) -> bool
     if !keys::same_key(key_at(w, s), k) {
         return false;
     }
-    use_of(w, s) != layout::FREE
+    holder_of(w, s) != layout::NOBODY
 }
 
 // The lowest slot with key `k`, or the number of slots.
@@ -155,7 +176,7 @@ pub fn vacant(w: &[u64]) -> usize
     let n = w[layout::SLOTS] as usize;
     let mut spare = 0;
     while spare < n {
-        if use_of(w, spare) == layout::FREE {
+        if holder_of(w, spare) == layout::NOBODY {
             return spare;
         }
         spare += 1;
@@ -163,12 +184,13 @@ pub fn vacant(w: &[u64]) -> usize
     spare
 }
 
-// Writes slot `s`'s entry: its use and its key.
+// Writes slot `s`'s entry: its use and its key, with who holds it.
 pub fn enter(w: &mut [u64], s: usize, u: u64, k: Key)
     requires { ⌜ Directory (now w) × (s < slotsOf (now w)) ⌝ }
     ensures { λ _. ⌜ now (w .exit) ≡ entered (now (w .entry)) s u k ⌝ }
 {
     let e = layout::HEADER + layout::ENTRY * s;
+    w[layout::HOLDERS + s] = k.holder;
     w[e] = u;
     w[e + layout::KEY_LEN] = k.len;
     w[e + layout::KEY_A] = k.a;
@@ -177,12 +199,30 @@ pub fn enter(w: &mut [u64], s: usize, u: u64, k: Key)
     w[e + layout::KEY_D] = k.d;
 }
 
-// Writes slot `s`'s use alone: 0 frees it.
+// Writes slot `s`'s use alone.
 pub fn set_use(w: &mut [u64], s: usize, u: u64)
     requires { ⌜ Directory (now w) × (s < slotsOf (now w)) ⌝ }
     ensures { λ _. ⌜ now (w .exit) ≡ withUse (now (w .entry)) s u ⌝ }
 {
     w[layout::HEADER + layout::ENTRY * s] = u;
+}
+
+// Frees slot `s`: nobody holds it.
+pub fn release(w: &mut [u64], s: usize)
+    requires { ⌜ Directory (now w) × (s < slotsOf (now w)) ⌝ }
+    ensures { λ _. ⌜ now (w .exit) ≡ released (now (w .entry)) s ⌝ }
+{
+    w[layout::HOLDERS + s] = layout::NOBODY;
+}
+
+// Frees slot `s` where `holder` holds it.
+fn release_own(w: &mut [u64], s: usize, holder: u64)
+    requires { ⌜ Directory (now w) × (s < slotsOf (now w)) ⌝ }
+    ensures { λ _. ⌜ now (w .exit) ≡ releasedOwn (now (w .entry)) s holder ⌝ }
+{
+    if holder_of(w, s) == holder {
+        release(w, s);
+    }
 }
 
 // Writes the last reading.
@@ -193,15 +233,15 @@ pub fn store_reading(w: &mut [u64], t: u64)
     w[layout::LAST] = t;
 }
 
-// Frees every slot, and changes no other word.
-pub fn clear(w: &mut [u64])
+// Frees every slot that `holder` holds, and changes no other word.
+pub fn clear(w: &mut [u64], holder: u64)
     requires { ⌜ Directory (now w) ⌝ }
-    ensures { λ _. ⌜ now (w .exit) ≡ cleared (now (w .entry)) ⌝ }
+    ensures { λ _. ⌜ now (w .exit) ≡ cleared (now (w .entry)) holder ⌝ }
 {
     let n = w[layout::SLOTS] as usize;
     let mut s = 0;
     while s < n {
-        set_use(w, s, layout::FREE);
+        release_own(w, s, holder);
         s += 1;
     }
 }

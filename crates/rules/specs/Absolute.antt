@@ -77,7 +77,7 @@ outFor s r t c h = takesOut r (joinTicks s) t c (wholeLimit h) (h .buckets)
 abbrev pub foundFor : Settings → ℕ → ℕ → ℕ → Held → List Bucket
 foundFor s r t c h = outIf (outFor s r t c h) (windowTicks s) t (h .buckets)
 
--- 8, 10, 11, 12: "An absolute rejection goes before 10 to 12"; full says that no slot is free
+-- 8, 10, 11, 12: "An absolute rejection goes before 10 to 12"; full says that the party holds its promised number
 abbrev pub incTurns : Settings → ℕ → Bool → ℕ → RateLimit → ℕ → Held → List (ℕ × Bool)
 incTurns s r full t rate c h =
     (8, unrated rate) ∷

@@ -24,6 +24,6 @@ nothing = record { known = false; limit = 0; buckets = []; cached = false; facto
 abbrev pub hasAny : Held → Bool
 hasAny h = h .known || h .cached
 
--- 11: "a slot is needed and none is free"; full says that none is
+-- 11: "a slot is needed and the party already holds its promised number"; full says that it does
 abbrev pub lacksSlot : Bool → Held → Bool
 lacksSlot full h = not (hasAny h) && full

@@ -143,7 +143,7 @@ admits (Refused n) = false
 abbrev pub mostDraw : ℕ
 mostDraw = 9007199254740991
 
--- 8 to 12; 10 and 12 are judged on the buckets that the first look leaves. full says that no slot is free
+-- 8 to 12; 10 and 12 are judged on the buckets that the first look leaves. full says that the party holds its promised number
 abbrev pub incTurns : Settings → ℕ → Bool → ℕ → RateLimit → ℕ → ℕ → Held → List (ℕ × Bool)
 incTurns s r full t rate c draw h =
     (8, unrated rate) ∷

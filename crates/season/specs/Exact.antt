@@ -16,6 +16,7 @@ use Rattle.answers.specs.declared.RateLimitDecision.the-variants as decision
 use Rattle.answers.specs.declared.ShotAnswer.{ShotAnswer}
 use Rattle.answers.specs.declared.ShotAnswer.the-variants.{Held, Refused}
 use Rattle.rules.specs.declared.RoomKind.the-variants.{Suppressed}
+use Rattle.parties.specs.Parties.{turns}
 use Rattle.judge.specs.Judge.{misfits}
 use Rattle.table.specs.Table.{mostControllers, numbered}
 use Rattle.gateway.specs.Gateway.{Verdict, asShot, admitsShot}
@@ -24,14 +25,14 @@ use Rattle.steps.specs.Ops.{draws}
 use Rattle.steps.specs.Table.{suppressedInc, unmet}
 use Rattle.season.specs.Log.{Pair, isOf, highest, newest, named, unnamed-highest, highest-more}
 use Rattle.season.specs.Season.{Shot, Event, shoots, calls, AllBytes, Gateway, told, pairOf, noted, logOf}
-use Rattle.season.specs.Season.{limiter, full, Asks, ByLog}
+use Rattle.season.specs.Season.{keyIn, limiter, full, Asks, ByLog}
 use Rattle.season.specs.Judging.{Judging, unnumbered, below, away, same, asked, judging, by-ahead, apart, not-held, number-low}
 use Rattle.season.specs.Own.{own, own-by-log}
 
 -- ---- the limiter gives none of the gateway's numbers
 
 tableOf : Shot → List (ℕ × Bool)
-tableOf c = suppressedInc (c .settings) (c .room) (c .reading) (c .controller) (c .rate) 1 (c .draw)
+tableOf c = suppressedInc (c .settings) (c .room) (c .reading) (keyIn c) (c .rate) 1 (c .draw)
 
 refused-as : (d : RateLimitDecision) (n : ℕ) → asShot d ≡ Refused n → getD (decisionRow d) 0 0 ≡ n
 unfolding decisionRow
@@ -43,19 +44,19 @@ refused-as (decision.Refused m) n e = cc
 limiter-not : (c : Shot) (n : ℕ) → n ≢ 0 → met (tableOf c) n ≡ false → asShot (limiter c .answer) ≢ Refused n
 unfolding tableOf
 limiter-not c n z m e =
-    unmet Suppressed (c .settings) (c .room) (c .reading) (draws (c .controller) (c .rate) 1 (c .draw)) n z m (refused-as (limiter c .answer) n e)
+    unmet Suppressed (c .settings) (c .room) (c .reading) (draws (keyIn c) (c .rate) 1 (c .draw)) n z m (refused-as (limiter c .answer) n e)
 
 module _ (c : Shot) where
   limiter-not-19 : asShot (limiter c .answer) ≢ Refused 19
-  unfolding tableOf met faults misfits
+  unfolding tableOf met faults misfits turns
   limiter-not-19 = limiter-not c 19 (omega arith) refl
 
   limiter-not-20 : asShot (limiter c .answer) ≢ Refused 20
-  unfolding tableOf met faults misfits
+  unfolding tableOf met faults misfits turns
   limiter-not-20 = limiter-not c 20 (omega arith) refl
 
   limiter-not-21 : asShot (limiter c .answer) ≢ Refused 21
-  unfolding tableOf met faults misfits
+  unfolding tableOf met faults misfits turns
   limiter-not-21 = limiter-not c 21 (omega arith) refl
 
 differ : (m n : ℕ) → m ≢ n → Refused m ≢ Refused n

@@ -32,7 +32,7 @@ eager = record {
 abbrev pub cleans : Touch → Bool
 cleans (slotOf key) = false
 cleans (staleBy stale) = true
-cleans whole = false
+cleans (whole m) = false
 
 abbrev pub forgetful : Gateway
 forgetful = record { shot = own .shot; between = λ w o. cond (cleans (touches (o .op))) emptyTable w }

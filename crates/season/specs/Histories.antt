@@ -1,5 +1,5 @@
 -- Short seasons, of the gateway and of wrong ones, and what each answers, computed by the calls themselves: defaults (window 10 s, bucket 100 ms, factor 1)
--- and 1 per second, so that H = 10, on a room of one slot and a ring of one. Newest first.
+-- and 1 per second, so that H = 10, on a room of one slot, promised to party 1, and a ring of one. Newest first.
 -- Assumes nothing.
 use mathlib.Core.Path.{_≡_, refl}
 use mathlib.Core.Bool.{false}
@@ -26,6 +26,10 @@ use Rattle.ring.specs.Ring as Ring
 use Rattle.ring.specs.Sound as RingSound
 use Rattle.room.specs.Room as Room
 use Rattle.keys.specs.Keys as Keys
+use Rattle.parties.specs.Parties as Parties
+use Rattle.parties.specs.Parties.{sent}
+use Rattle.parties.specs.declared.Caller.{Caller}
+use Rattle.base.specs.Every as Every
 use Rattle.judge.specs.Judge as Judge
 use Rattle.opened.specs.Slot as Slot
 use Rattle.opened.specs.Sound as Sound
@@ -51,15 +55,19 @@ use Rattle.season.specs.Gateways.{eager, forgetful, atMost, lax, alone}
 abbrev pub rate : RateLimit
 rate = record { 0 = Ranges.one }
 
+abbrev pub caller : Caller
+caller = record { party = 1; first = 1; second = 0 }
+
 -- nothing counted; and 10 counted for the same key
 abbrev pub idle : List ℕ
 idle = Room.empty 1 1
 
 abbrev pub busy : List ℕ
-busy = Calls.inc Settings.defaults idle 0 [] rate 10 0 .words
+busy = Calls.inc Settings.defaults idle 0 (sent caller []) rate 10 0 .words
 
 abbrev pub shotOf : List ℕ → ℕ → List ℕ → Shot
-shotOf key n room = record { settings = Settings.defaults; room = room; reading = 0; controller = key; number = n; rate = rate; draw = 0 }
+shotOf key n room =
+    record { settings = Settings.defaults; room = room; reading = 0; caller = caller; controller = key; number = n; rate = rate; draw = 0 }
 
 -- shot n of one controller, as the limiter lets through, and as it turns away
 abbrev pub goes : ℕ → Shot
@@ -68,9 +76,22 @@ goes n = shotOf [] n idle
 abbrev pub stays : ℕ → Shot
 stays n = shotOf [] n busy
 
+-- the same controller's, sent by party 2, to which the slot is promised then
+abbrev pub goesByOther : ℕ → Shot
+goesByOther n = record {
+  settings = Settings.defaults;
+  room = idle;
+  reading = 0;
+  caller = record { party = 2; first = 0; second = 1 };
+  controller = [];
+  number = n;
+  rate = rate;
+  draw = 0;
+}
+
 -- a cleanup with stale time 0
 abbrev pub cleans : Event
-cleans = calls (record { settings = Settings.defaults; room = idle; reading = 0; op = cleanup 0 })
+cleans = calls (record { settings = Settings.defaults; room = idle; reading = 0; op = cleanup caller 0 })
 
 -- ---- the seasons
 
@@ -102,10 +123,12 @@ pub record Computed : Type 0 where
   pub allows : (n : ℕ) → limiter (goes n) .answer ≡ decision.Allowed
   pub allows-any : (k n : ℕ) → limiter (shotOf (k ∷ []) n idle) .answer ≡ decision.Allowed
   pub declines : (n : ℕ) → limiter (stays n) .answer ≡ decision.Suppressed Ranges.one false
-  -- the gateway: a number lost, one again, an older one again, one sent again, one in the next season, and the ends of the numbers
+  -- the gateway: a number lost, one again, from the other party too, an older one again, one sent again, one in the next season, and the ends of the numbers
   pub lost : told own two (goes 1) .answer ≡ Refused 20
   pub lost-times : times [] 1 (logOf own two) ≡ 0
   pub again : told own one (goes 1) .answer ≡ Held
+  pub again-by-other : told own one (goesByOther 1) .answer ≡ Held
+  pub next-by-other : told own one (goesByOther 2) .answer ≡ Decided decision.Allowed
   pub again-highest : highest [] (logOf own one) ≡ 1
   pub older : told own oneTwo (goes 1) .answer ≡ Refused 20
   pub older-times : times [] 1 (logOf own oneTwo) ≡ 1
@@ -130,7 +153,8 @@ unfolding Decide.decLe Seek.seek Splice.splice Tab.tab Factor.factorWordOk Facto
     Limits.softWord Limits.limitOk Ranges.rateOk Ranges.factorOk Refusals.first Settings.faults Order.fine Ring.sumOf Ring.wrap Ring.bucketAt
     Ring.buckets Ring.shaped Ring.pushed Ring.rewritten Ring.without RingSound.soundBuckets Rules.older Rules.recent Rules.ahead Rules.joins
     Sweep.passOf HistoryWords.incremented Room.fits Room.empty Keys.keyOf Keys.sameKey Keys.unusedZero Keys.keyFits Room.keyAt Room.free Room.has
-    Room.bodyFrom Room.entered Room.withUse Room.withReading Judge.misfits Slot.opened Slot.slotOf Slot.firstLook Sound.rightUse Sound.soundSeries
+    Room.bodyFrom Room.entered Room.withUse Room.withReading Every.every Parties.ours Parties.many Parties.slotsHeld Parties.overdrawn Parties.turns
+    Parties.noneLeft Judge.misfits Slot.opened Slot.slotOf Slot.firstLook Sound.rightUse Sound.soundSeries
     Sound.soundCached
     Sound.soundSlot Sound.addressed Sound.soundAt Verdicts.unlessRefused Bodies.begun Bodies.started Bodies.acted Bodies.fixed Bodies.edited
     Words.withEdit Words.updated Words.taken Words.carried Words.applied Calls.inc Edits.recached Edits.incEdit Edits.incChange Ieee.le Ieee.lt
@@ -145,6 +169,8 @@ computed = record {
   lost = refl;
   lost-times = refl;
   again = refl;
+  again-by-other = refl;
+  next-by-other = refl;
   again-highest = refl;
   older = refl;
   older-times = refl;

@@ -22,7 +22,8 @@ use Rattle.rules.specs.Suppressed as Rules
 use Rattle.rules.specs.Suppressed.{admits, incTurns}
 use Rattle.room.specs.Room.{ringOf}
 use Rattle.frame.specs.Keys.{Bytes}
-use Rattle.judge.specs.Held.{heldIn, noneFree}
+use Rattle.parties.specs.Parties.{noneLeft, turns}
+use Rattle.judge.specs.Held.{heldIn}
 use Rattle.judge.specs.Judge.{misfits, refusals}
 use Rattle.judge.specs.Verdict as Room
 use Rattle.suppressed_verdicts.specs.Calls.{inc}
@@ -35,14 +36,14 @@ use Rattle.gateway.specs.Laws.{shot-asked, as-shot-admits}
 use Rattle.demand3.specs.History.{sameBytes}
 use Rattle.season.specs.Log.{Pair, highest, named, controllers, highest-more}
 use Rattle.season.specs.Table.{Sound, sound-for, empty-knows, empty-sound, empty-unknown, remembered-tells}
-use Rattle.season.specs.Season.{Shot, Event, shoots, calls, AllBytes, Gateway, tableAfter, pairOf, noted, logOf, limiter, full}
+use Rattle.season.specs.Season.{Shot, Event, shoots, calls, AllBytes, Gateway, tableAfter, pairOf, noted, logOf, keyIn, limiter, full}
 use Rattle.season.specs.Season.{LeavesTable, Season, judgedBy, byLog, ByLog}
 use Rattle.season.specs.Judging.{Through, judging, admitted-through, number-low, by-log-season}
 
 -- what the contract of a shot names; calls on the room have no table to write to
 abbrev pub own : Gateway
 own = record {
-  shot = λ w c. Gate.shot (c .settings) w (c .room) (c .reading) (c .controller) (c .number) (c .rate) (c .draw);
+  shot = λ w c. Gate.shot (c .settings) w (c .room) (c .reading) (keyIn c) (c .number) (c .rate) (c .draw);
   between = λ w o. w;
 }
 
@@ -50,12 +51,12 @@ own = record {
 
 -- what the limiter finds for a shot, its refusal or 0, and its decision where that is 0
 abbrev holding : Shot → Held
-holding c = heldIn (c .room) (c .controller)
+holding c = heldIn (c .room) (keyIn c)
 
 abbrev turned : Shot → ℕ
 turned c =
-    first (refusals kind.Suppressed (c .settings) (c .room) (c .reading) (c .controller)
-    (incTurns (c .settings) (ringOf (c .room)) (noneFree (c .room)) (c .reading) (c .rate) 1 (c .draw) (holding c)))
+    first (refusals kind.Suppressed (c .settings) (c .room) (c .reading) (keyIn c)
+    (incTurns (c .settings) (ringOf (c .room)) (noneLeft (c .room) (c .caller)) (c .reading) (c .rate) 1 (c .draw) (holding c)))
 
 abbrev limitOf : Shot → ℕ
 limitOf c = Rules.limitFor (c .settings) (c .rate) (holding c)
@@ -80,11 +81,11 @@ module _ (w : List ℕ) (c : Shot) where
   -- past 19 to 21, and not held: the limiter's
   own-asks : soundFor w key ≡ true → not (numbered n) ≡ false → ltb n (lastNumber w key) ≡ false →
       not (isKnown w key) && eqb (knownOf w) mostControllers ≡ false → isKnown w key && eqb n (lastNumber w key) ≡ false →
-      asked (c .settings) w (c .room) (c .reading) key n (c .rate) (c .draw) ≡ own .shot w c
+      asked (c .settings) w (c .room) (c .reading) (keyIn c) n (c .rate) (c .draw) ≡ own .shot w c
   unfolding isHeld gateTurns first
-  own-asks z p q r x = shot-asked (c .settings) w (c .room) (c .reading) key n (c .rate) (c .draw) z (rw (p, z, q, r)) (rw (z, x))
+  own-asks z p q r x = shot-asked (c .settings) w (c .room) (c .reading) (keyIn c) n (c .rate) (c .draw) z (rw (p, z, q, r)) (rw (z, x))
 
-  asked-judges : Judges false false false false w c (asked (c .settings) w (c .room) (c .reading) key n (c .rate) (c .draw))
+  asked-judges : Judges false false false false w c (asked (c .settings) w (c .room) (c .reading) (keyIn c) n (c .rate) (c .draw))
   unfolding asked
   asked-judges =
       record { answer = refl; room = refl; table = ap (λ (is : Bool). cond is (remembered w key n) w) (sym (as-shot-admits (limiter c .answer))) }
@@ -100,7 +101,7 @@ module _ (w : List ℕ) (c : Shot) where
 
 -- an admitted shot has a controller of at most 32 bytes: refusal 7
 admitted-short : (c : Shot) → admitsShot (asShot (limiter c .answer)) ≡ true → length (c .controller) ≤ longestKey
-unfolding inc Room.unlessRefused faults misfits
+unfolding inc Room.unlessRefused faults misfits turns
 admitted-short c = go (eqb (turned c) 0) refl
   where
     go : (z : Bool) → eqb (turned c) 0 ≡ z → admitsShot (asShot (cond z (decisionOf c) (decision.Refused (turned c)))) ≡ true →
@@ -190,14 +191,14 @@ always-agrees (calls o ∷ events) b = always-agrees events b
 -- whatever the words: a table is remembered in exactly where the answer admits
 pub own-remembers : (w : List ℕ) (c : Shot) → own .shot w c .table ≡ cond (admitsShot (own .shot w c .answer)) (remembered w (c .controller) (c .number)) w
 unfolding Gate.shot unlessRefused
-own-remembers w c = go (eqb (first turns) 0) (isHeld w (c .controller) (c .number))
+own-remembers w c = go (eqb (first judged) 0) (isHeld w (c .controller) (c .number))
   where
-    turns : List (ℕ × Bool)
-    turns = Gate.shotTurns (c .settings) w (c .room) (c .reading) (c .controller) (c .number) (c .rate) (c .draw)
+    judged : List (ℕ × Bool)
+    judged = Gate.shotTurns (c .settings) w (c .room) (c .reading) (keyIn c) (c .number) (c .rate) (c .draw)
 
     go : (z h : Bool) →
-        let v = Gate.passed h (c .settings) w (c .room) (c .reading) (c .controller) (c .number) (c .rate) (c .draw) in
-        cond z (v .table) w ≡ cond (admitsShot (cond z (v .answer) (Refused (first turns)))) (remembered w (c .controller) (c .number)) w
+        let v = Gate.passed h (c .settings) w (c .room) (c .reading) (keyIn c) (c .number) (c .rate) (c .draw) in
+        cond z (v .table) w ≡ cond (admitsShot (cond z (v .answer) (Refused (first judged)))) (remembered w (c .controller) (c .number)) w
     go true true = refl
     go true false = refl
     go false h = refl

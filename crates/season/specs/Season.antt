@@ -1,5 +1,6 @@
--- A season: shots of any controllers, with any settings and any words in the room before each, and any of the limiter's own calls between them. What a
--- gateway promises over it, said of any gateway; the log of what it admitted is made from the answers that it gave.
+-- A season: shots of any controllers, by callers of either party, with any settings and any words in the room before each, and any of the limiter's own calls
+-- between them. What a gateway promises over it, said of any gateway; the log of what it admitted is made from the answers that it gave. A controller is known
+-- by its bytes alone, whichever party sends its shots.
 -- Assumes nothing.
 use mathlib.Core.Path.{_≡_}
 use mathlib.Core.Bool.{Bool, true, false, cond, not, _&&_}
@@ -15,6 +16,8 @@ use Rattle.answers.specs.declared.ShotAnswer.the-variants.{Held, Refused}
 use Rattle.rules.specs.declared.RoomKind.the-variants.{Suppressed}
 use Rattle.rules.specs.Suppressed.{admits}
 use Rattle.frame.specs.Keys.{Bytes}
+use Rattle.parties.specs.declared.Caller.{Caller}
+use Rattle.parties.specs.Parties.{Sent, sent}
 use Rattle.judge.specs.Verdict as Room
 use Rattle.suppressed_verdicts.specs.Calls.{inc}
 use Rattle.table.specs.Table.{mostControllers, emptyTable, numbered}
@@ -28,6 +31,7 @@ pub record Shot : Type 0 where
   pub settings : Settings
   pub room : List ℕ
   pub reading : ℕ
+  pub caller : Caller
   pub controller : List ℕ
   pub number : ℕ
   pub rate : RateLimit
@@ -56,9 +60,13 @@ pub record Gateway : Type 0 where
   pub shot : List ℕ → Shot → Verdict
   pub between : List ℕ → Other → List ℕ
 
+-- the controller as the limiter knows it
+abbrev pub keyIn : Shot → Sent
+keyIn c = sent (c .caller) (c .controller)
+
 -- what the limiter makes of a shot
 abbrev pub limiter : Shot → Room.Verdict RateLimitDecision
-limiter c = inc (c .settings) (c .room) (c .reading) (c .controller) (c .rate) 1 (c .draw)
+limiter c = inc (c .settings) (c .room) (c .reading) (keyIn c) (c .rate) 1 (c .draw)
 
 -- its table after a season's events
 abbrev pub tableAfter : Gateway → List Event → List ℕ

@@ -14,10 +14,10 @@ use borrow.Author.Tests.{lt-ltb, le-ltb, ltb-true, ltb-false, eq-eqb}
 use Rattle.base.specs.Decides.{true-and, not-so, so-not}
 use Rattle.base.specs.Seek.{seek, seek-start, seek-le, seek-passes, seek-before, seek-only}
 use Rattle.base.specs.Writes.{writes, length-writes, read-past, read-nth}
-use Rattle.layout.specs.Layout.{slotsWord, ringWord, lastWord, lenWord, aWord, bWord, cWord, dWord, longestKey}
+use Rattle.layout.specs.Layout.{slotsWord, ringWord, lastWord, lenWord, aWord, bWord, cWord, dWord, nobody, longestKey}
 use Rattle.keys.specs.declared.Key.{Key}
 use Rattle.keys.specs.Keys.{keyOf, sameKey}
-use Rattle.room.specs.Room.{entryOf, keyAt, keySound, entered, withUse}
+use Rattle.room.specs.Room.{holderAt, entryOf, holderOf, keyAt, keySound, entered, withUse}
 use Rattle.frame.specs.Keys.{Bytes, key-injective}
 use Rattle.frame.specs.Distinct.{same-key, key-same}
 use Rattle.frame.specs.Frame.{key-ext}
@@ -56,19 +56,20 @@ key-names w k i e = ap (λ (x : Key). sameKey x k) e ∙ key-same k
 pub record Stands (w key : List ℕ) : Type 0 where
   pub short : length key ≤ longestKey
   pub inside : entryFor w key < knownOf w
-  pub key-is : keyAt w (entryFor w key) ≡ keyOf key
+  pub key-is : keyAt w (entryFor w key) ≡ keyOf nobody key
 
 module _ (w key : List ℕ) where
   -- of a short key the entry is the search's
-  sought : length key ≤ longestKey → entryFor w key ≡ seek (names w (keyOf key)) 0 (knownOf w)
+  sought : length key ≤ longestKey → entryFor w key ≡ seek (names w (keyOf nobody key)) 0 (knownOf w)
   unfolding entryFor
   sought l =
-      ap (λ (z : Bool). cond z (knownOf w) (entryFrom w (keyOf key) 0)) (le-ltb longestKey (length key) l) ∙ sym (seek-start (names w (keyOf key)) (knownOf w))
+      ap (λ (z : Bool). cond z (knownOf w) (entryFrom w (keyOf nobody key) 0)) (le-ltb longestKey (length key) l) ∙
+      sym (seek-start (names w (keyOf nobody key)) (knownOf w))
 
   pub long-unknown : longestKey < length key → isKnown w key ≡ false
   unfolding entryFor isKnown
   long-unknown l =
-      ap (λ (z : Bool). ltb (cond z (knownOf w) (entryFrom w (keyOf key) 0)) (knownOf w)) (lt-ltb longestKey (length key) l) ∙
+      ap (λ (z : Bool). ltb (cond z (knownOf w) (entryFrom w (keyOf nobody key) 0)) (knownOf w)) (lt-ltb longestKey (length key) l) ∙
       le-ltb (knownOf w) (knownOf w) (omega arith)
 
   pub known-stands : isKnown w key ≡ true → Stands w key
@@ -80,27 +81,29 @@ module _ (w key : List ℕ) where
       go (no l) =
           let h : entryFor w key < knownOf w = ltb-true _ _ e in
           let q = sought (omega arith) in
-          let k : keyAt w (seek (names w (keyOf key)) 0 (knownOf w)) ≡ keyOf key =
-          names-key w (keyOf key) _ (seek-passes (names w (keyOf key)) (knownOf w) 0 (omega (arith, q))) in
+          let k : keyAt w (seek (names w (keyOf nobody key)) 0 (knownOf w)) ≡ keyOf nobody key =
+          names-key w (keyOf nobody key) _ (seek-passes (names w (keyOf nobody key)) (knownOf w) 0 (omega (arith, q))) in
           record { short = omega arith; inside = h; key-is = ap (keyAt w) q ∙ k }
 
   -- a key that is no entry's is unknown, and the other way round
-  pub lacks-unknown : ((i : ℕ) → i < knownOf w → keyAt w i ≢ keyOf key) → isKnown w key ≡ false
+  pub lacks-unknown : ((i : ℕ) → i < knownOf w → keyAt w i ≢ keyOf nobody key) → isKnown w key ≡ false
   lacks-unknown f = not-so (isKnown w key) (λ e. let s = known-stands e in f (entryFor w key) (s .inside) (s .key-is))
 
-  pub unknown-lacks : isKnown w key ≡ false → length key ≤ longestKey → (i : ℕ) → i < knownOf w → keyAt w i ≢ keyOf key
+  pub unknown-lacks : isKnown w key ≡ false → length key ≤ longestKey → (i : ℕ) → i < knownOf w → keyAt w i ≢ keyOf nobody key
   unfolding isKnown
   unknown-lacks e l i h q =
       let n : knownOf w ≤ entryFor w key = ltb-false _ _ e in
       let s = sought l in
-      so-not (names w (keyOf key) i) (seek-before (names w (keyOf key)) (knownOf w) 0 i (omega arith) (omega arith)) (key-names w (keyOf key) i q)
+      so-not (names w (keyOf nobody key) i) (seek-before (names w (keyOf nobody key)) (knownOf w) 0 i (omega arith) (omega arith))
+      (key-names w (keyOf nobody key) i q)
 
   -- a key that is an entry's has no other, and is found there
-  module _ (o : Sound w) (i : ℕ) (l : length key ≤ longestKey) (h : i < knownOf w) (e : keyAt w i ≡ keyOf key) where
+  module _ (o : Sound w) (i : ℕ) (l : length key ≤ longestKey) (h : i < knownOf w) (e : keyAt w i ≡ keyOf nobody key) where
     pub found : entryFor w key ≡ i
     found =
         sought l ∙
-        seek-only (names w (keyOf key)) (knownOf w) i h (key-names w (keyOf key) i e) (λ j p q. o .once j i p h (names-key w (keyOf key) j q ∙ sym e))
+        seek-only (names w (keyOf nobody key)) (knownOf w) i h (key-names w (keyOf nobody key) i e)
+        (λ j p q. o .once j i p h (names-key w (keyOf nobody key) j q ∙ sym e))
 
     pub entry-known : isKnown w key ≡ true
     unfolding isKnown
@@ -174,7 +177,7 @@ empty-unknown key = lacks-unknown emptyTable key (λ i h e. omega (arith, empty-
 pub record Remembers (w v : List ℕ) (at : ℕ) (key : List ℕ) (n : ℕ) : Type 0 where
   pub table : Table v
   pub inside : at < knownOf v
-  pub key-here : keyAt v at ≡ keyOf key
+  pub key-here : keyAt v at ≡ keyOf nobody key
   pub number-here : numberAt v at ≡ n
   -- one more, unless it was known
   pub count : knownOf v ≡ cond (isKnown w key) 0 1 + knownOf w
@@ -182,8 +185,8 @@ pub record Remembers (w v : List ℕ) (at : ℕ) (key : List ℕ) (n : ℕ) : Ty
   pub no-others : (i : ℕ) → i < knownOf v → i ≢ at → i < knownOf w
   pub keys : (i : ℕ) → i < knownOf w → i ≢ at → keyAt v i ≡ keyAt w i
   pub numbers : (i : ℕ) → i < knownOf w → i ≢ at → numberAt v i ≡ numberAt w i
-  pub only : (i : ℕ) → i < knownOf w → keyAt w i ≡ keyOf key → i ≡ at
-  pub own : at < knownOf w → keyAt w at ≡ keyOf key
+  pub only : (i : ℕ) → i < knownOf w → keyAt w i ≡ keyOf nobody key → i ≡ at
+  pub own : at < knownOf w → keyAt w at ≡ keyOf nobody key
 
 module _
     (w v : List ℕ) (at : ℕ) (key : List ℕ) (n : ℕ) (o : Sound w) (m : Remembers w v at key n) (b : Bytes key) (short : length key ≤ longestKey)
@@ -227,9 +230,9 @@ module _
         let i = entryFor w k in
         let q : i ≢ at = λ p.
         let l : at < knownOf w = subst (λ (j : ℕ). j < knownOf w) p (s .inside) in
-        ne (key-injective key k b bk short (s .short) (sym (m .own l) ∙ ap (keyAt w) (sym p) ∙ s .key-is)) in
+        ne (key-injective nobody nobody key k b bk short (s .short) (sym (m .own l) ∙ ap (keyAt w) (sym p) ∙ s .key-is)) in
         let h : i < knownOf v = omega (arith, s .inside, m .no-fewer) in
-        let y : keyAt v i ≡ keyOf k = m .keys i (s .inside) q ∙ s .key-is in (
+        let y : keyAt v i ≡ keyOf nobody k = m .keys i (s .inside) q ∙ s .key-is in (
           entry-known v k remembers-sound i (s .short) h y,
           entry-last v k remembers-sound i (s .short) h y ∙ m .numbers i (s .inside) q ∙ sym (entry-last w k o i (s .short) (s .inside) (s .key-is)),
         )
@@ -240,8 +243,8 @@ module _
         let s = known-stands v k y in
         go (entryFor v k) (s .inside) (s .key-is) (s .short) (ℕ-discrete (entryFor v k) at))
       where
-        go : (i : ℕ) → i < knownOf v → keyAt v i ≡ keyOf k → length k ≤ longestKey → Dec (i ≡ at) → ⊥
-        go i h y l (yes q) = ne (key-injective key k b bk short l (sym (m .key-here) ∙ ap (keyAt v) (sym q) ∙ y))
+        go : (i : ℕ) → i < knownOf v → keyAt v i ≡ keyOf nobody k → length k ≤ longestKey → Dec (i ≡ at) → ⊥
+        go i h y l (yes q) = ne (key-injective nobody nobody key k b bk short l (sym (m .key-here) ∙ ap (keyAt v) (sym q) ∙ y))
         go i h y l (no q) = let p = m .no-others i h q in unknown-lacks w k e l i p (sym (m .keys i p q) ∙ y)
 
   remembers-known : (k : List ℕ) → Bytes k → isKnown v k ≡ sameBytes key k || isKnown w k
@@ -273,7 +276,7 @@ module _ (w key : List ℕ) (n : ℕ) (o : Sound w) where
       let v = set w (entryOf at) n in
       let f : (j : ℕ) → j ≢ entryOf at → getD v j 0 ≡ getD w j 0 = λ j q. getD-set-other w (entryOf at) j n 0 q in
       let l : length v ≡ length w = length-set w (entryOf at) n in
-      let k : (i : ℕ) → keyAt v i ≡ keyAt w i = λ i. key-ext w v i (λ j p q. f j (omega arith)) in
+      let k : (i : ℕ) → i < mostControllers → keyAt v i ≡ keyAt w i = λ i m. key-ext w v i (f (holderAt i) (omega arith)) (λ j p q. f j (omega arith)) in
       record {
         table = record {
           long = l ∙ o .table .long;
@@ -282,12 +285,12 @@ module _ (w key : List ℕ) (n : ℕ) (o : Sound w) where
           no-reading = f lastWord (omega arith) ∙ o .table .no-reading;
         };
         inside = omega (arith, f slotsWord (omega arith), s .inside);
-        key-here = k at ∙ s .key-is;
+        key-here = k at (omega (arith, s .inside, o .table .few)) ∙ s .key-is;
         number-here = getD-set-same w (entryOf at) n 0 (omega (arith, s .inside, o .table .few, o .table .long));
         count = rw e (omega (arith, f slotsWord (omega arith)));
         no-fewer = omega (arith, f slotsWord (omega arith));
         no-others = λ i h q. omega (arith, f slotsWord (omega arith), h);
-        keys = λ i h q. k i;
+        keys = λ i h q. k i (omega (arith, h, o .table .few));
         numbers = λ i h q. f (entryOf i) (omega arith);
         only = λ i h q. sym (found w key o i (s .short) h q);
         own = λ h. s .key-is;
@@ -295,39 +298,41 @@ module _ (w key : List ℕ) (n : ℕ) (o : Sound w) where
 
   -- another one: a new entry
   new-remembers : isKnown w key ≡ false → length key ≤ longestKey → knownOf w < mostControllers →
-      Remembers w (entered (set w slotsWord (knownOf w + 1)) (knownOf w) n (keyOf key)) (knownOf w) key n
+      Remembers w (entered (set w slotsWord (knownOf w + 1)) (knownOf w) n (keyOf nobody key)) (knownOf w) key n
   unfolding entered keyAt
   new-remembers e short h =
-      let k = keyOf key in
+      let k = keyOf nobody key in
       let at = knownOf w in
       let x = entryOf at in
       let w′ = set w slotsWord (at + 1) in
-      let ws : List (ℕ × ℕ) = (x, n) ∷ (x + lenWord, k .len) ∷ (x + aWord, k .a) ∷ (x + bWord, k .b) ∷ (x + cWord, k .c) ∷ (x + dWord, k .d) ∷ [] in
+      let ws : List (ℕ × ℕ) =
+      (holderAt at, k .holder) ∷ (x, n) ∷ (x + lenWord, k .len) ∷ (x + aWord, k .a) ∷ (x + bWord, k .b) ∷ (x + cWord, k .c) ∷ (x + dWord, k .d) ∷ [] in
       let v = writes w′ ws in
       let z : length w′ ≡ tableWords = length-set w slotsWord (at + 1) ∙ o .table .long in
       let slots : knownOf v ≡ at + 1 = read-past ws w′ slotsWord (omega arith) ∙ getD-set-same w slotsWord (at + 1) 0 (omega (arith, o .table .long)) in
-      let f : (j : ℕ) → j ≢ slotsWord → j < x → getD v j 0 ≡ getD w j 0 =
-      λ j p q. read-past ws w′ j (omega arith) ∙ getD-set-other w slotsWord j (at + 1) 0 p in
-      let len : getD v (x + lenWord) 0 ≡ k .len = read-nth ws 1 w′ (omega arith) (omega (arith, z, h)) (omega arith) in
-      let a : getD v (x + aWord) 0 ≡ k .a = read-nth ws 2 w′ (omega arith) (omega (arith, z, h)) (omega arith) in
-      let b : getD v (x + bWord) 0 ≡ k .b = read-nth ws 3 w′ (omega arith) (omega (arith, z, h)) (omega arith) in
-      let c : getD v (x + cWord) 0 ≡ k .c = read-nth ws 4 w′ (omega arith) (omega (arith, z, h)) (omega arith) in
-      let d : getD v (x + dWord) 0 ≡ k .d = read-nth ws 5 w′ (omega arith) (omega (arith, z, h)) tt in
+      let f : (j : ℕ) → j ≢ slotsWord → j ≢ holderAt at → j < x → getD v j 0 ≡ getD w j 0 =
+      λ j p m q. read-past ws w′ j (omega arith) ∙ getD-set-other w slotsWord j (at + 1) 0 p in
+      let holder : holderOf v at ≡ k .holder = read-nth ws 0 w′ (omega arith) (omega (arith, z, h)) (omega arith) in
+      let len : getD v (x + lenWord) 0 ≡ k .len = read-nth ws 2 w′ (omega arith) (omega (arith, z, h)) (omega arith) in
+      let a : getD v (x + aWord) 0 ≡ k .a = read-nth ws 3 w′ (omega arith) (omega (arith, z, h)) (omega arith) in
+      let b : getD v (x + bWord) 0 ≡ k .b = read-nth ws 4 w′ (omega arith) (omega (arith, z, h)) (omega arith) in
+      let c : getD v (x + cWord) 0 ≡ k .c = read-nth ws 5 w′ (omega arith) (omega (arith, z, h)) (omega arith) in
+      let d : getD v (x + dWord) 0 ≡ k .d = read-nth ws 6 w′ (omega arith) (omega (arith, z, h)) tt in
       record {
         table = record {
           long = length-writes ws w′ ∙ z;
           few = omega (arith, slots, h);
-          no-ring = f ringWord (omega arith) (omega arith) ∙ o .table .no-ring;
-          no-reading = f lastWord (omega arith) (omega arith) ∙ o .table .no-reading;
+          no-ring = f ringWord (omega arith) (omega arith) (omega arith) ∙ o .table .no-ring;
+          no-reading = f lastWord (omega arith) (omega arith) (omega arith) ∙ o .table .no-reading;
         };
         inside = omega (arith, slots);
-        key-here = λ i. record { len = len i; a = a i; b = b i; c = c i; d = d i };
-        number-here = read-nth ws 0 w′ (omega arith) (omega (arith, z, h)) (omega arith);
+        key-here = λ i. record { holder = holder i; len = len i; a = a i; b = b i; c = c i; d = d i };
+        number-here = read-nth ws 1 w′ (omega arith) (omega (arith, z, h)) (omega arith);
         count = rw e (omega (arith, slots));
         no-fewer = omega (arith, slots);
         no-others = λ i l q. omega (arith, slots, l, q);
-        keys = λ i l q. key-ext w v i (λ j y y′. f j (omega arith) (omega arith));
-        numbers = λ i l q. f (entryOf i) (omega arith) (omega arith);
+        keys = λ i l q. key-ext w v i (f (holderAt i) (omega arith) (omega arith) (omega arith)) (λ j y y′. f j (omega arith) (omega arith) (omega arith));
+        numbers = λ i l q. f (entryOf i) (omega arith) (omega arith) (omega arith);
         only = λ i l q. absurd (unknown-lacks w key e short i l q);
         own = λ l. absurd (omega (arith, l));
       }
@@ -348,7 +353,7 @@ module _
   somewhere = go (isKnown w key) refl
     where
       go : (z : Bool) → isKnown w key ≡ z →
-          (at : ℕ) × Remembers w (cond z (withUse w (entryFor w key) n) (entered (set w slotsWord (knownOf w + 1)) (knownOf w) n (keyOf key))) at key n
+          (at : ℕ) × Remembers w (cond z (withUse w (entryFor w key) n) (entered (set w slotsWord (knownOf w + 1)) (knownOf w) n (keyOf nobody key))) at key n
       go true e = (entryFor w key, known-remembers w key n o e)
       go false e = (knownOf w, new-remembers w key n o e short (free e))
 

@@ -25,35 +25,36 @@ use Rattle.frame.specs.Keys.{Bytes}
 use Rattle.rules.specs.declared.RoomKind.the-variants as kind
 use Rattle.admissions.specs.Log.{aged}
 use Rattle.steps.specs.Ops.{Op, draws, snapshot, setRate, set, delete, cleanup, clear, Call, words}
-use Rattle.demand3.specs.History.{IsKey, admitted, hardOf, softOf, Clause, Or, AllBy, Gives, LeavesAlone}
+use Rattle.demand3.specs.History.{Same, IsKey, admitted, hardOf, softOf, Clause, Or, AllBy, Gives, LeavesAlone}
 use Rattle.demand3.specs.Demand3.{lessBucket, lookBack, Ceiling, increment, Floor}
-use Rattle.sharp.specs.Histories.{one, two, doubled, nano, room, tenOnce, expired, nanoExpired, cleaned, around, lowers, begun, spent, answerTo, computed}
+use Rattle.sharp.specs.Histories.{one, two, doubled, nano, room, caller, key, tenOnce, expired, nanoExpired, cleaned, around, lowers, begun, spent}
+use Rattle.sharp.specs.Histories.{answerTo, computed}
 
-fine : IsKey []
-fine = record { bytes = λ i. omega arith; short = omega arith }
+fine : IsKey key
+fine = record { party = refl; bytes = λ i. omega arith; short = omega arith }
 
 -- an increment of the key at its rate is by `LeavesAlone`
-own : Bytes [] × (_≡_ {A = List ℕ} [] [] → one ≡ one)
+own : Bytes (key .bytes) × (Same key key → one ≡ one)
 own = (fine .bytes, λ e. refl)
 
 -- calls that are by the clause, and that are admitted n in a span, more than the limit
 breaksIn : (s : Settings) (span : Settings → ℕ) (limit : Settings → RateLimit → ℕ) (Q : Clause) (calls : List (Call kind.Suppressed)) (from n : ℕ) →
-    joinTicks s ≤ windowTicks s → AllBy Q s [] one room calls → spent s from (from + span s) calls ≡ n → limit s one < n → Ceiling span limit Q → ⊥
+    joinTicks s ≤ windowTicks s → AllBy Q s key one room calls → spent s from (from + span s) calls ≡ n → limit s one < n → Ceiling span limit Q → ⊥
 breaksIn s span limit Q calls from n le p e h f =
-    let g : spent s from (from + span s) calls ≤ limit s one = f s 1 2 [] one calls fine le p from in
+    let g : spent s from (from + span s) calls ≤ limit s one = f s 1 2 key one calls fine le p from in
     absurd (omega (arith, e, h, g))
 
 breaks : (span : Settings → ℕ) (limit : Settings → RateLimit → ℕ) (Q : Clause) (calls : List (Call kind.Suppressed)) (from n : ℕ) →
-    AllBy Q defaults [] one room calls → spent defaults from (from + span defaults) calls ≡ n → limit defaults one < n → Ceiling span limit Q → ⊥
+    AllBy Q defaults key one room calls → spent defaults from (from + span defaults) calls ≡ n → limit defaults one < n → Ceiling span limit Q → ⊥
 breaks span limit Q calls from n = breaksIn defaults span limit Q calls from n (omega arith)
 
 -- n counted after the calls, at most the limit with what is admitted, that are answered Suppressed
 falls : (back : Settings → ℕ) (limit : Settings → RateLimit → ℕ) (Q : Clause) (s : Settings) (calls : List (Call kind.Suppressed)) (t n : ℕ) (x : Float)
-    (is : Bool) → joinTicks s ≤ windowTicks s → AllBy Q s [] one room (increment t [] one n 0 ∷ calls) → answerTo s calls t n ≡ decided.Suppressed x is →
-    n + aged (back s) t (admitted s [] room calls) ≤ limit s one → Floor back limit Q → ⊥
+    (is : Bool) → joinTicks s ≤ windowTicks s → AllBy Q s key one room (increment t key one n 0 ∷ calls) → answerTo s calls t n ≡ decided.Suppressed x is →
+    n + aged (back s) t (admitted s key room calls) ≤ limit s one → Floor back limit Q → ⊥
 unfolding decisionRow
 falls back limit Q s calls t n x is le p e h f =
-    let a = f s 1 2 [] one calls t one n 0 fine le p (ap (λ (d : RateLimitDecision). getD (decisionRow d) 0 0) e) h in
+    let a = f s 1 2 key one calls t one n 0 fine le p (ap (λ (d : RateLimitDecision). getD (decisionRow d) 0 0) e) h in
     let c : _≡_ {A = ℕ} 3 1 = ap (λ (d : RateLimitDecision). getD (decisionRow d) 1 0) (sym e ∙ a) in
     absurd (omega (arith, c))
 
@@ -68,7 +69,7 @@ oneIn Nanoseconds Nanoseconds = 1
 
 -- the stale time: a cleanup with window less 1
 abbrev pub Cleans : Clause
-Cleans s key rate w t op = op ≡ cleanup (windowInMilliseconds (windowIn s) - 1)
+Cleans s key rate w t op = op ≡ cleanup (key .caller) (windowInMilliseconds (windowIn s) - 1)
 
 -- a set, at the key's rate
 abbrev pub Sets : Clause
@@ -77,8 +78,9 @@ Sets s key rate w t op = (n : ℕ) × (op ≡ set key rate Always n Replace)
 abbrev pub Deletes : Clause
 Deletes s key rate w t op = op ≡ delete key
 
+-- a clear of the key's own party
 abbrev pub Clears : Clause
-Clears s key rate w t op = op ≡ clear
+Clears s key rate w t op = op ≡ clear (key .caller)
 
 -- another rate: set on a known key, and of an increment that a key begins with
 abbrev pub Rates : Clause
@@ -90,8 +92,8 @@ Increments s key rate w t op = (r : RateLimit) × ((n : ℕ) × (op ≡ draws ke
 -- ---- the clauses of the demand; P is `LeavesAlone`, or a clause that asks for less
 
 module _ (P : Clause) (less : Gives LeavesAlone P) where
-  counts : {s : Settings} {w : List ℕ} {t n : ℕ} → P s [] one w t (draws [] one n 0)
-  counts {s} {w} {t} {n} = less s [] one w t (draws [] one n 0) own
+  counts : {s : Settings} {w : List ℕ} {t n : ℕ} → P s key one w t (draws key one n 0)
+  counts {s} {w} {t} {n} = less s key one w t (draws key one n 0) own
 
   -- the span: one tick more, of either clock mode alone
   pub span-sharp : (mode : ClockMode) → Ceiling (λ s. lessBucket s + oneIn mode (s .«clock_mode»)) hardOf P → ⊥
@@ -100,7 +102,7 @@ module _ (P : Clause) (less : Gives LeavesAlone P) where
       (omega (arith, computed .hard))
   span-sharp Nanoseconds =
       breaksIn nano (λ s. lessBucket s + oneIn Nanoseconds (s .«clock_mode»)) hardOf P nanoExpired 100999999 20 (omega arith)
-      (counts, (less nano [] one _ 10000000001 (snapshot []) (fine .bytes), (counts, (counts, tt)))) (computed .nano-expires)
+      (counts, (less nano key one _ 10000000001 (snapshot key) (fine .bytes), (counts, (counts, tt)))) (computed .nano-expires)
       (omega (arith, computed .nano-hard))
 
   -- the hard limit: it is reached
@@ -114,7 +116,7 @@ module _ (P : Clause) (less : Gives LeavesAlone P) where
       (inl counts, (inr refl, (inl counts, (inl counts, tt)))) (computed .cleans) (omega (arith, computed .hard))
 
   -- a call between 10 counted and n more, with which the key is admitted m
-  between-sharp : (Q : Clause) (op : Op kind.Suppressed) (n m : ℕ) → Q defaults [] one (words kind.Suppressed defaults room tenOnce) 0 op →
+  between-sharp : (Q : Clause) (op : Op kind.Suppressed) (n m : ℕ) → Q defaults key one (words kind.Suppressed defaults room tenOnce) 0 op →
       spent defaults 0 9900 (around op n) ≡ m → 10 < m → Ceiling lessBucket hardOf (Or P Q) → ⊥
   between-sharp Q op n m q e h =
       breaks lessBucket hardOf (Or P Q) (around op n) 0 m (inl counts, (inr q, (inl counts, tt))) e (omega (arith, h, computed .hard))
@@ -123,13 +125,13 @@ module _ (P : Clause) (less : Gives LeavesAlone P) where
   set-sharp = between-sharp Sets lowers 1 11 (9, refl) (computed .sets) (omega arith)
 
   pub delete-sharp : Ceiling lessBucket hardOf (Or P Deletes) → ⊥
-  delete-sharp = between-sharp Deletes (delete []) 10 20 refl (computed .deletes) (omega arith)
+  delete-sharp = between-sharp Deletes (delete key) 10 20 refl (computed .deletes) (omega arith)
 
   pub clear-sharp : Ceiling lessBucket hardOf (Or P Clears) → ⊥
-  clear-sharp = between-sharp Clears clear 10 20 refl (computed .clears) (omega arith)
+  clear-sharp = between-sharp Clears (clear caller) 10 20 refl (computed .clears) (omega arith)
 
   pub rate-sharp : Ceiling lessBucket hardOf (Or P Rates) → ⊥
-  rate-sharp = between-sharp Rates (setRate [] two) 10 20 (two, refl) (computed .rates) (omega arith)
+  rate-sharp = between-sharp Rates (setRate key two) 10 20 (two, refl) (computed .rates) (omega arith)
 
   pub increment-sharp : Ceiling lessBucket hardOf (Or P Increments) → ⊥
   increment-sharp =

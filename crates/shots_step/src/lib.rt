@@ -1,6 +1,7 @@
-// What the program `shots` makes of a line: a shot at the gateway, and the line to print.
+// What the program `shots` makes of a line: a shot at the gateway, by its one party, and the line to print.
 ghost use Rattle.desk_lines.specs.Step.{Answered};
 ghost use Rattle.shots_step.specs.Shots.{shotOf, stepped};
+use desk_lines::alone;
 use desk_lines::bad_line;
 use desk_lines::per_minute;
 use desk_lines::shot_line;
@@ -22,11 +23,13 @@ fn take(
     ensures { λ r. ⌜ Answered (shotOf settings (now (table .entry)) (now (room .entry)) t (now (key .entry)) number rate draw) r (now (table .exit))
         (now (room .exit)) ⌝ }
 {
+    let caller = alone(room);
     let a = gateway::shot(
         settings,
         table,
         room,
         t,
+        caller,
         key,
         number,
         per_minute(rate),

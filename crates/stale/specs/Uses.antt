@@ -5,10 +5,11 @@ use mathlib.Core.Bool.{Bool, true, _&&_, cond}
 use mathlib.Core.List.{List}
 use Prim.Native.Nat.{ℕ, zero, suc, _+_, _≤_, _<_}
 use lib.ListN.{length}
+use lib.Dec.{eqb}
 use Rattle.rules.specs.Stale.{seriesStays, factorStays}
 use Rattle.ring.specs.declared.Bucket.{Bucket}
 use Rattle.ring.specs.Ring.{buckets, Shape}
-use Rattle.room.specs.Room.{Room, slotsOf, ringOf, useOf, bodyOf, withUse, withReading}
+use Rattle.room.specs.Room.{Room, slotsOf, ringOf, usedAt, bodyOf, withUse, released, withReading}
 use Rattle.opened.specs.Sound.{factorTimeOf, hasSeries, hasCached}
 
 -- ---- what stays
@@ -28,14 +29,18 @@ unfoldable pub useAfter : ℕ → ℕ → List ℕ → ℕ → ℕ → ℕ → �
 useAfter r u b t ticks stale = uses (hasSeries u && seriesStays (buckets r b) t ticks stale) (hasCached u && factorStays (factorTimeOf b) t ticks stale)
 
 abbrev pub useNext : List ℕ → ℕ → ℕ → ℕ → ℕ → ℕ
-useNext w t ticks stale i = useAfter (ringOf w) (useOf w i) (bodyOf w i) t ticks stale
+useNext w t ticks stale i = useAfter (ringOf w) (usedAt w i) (bodyOf w i) t ticks stale
 
 -- ---- the words after
+
+-- slot i with use u, and free where that is none
+unfoldable pub settled : List ℕ → ℕ → ℕ → List ℕ
+settled w i u = cond (eqb u 0) (released w i) (withUse w i u)
 
 -- the first n slots have their use afterwards: no other word changes
 unfoldable pub swept : List ℕ → ℕ → ℕ → ℕ → ℕ → List ℕ
 swept w t ticks stale zero = w
-swept w t ticks stale (suc n) = withUse (swept w t ticks stale n) n (useNext w t ticks stale n)
+swept w t ticks stale (suc n) = settled (swept w t ticks stale n) n (useNext w t ticks stale n)
 
 -- every slot, and the reading
 unfoldable pub cleaned : List ℕ → ℕ → ℕ → ℕ → List ℕ
@@ -49,8 +54,8 @@ pub record Opens (r u : ℕ) (b : List ℕ) : Type 0 where
 pub record Readable (w : List ℕ) (i : ℕ) : Type 0 where
   pub room : Room w
   pub inside : i < slotsOf w
-  pub shape : hasSeries (useOf w i) ≡ true → Shape (ringOf w) (bodyOf w i)
+  pub shape : hasSeries (usedAt w i) ≡ true → Shape (ringOf w) (bodyOf w i)
 
 pub record Ready (w : List ℕ) : Type 0 where
   pub room : Room w
-  pub shapes : (i : ℕ) → i < slotsOf w → hasSeries (useOf w i) ≡ true → Shape (ringOf w) (bodyOf w i)
+  pub shapes : (i : ℕ) → i < slotsOf w → hasSeries (usedAt w i) ≡ true → Shape (ringOf w) (bodyOf w i)

@@ -1,10 +1,10 @@
 // Freeing what a cleanup finds stale: series by their newest bucket, cached factors by their time.
 ghost use mathlib.Core.Path.{_≡_};
-ghost use Prim.Native.Nat.{_≤_};
+ghost use Prim.Native.Nat.{_≤_, _<_};
 ghost use Rattle.settings.specs.Clock.{ageInMilliseconds};
 ghost use Rattle.ring.specs.Ring.{buckets, Shape};
-ghost use Rattle.room.specs.Room.{slotsOf};
-ghost use Rattle.stale.specs.Uses.{seriesUse, factorUse, useAfter, useNext, swept, cleaned, Opens, Readable, Ready};
+ghost use Rattle.room.specs.Room.{Directory, slotsOf};
+ghost use Rattle.stale.specs.Uses.{seriesUse, factorUse, useAfter, useNext, settled, swept, cleaned, Opens, Readable, Ready};
 
 // An age, cut to whole milliseconds.
 fn milliseconds(reading: u64, time: u64, ticks: u64) -> u64
@@ -62,10 +62,22 @@ fn use_next(w: &[u64], i: usize, reading: u64, ticks: u64, stale: u64) -> u64
     ensures { λ x. ⌜ x ≡ useNext (now (w .entry)) reading ticks stale i ⌝ }
 {
     let r = w[layout::RING] as usize;
-    let u = room::use_of(w, i);
+    let u = room::used_at(w, i);
     let a = room::start(w, i);
     let e = a + (layout::FIXED + layout::CELL * r);
     use_after(&w[a..e], r, u, reading, ticks, stale)
+}
+
+// Slot `at` with this use afterwards, and free where that is none.
+fn settle(w: &mut [u64], at: usize, u: u64)
+    requires { ⌜ Directory (now w) × (at < slotsOf (now w)) ⌝ }
+    ensures { λ _. ⌜ now (w .exit) ≡ settled (now (w .entry)) at u ⌝ }
+{
+    if u == 0 {
+        room::release(w, at);
+    } else {
+        room::set_use(w, at, u);
+    }
 }
 
 fn sweep(w: &mut [u64], reading: u64, ticks: u64, stale: u64)
@@ -76,7 +88,7 @@ fn sweep(w: &mut [u64], reading: u64, ticks: u64, stale: u64)
     let mut at = 0;
     while at < n {
         let u = use_next(w, at, reading, ticks, stale);
-        room::set_use(w, at, u);
+        settle(w, at, u);
         at += 1;
     }
 }

@@ -25,11 +25,13 @@ use Rattle.answers.specs.declared.TotalAnswer.the-variants as totals
 use Rattle.layout.specs.Layout.{mostTotal}
 use Rattle.room.specs.Room.{slotsOf, ringOf, lastOf, withReading, cleared as clearedWords}
 use Rattle.frame.specs.Keys.{Bytes}
+use Rattle.parties.specs.declared.Caller.{Caller}
+use Rattle.parties.specs.Parties.{Sent, markOf, noneLeft}
 use Rattle.change.specs.declared.Change.{Change}
 use Rattle.rules.specs.declared.RoomKind.{RoomKind}
 use Rattle.rules.specs.declared.RoomKind.the-variants as kind
 use Rattle.opened.specs.declared.Slot.{Slot}
-use Rattle.judge.specs.Laws.{passed, faults-positive}
+use Rattle.judge.specs.Laws.{passed, free-there}
 use Rattle.judge.specs.Verdict.{Verdict, call, unlessRefused, call-either}
 use Rattle.clearing.specs.Clear as Clear
 use Rattle.calls.specs.Delete as Delete
@@ -49,7 +51,7 @@ use Rattle.rules.specs.Both.{limitIn, overdueIn}
 use Rattle.rules.specs.Absolute as absolute
 use Rattle.rules.specs.Sets as sets
 use Rattle.rules.specs.Suppressed as rules
-use Rattle.judge.specs.Held.{heldIn, noneFree}
+use Rattle.judge.specs.Held.{heldIn}
 use Rattle.judge.specs.Judge.{early, Passed, slotIn, lookedIn}
 use Rattle.plan.specs.Plan.{placeOf, lacksAt}
 use Rattle.plan.specs.Seen as slots
@@ -82,13 +84,13 @@ use Rattle.steps.specs.Moves.{Does}
 use Rattle.steps.specs.Step.{Step, refused, changed, cleaned, cleared}
 
 -- a call with a key: refused, or what it does
-call-step : {A : Type 0} (turned : ℕ → A) (k : RoomKind) (s : Settings) (w : List ℕ) (t : ℕ) (op : Op k) (key : List ℕ) (own : List (ℕ × Bool))
+call-step : {A : Type 0} (turned : ℕ → A) (k : RoomKind) (s : Settings) (w : List ℕ) (t : ℕ) (op : Op k) (key : Sent) (own : List (ℕ × Bool))
     (v : Verdict A) → (early k s w t key ≡ 0 → first own ≡ 0 → Step k s w t op (v .words)) → Step k s w t op (call turned k s w t key own v .words)
 call-step turned k s w t op key own v f = call-either turned k s w t key own v (λ y. Step k s w t op (y .words)) (λ n z. refused refl) f
 
--- `..-does`: what a call does that passes refusals 1 to 7 and its own; `..-step`: so it is a step
+-- `..-does`: what a call does that passes refusals 1 to 7, 15 and 16 and its own; `..-step`: so it is a step
 
-module _ (s : Settings) (w : List ℕ) (t : ℕ) (key : List ℕ) where
+module _ (s : Settings) (w : List ℕ) (t : ℕ) (key : Sent) where
   abbrev x : Slot
   x = slotIn s w t key
 
@@ -103,9 +105,9 @@ module _ (s : Settings) (w : List ℕ) (t : ℕ) (key : List ℕ) where
         (slotIn s w t key) (lookedIn s w t key)
 
     abbrev ownInc : List (ℕ × Bool)
-    ownInc = absolute.incTurns s (ringOf w) (noneFree w) t rate c (heldIn w key)
+    ownInc = absolute.incTurns s (ringOf w) (noneLeft w (key .caller)) t rate c (heldIn w key)
 
-    pub inc-does : Bytes key → early kind.Absolute s w t key ≡ 0 → first ownInc ≡ 0 → Does kind.Absolute s w t key (placeOf w x) counts
+    pub inc-does : Bytes (key .bytes) → early kind.Absolute s w t key ≡ 0 → first ownInc ≡ 0 → Does kind.Absolute s w t key (placeOf w x) counts
     inc-does by e f =
         let p = passed kind.Absolute s w t key e in
         let l = limitIn kind.Absolute s rate in
@@ -120,7 +122,7 @@ module _ (s : Settings) (w : List ℕ) (t : ℕ) (key : List ℕ) where
           stores = inc-stores s w t key p rate c may out (not-false _ (all-false ownInc (omega arith) f .0));
         })
 
-    inc-step : Bytes key → Step kind.Absolute s w t (inc key rate c) (OnAbsolute.inc s w t key rate c .words)
+    inc-step : Bytes (key .bytes) → Step kind.Absolute s w t (inc key rate c) (OnAbsolute.inc s w t key rate c .words)
     unfolding OnAbsolute.inc
     inc-step by =
         call-step decisions.Refused kind.Absolute s w t (inc key rate c) key ownInc _ (λ e f. changed key refl (placeOf w x) counts (inc-does by e f) refl)
@@ -163,7 +165,7 @@ module _ (s : Settings) (w : List ℕ) (t : ℕ) (key : List ℕ) where
   abbrev looks : Asked
   looks = rules.asking s t (overdueIn s t (heldIn w key)) (heldIn w key)
 
-  -- of a call that passes refusals 1 to 7: the slot is seen as what the key holds
+  -- of a call that passes refusals 1 to 7, 15 and 16: the slot is seen as what the key holds
   module _ (e : early kind.Suppressed s w t key ≡ 0) where
     passing : Passed kind.Suppressed s w t key
     passing = passed kind.Suppressed s w t key e
@@ -179,11 +181,13 @@ module _ (s : Settings) (w : List ℕ) (t : ℕ) (key : List ℕ) where
     look-caching = looked-ok s w t key e looks (sym (asking-is s t out h z sees w (second-looked s w t key passing))) .caching
 
     -- a slot that is not lacking is there
-    not-lacking : lacksSlot (noneFree w) (heldIn w key) ≡ false → lacksAt w (placeOf w (lookedIn s w t key)) (lookedIn s w t key) ≡ false
-    not-lacking g = lacks-is (windowTicks s) t out h z sees w ∙ g
+    not-lacking : lacksSlot (noneLeft w (key .caller)) (heldIn w key) ≡ false → lacksAt (noneLeft w (key .caller)) (lookedIn s w t key) ≡ false
+    not-lacking g = lacks-is (windowTicks s) t out h z sees (noneLeft w (key .caller)) ∙ g
 
-    inside : lacksSlot (noneFree w) (heldIn w key) ≡ false → placeOf w (lookedIn s w t key) < slotsOf w
-    inside g = place-inside s w t out z (stood-looked s w t key passing z refl) (not-lacking g)
+    inside : lacksSlot (noneLeft w (key .caller)) (heldIn w key) ≡ false → placeOf w (lookedIn s w t key) < slotsOf w
+    inside g =
+        place-inside s w t out z (stood-looked s w t key passing z refl) (noneLeft w (key .caller)) (free-there kind.Suppressed s w t key passing)
+        (not-lacking g)
 
   pub snapshot-does : early kind.Suppressed s w t key ≡ 0 → Does kind.Suppressed s w t key (x .at) (getChange x (asks .caching))
   snapshot-does e =
@@ -203,25 +207,26 @@ module _ (s : Settings) (w : List ℕ) (t : ℕ) (key : List ℕ) where
       (λ e f. changed key refl (x .at) (getChange x (asks .caching)) (snapshot-does e) refl)
 
   abbrev lacking : Bool
-  lacking = lacksAt w (placeOf w (lookedIn s w t key)) (lookedIn s w t key)
+  lacking = lacksAt (noneLeft w (key .caller)) (lookedIn s w t key)
 
-  pub factor-does : Bytes key → early kind.Suppressed s w t key ≡ 0 → first (rules.factorTurns (noneFree w) h) ≡ 0 →
+  pub factor-does : Bytes (key .bytes) → early kind.Suppressed s w t key ≡ 0 → first (rules.factorTurns (noneLeft w (key .caller)) h) ≡ 0 →
       Does kind.Suppressed s w t key (placeOf w z) (factorChange z (looks .caching) t)
   factor-does by e f =
       let p = passed kind.Suppressed s w t key e in
       let k = looks .caching in
-      let g = all-false (rules.factorTurns (noneFree w) h) (omega arith) f in
+      let g = all-false (rules.factorTurns (noneLeft w (key .caller)) h) (omega arith) f in
       record {
         passed = p;
-        applies = suppressed.factor-applies s w t key e z refl (placeOf w z) refl lacking refl (not-lacking e (g .0)) k (factorChange z k t) refl;
+        applies = suppressed.factor-applies s w t key e z refl (placeOf w z) refl (noneLeft w (key .caller)) refl lacking refl (not-lacking e (g .0)) k
+            (factorChange z k t) refl;
         moves = factor-moves s w t key p by k (inside e (g .0));
         stores = factor-stores s w t key p k (look-caching e);
       }
 
-  factor-step : Bytes key → Step kind.Suppressed s w t (getFactor key) (OnSuppressed.getFactor s w t key .words)
+  factor-step : Bytes (key .bytes) → Step kind.Suppressed s w t (getFactor key) (OnSuppressed.getFactor s w t key .words)
   unfolding OnSuppressed.getFactor
   factor-step by =
-      call-step factors.Refused kind.Suppressed s w t (getFactor key) key (rules.factorTurns (noneFree w) h) _
+      call-step factors.Refused kind.Suppressed s w t (getFactor key) key (rules.factorTurns (noneLeft w (key .caller)) h) _
       (λ e f. changed key refl (placeOf w z) (factorChange z (looks .caching) t) (factor-does by e f) refl)
 
   module _ (rate : RateLimit) (c draw : ℕ) where
@@ -232,7 +237,7 @@ module _ (s : Settings) (w : List ℕ) (t : ℕ) (key : List ℕ) where
     outcome = rules.outcome s t (rules.limitFor s rate (heldIn w key)) c draw (heldIn w key)
 
     abbrev own : List (ℕ × Bool)
-    own = rules.incTurns s (ringOf w) (noneFree w) t rate c draw (heldIn w key)
+    own = rules.incTurns s (ringOf w) (noneLeft w (key .caller)) t rate c draw (heldIn w key)
 
     abbrev lates : List (ℕ × Bool)
     lates = incLate s (lookedIn s w t key) lacking (ringOf w) t rate c draw
@@ -247,7 +252,7 @@ module _ (s : Settings) (w : List ℕ) (t : ℕ) (key : List ℕ) where
     worked : (e : early kind.Suppressed s w t key ≡ 0) → outcome ≡ incOutcome s w t rate c draw z
     worked e = sym (decides s w t key rate c draw (passed kind.Suppressed s w t key e))
 
-    pub draws-does : Bytes key → early kind.Suppressed s w t key ≡ 0 → first own ≡ 0 → Does kind.Suppressed s w t key (placeOf w z) adds
+    pub draws-does : Bytes (key .bytes) → early kind.Suppressed s w t key ≡ 0 → first own ≡ 0 → Does kind.Suppressed s w t key (placeOf w z) adds
     draws-does by e f =
         let p = passed kind.Suppressed s w t key e in
         let l = limitAt s z rate in
@@ -257,14 +262,15 @@ module _ (s : Settings) (w : List ℕ) (t : ℕ) (key : List ℕ) where
         subst (λ (n : ℕ). Does kind.Suppressed s w t key (placeOf w z) (incChange z n c (o .declined) (o .caching))) (limit-is s t out h z (sees e) rate)
         (record {
           passed = p;
-          applies = suppressed.inc-applies s w t key e z refl (placeOf w z) refl lacking refl rate c draw (ringOf w) (first lates) refl refl (late e f) o l
+          applies = suppressed.inc-applies s w t key e z refl (placeOf w z) refl (noneLeft w (key .caller)) refl lacking refl rate c draw (ringOf w)
+              (first lates) refl refl (late e f) o l
               (forecastAt z c) refl refl (worked e) u refl;
           moves = draws-moves s w t key p by l c (o .declined) (o .caching) (inside e (g .1 .1 .1 .0));
           stores = draws-stores s w t key p rate c (o .declined) (o .caching)
               (decision-ok s w t key e rate c draw (late e f) o (worked e) .1) (not-false _ (g .0));
         })
 
-    draws-step : Bytes key → Step kind.Suppressed s w t (draws key rate c draw) (OnSuppressed.inc s w t key rate c draw .words)
+    draws-step : Bytes (key .bytes) → Step kind.Suppressed s w t (draws key rate c draw) (OnSuppressed.inc s w t key rate c draw .words)
     unfolding OnSuppressed.inc
     draws-step by =
         call-step decisions.Refused kind.Suppressed s w t (draws key rate c draw) key own _
@@ -273,7 +279,7 @@ module _ (s : Settings) (w : List ℕ) (t : ℕ) (key : List ℕ) where
 -- ---- both
 
 module _ (k : RoomKind) (s : Settings) (w : List ℕ) (t : ℕ) where
-  module _ (key : List ℕ) where
+  module _ (key : Sent) where
     abbrev slot : Slot
     slot = slotIn s w t key
 
@@ -311,9 +317,9 @@ module _ (k : RoomKind) (s : Settings) (w : List ℕ) (t : ℕ) where
       still = sets.stillFor k s t rate comparator count mode (heldIn w key)
 
       abbrev ownSet : List (ℕ × Bool)
-      ownSet = sets.setTurns k s (noneFree w) t rate comparator count mode (heldIn w key)
+      ownSet = sets.setTurns k s (noneLeft w (key .caller)) t rate comparator count mode (heldIn w key)
 
-      pub set-does : Bytes key → early k s w t key ≡ 0 → first ownSet ≡ 0 →
+      pub set-does : Bytes (key .bytes) → early k s w t key ≡ 0 → first ownSet ≡ 0 →
           Does k s w t key (placeOf w slot) (setting slot still (limitIn k s rate) count mode)
       set-does by e f =
           let p = passed k s w t key e in
@@ -321,8 +327,8 @@ module _ (k : RoomKind) (s : Settings) (w : List ℕ) (t : ℕ) where
           let l = limitIn k s rate in
           let g = all-false ownSet (omega arith) f in
           let i = idle-is s t (heldIn w key) slot o l count mode comparator in
-          let none : not still && lacksAt w (placeOf w slot) slot ≡ false =
-          ap (λ (z : Bool). not still && z) (lacks-is (windowTicks s) t true (heldIn w key) slot o w) ∙ g .1 .1 .0 in
+          let none : not still && lacksAt (noneLeft w (key .caller)) slot ≡ false =
+          ap (λ (z : Bool). not still && z) (lacks-is (windowTicks s) t true (heldIn w key) slot o (noneLeft w (key .caller))) ∙ g .1 .1 .0 in
           let a = set-applies k s w t key p still l count comparator mode (sym i) (ltb-false mostTotal count (g .1 .0)) none in
           record {
             passed = p;
@@ -331,52 +337,42 @@ module _ (k : RoomKind) (s : Settings) (w : List ℕ) (t : ℕ) where
             stores = set-stores k s w t key p still rate count mode (not-false _ (g .0));
           }
 
-      set-step : Bytes key → Step k s w t (set key rate comparator count mode) (Set.set k s w t key rate comparator count mode .words)
+      set-step : Bytes (key .bytes) → Step k s w t (set key rate comparator count mode) (Set.set k s w t key rate comparator count mode .words)
       unfolding Set.set
       set-step by =
           call-step answers.Refused k s w t (set key rate comparator count mode) key ownSet _
           (λ e f. changed key refl (placeOf w slot) (setting slot still (limitIn k s rate) count mode) (set-does by e f) refl)
 
-  clean-step : (stale : ℕ) → Step k s w t (cleanup stale) (Cleanup.cleanup k s w t stale .words)
-  clean-step stale = go (ℕ-discrete (Cleanup.refusal k s w t) 0)
+  clean-step : (who : Caller) (stale : ℕ) → Step k s w t (cleanup who stale) (Cleanup.cleanup k s w t who stale .words)
+  clean-step who stale = go (ℕ-discrete (Cleanup.refusal k s w t who) 0)
     where
-      go : Dec (Cleanup.refusal k s w t ≡ 0) → Step k s w t (cleanup stale) (Cleanup.cleanup k s w t stale .words)
-      go (yes e) = cleaned stale refl (Cleans.passed k s w t e) (done-words k s w t stale e)
-      go (no n) = refused (refused-words k s w t stale n)
+      go : Dec (Cleanup.refusal k s w t who ≡ 0) → Step k s w t (cleanup who stale) (Cleanup.cleanup k s w t who stale .words)
+      go (yes e) = cleaned stale who refl (Cleans.passed k s w t who e) (done-words k s w t who stale e)
+      go (no n) = refused (refused-words k s w t who stale n)
 
-  -- a clear that is not refused
-  clear-later : Clear.clearRefusal s w t ≡ 0 → lastOf w ≤ t
-  unfolding Clear.unclear
-  clear-later e = go (eqb (first (faults s)) 0) refl
-    where
-      go : (b : Bool) → eqb (first (faults s)) 0 ≡ b → lastOf w ≤ t
-      go true h =
-          let r = sym (first-none (faults s) (Clear.unclear w t) (faults-positive s) (eqb-true _ _ h)) ∙ e in
-          ltb-false t (lastOf w) (all-false (Clear.unclear w t) (omega arith) r .1 .0)
-      go false h = absurd (eqb-false _ _ h (sym (first-found (faults s) (Clear.unclear w t) (eqb-false _ _ h)) ∙ e))
-
-  clear-step : Step k s w t clear (Clear.clear s w t .words)
+  clear-step : (who : Caller) → Step k s w t (clear who) (Clear.clear s w t who .words)
   unfolding unlessRefused
-  clear-step = go (eqb (Clear.clearRefusal s w t) 0) refl
+  clear-step who = go (eqb (Clear.clearRefusal s w t who) 0) refl
     where
-      go : (b : Bool) → eqb (Clear.clearRefusal s w t) 0 ≡ b → Step k s w t clear (cond b (withReading (clearedWords w) t) w)
-      go true h = let e = eqb-true _ 0 h in cleared refl (Clear.clear-room s w t e) (clear-later e) refl
+      go : (b : Bool) → eqb (Clear.clearRefusal s w t who) 0 ≡ b →
+          Step k s w t (clear who) (cond b (withReading (clearedWords w (markOf (who .party))) t) w)
+      go true h = let p = Clear.clear-passed s w t who (eqb-true _ 0 h) in cleared (markOf (who .party)) refl (p .room) (p .later) refl
       go false h = refused refl
 
-both-step : (k : RoomKind) (s : Settings) (w : List ℕ) (t : ℕ) (other : List ℕ) (stale : ℕ) →
-    Step k s w t (cleanupBoth other stale) (cleanedBoth k s w other t stale .words)
+both-step : (k : RoomKind) (s : Settings) (w : List ℕ) (t : ℕ) (who : Caller) (other : List ℕ) (whose : Caller) (stale : ℕ) →
+    Step k s w t (cleanupBoth who other whose stale) (cleanedBoth k s w who other whose t stale .words)
 unfolding Provider.decided
-both-step kind.Absolute s w t other stale = go (eqb (Provider.refusalOfBoth s w other t) 0) refl
+both-step kind.Absolute s w t who other whose stale = go (eqb (Provider.refusalOfBoth s w other t who whose) 0) refl
   where
-    go : (z : Bool) → eqb (Provider.refusalOfBoth s w other t) 0 ≡ z →
-        Step kind.Absolute s w t (cleanupBoth other stale) (cond z (Uses.cleaned w t (ticksIn s) stale) w)
-    go true e = cleaned stale refl (both-passed s w other t (eqb-true _ 0 e) .0) refl
+    go : (z : Bool) → eqb (Provider.refusalOfBoth s w other t who whose) 0 ≡ z →
+        Step kind.Absolute s w t (cleanupBoth who other whose stale) (cond z (Uses.cleaned w t (ticksIn s) stale) w)
+    go true e = cleaned stale who refl (both-passed s w other t who whose (eqb-true _ 0 e) .0) refl
     go false e = refused refl
-both-step kind.Suppressed s w t other stale = go (eqb (Provider.refusalOfBoth s other w t) 0) refl
+both-step kind.Suppressed s w t who other whose stale = go (eqb (Provider.refusalOfBoth s other w t whose who) 0) refl
   where
-    go : (z : Bool) → eqb (Provider.refusalOfBoth s other w t) 0 ≡ z →
-        Step kind.Suppressed s w t (cleanupBoth other stale) (cond z (Uses.cleaned w t (ticksIn s) stale) w)
-    go true e = cleaned stale refl (both-passed s other w t (eqb-true _ 0 e) .1) refl
+    go : (z : Bool) → eqb (Provider.refusalOfBoth s other w t whose who) 0 ≡ z →
+        Step kind.Suppressed s w t (cleanupBoth who other whose stale) (cond z (Uses.cleaned w t (ticksIn s) stale) w)
+    go true e = cleaned stale who refl (both-passed s other w t whose who (eqb-true _ 0 e) .1) refl
     go false e = refused refl
 
 -- ---- every call
@@ -391,6 +387,6 @@ step k s w t (getFactor key) by = factor-step s w t key by
 step k s w t (setRate key rate) by = rate-step k s w t key rate
 step k s w t (set key rate comparator count mode) by = set-step k s w t key rate comparator count mode by
 step k s w t (delete key) by = delete-step k s w t key
-step k s w t (cleanup stale) by = clean-step k s w t stale
-step k s w t (cleanupBoth other stale) by = both-step k s w t other stale
-step k s w t clear by = clear-step k s w t
+step k s w t (cleanup who stale) by = clean-step k s w t who stale
+step k s w t (cleanupBoth who other whose stale) by = both-step k s w t who other whose stale
+step k s w t (clear who) by = clear-step k s w t who

@@ -11,6 +11,7 @@ use Rattle.rules.specs.Buckets.{live}
 use Rattle.ring.specs.declared.Bucket.{Bucket}
 use Rattle.ring.specs.Ring.{buckets}
 use Rattle.room.specs.Room.{slotsOf, ringOf, bodyOf, fits, empty}
+use Rattle.room.specs.Entries.{used-free}
 use Rattle.frame.specs.Distinct.{Distinct}
 use Rattle.frame.specs.Whole.{empty-free, empty-distinct}
 use Rattle.edit.specs.declared.Then.{Then}
@@ -40,7 +41,7 @@ empty-sane kind s slots ring l e = record { sound = empty-sound kind s slots rin
 empty-series : (slots ring i : ℕ) → seriesAt (empty slots ring) i ≡ []
 empty-series slots ring i =
     let w = empty slots ring in
-    ap (λ (u : ℕ). cond (hasSeries u) (buckets (ringOf w) (bodyOf w i)) []) (empty-free slots ring i)
+    ap (λ (u : ℕ). cond (hasSeries u) (buckets (ringOf w) (bodyOf w i)) []) (used-free w i (empty-free slots ring i))
 
 -- ---- any invariant of the words
 

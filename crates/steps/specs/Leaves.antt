@@ -2,13 +2,14 @@
 -- the four rules makes of all of them, of the live ones, or of none.
 -- Assumes nothing.
 use mathlib.Core.Path.{_≡_, refl, sym, ap, ap₂, subst, _∙_}
-use mathlib.Core.Bool.{Bool, true, false, _&&_, cond}
+use mathlib.Core.Bool.{Bool, true, false, _&&_, _||_, cond, false≢true}
 use mathlib.Core.List.{List, []}
 use mathlib.Core.Logic.{_≢_}
 use Prim.Native.Nat.{ℕ, _≤_, _<_}
 use native.Mathlib.Decide.{ℕ-discrete}
 use native.Mathlib.Omega.{arith}
 use lib.ListN.{drop}
+use lib.Dec.{eqb}
 use Rattle.settings.specs.Clock.{ticksIn, windowTicks, joinTicks}
 use Rattle.answers.specs.declared.HistoryPreservation.{HistoryPreservation}
 use Rattle.settings.specs.declared.Settings.{Settings}
@@ -16,11 +17,14 @@ use Rattle.rules.specs.Buckets.{live, gone, joined, replaced, preserved}
 use Rattle.ring.specs.declared.Bucket.{Bucket}
 use Rattle.ring.specs.Ring.{buckets}
 use Rattle.keys.specs.declared.Key.{Key}
-use Rattle.room.specs.Room.{Room, slotsOf, ringOf, lastOf, useOf, keyAt, bodyOf, withReading, cleared as clearedWords}
 use Rattle.keys.specs.Keys.{keyOf}
-use Rattle.frame.specs.Distinct.{Distinct}
-use Rattle.frame.specs.Frame.{Changed, read-run}
+use Rattle.room.specs.Room.{Room, slotsOf, ringOf, lastOf, holderOf, useOf, usedAt, keyAt, bodyOf, withReading, cleared as clearedWords}
+use Rattle.room.specs.Entries.{used-held, used-free, used-ext}
+use Rattle.layout.specs.Layout.{nobody, firstMark, secondMark}
+use Rattle.frame.specs.Distinct.{Distinct, holder-ext, changed-holder}
+use Rattle.frame.specs.Frame.{Changed, key-holder, read-run}
 use Rattle.frame.specs.Whole.{clear-read-run, cleared-distinct}
+use Rattle.parties.specs.Parties.{Sent, keyFor, markOf, isParty}
 use Rattle.change.specs.declared.Change.{Change}
 use Rattle.change.specs.declared.Change.the-variants.{Keep, Free, Update, Take}
 use Rattle.edit.specs.declared.Edit.{Edit}
@@ -32,9 +36,11 @@ use Rattle.edit.specs.BodyLaws.{edited-is}
 use Rattle.rules.specs.declared.RoomKind.{RoomKind}
 use Rattle.opened.specs.declared.Slot.{Slot}
 use Rattle.judge.specs.Judge.{Passed, slotIn}
-use Rattle.opened.specs.Sound.{hasSeries}
+use Rattle.opened.specs.Sound.{hasSeries, addressed}
+use Rattle.opened.specs.Slot.{hasSlot}
+use Rattle.opened.specs.Right.{slot-addressed}
 use Rattle.plan.specs.Known.{series-is}
-use Rattle.calls.specs.Calls.{found-at, known-at}
+use Rattle.calls.specs.Calls.{slot-within, found-at, known-at}
 use Rattle.calls.specs.Applies.{known-has}
 use Rattle.rules.specs.Stale.{seriesStays}
 use Rattle.stale.specs.Uses as Uses
@@ -42,6 +48,7 @@ use Rattle.leaves.specs.Calls.{keep-words, free-changed, update-changed, take-c
 use Rattle.leaves.specs.Cleanup.{clean-run, series-kept, clean-distinct}
 use Rattle.places.specs.Has.{Untouched, changed-untouched}
 use Rattle.places.specs.Placed.{placed-distinct}
+use Rattle.places.specs.SoundRoom.{addressed-held}
 use Rattle.steps.specs.Moves.{Plain, From, opens, keeps, evicts, moves-placed, Does}
 use Rattle.steps.specs.Ops.{Op}
 use Rattle.steps.specs.Step.{Step, refused, changed, cleaned, cleared}
@@ -113,16 +120,38 @@ goes W b t xs ys e = record { from = []; starts = none refl; then = then.Nothing
 
 -- the buckets of slot i's series; none, where it has no series
 abbrev pub seriesAt : List ℕ → ℕ → List Bucket
-seriesAt w i = cond (hasSeries (useOf w i)) (buckets (ringOf w) (bodyOf w i)) []
+seriesAt w i = cond (hasSeries (usedAt w i)) (buckets (ringOf w) (bodyOf w i)) []
 
 -- ---- slots that a change does not address
 
 pub untouched-series : (w v : List ℕ) (i : ℕ) → ringOf v ≡ ringOf w → Untouched w v i → seriesAt v i ≡ seriesAt w i
-untouched-series w v i r o = ap₂ (λ (u : ℕ) (xs : List Bucket). cond (hasSeries u) xs []) (o .used) (ap₂ buckets r (o .body))
+untouched-series w v i r o =
+    ap₂ (λ (u : ℕ) (xs : List Bucket). cond (hasSeries u) xs []) (used-ext w v i (o .holder) (o .used)) (ap₂ buckets r (o .body))
+
+-- ---- a slot of the key is in use, and a party's mark is not nobody's
+
+pub owned-held : (kind : RoomKind) (s : Settings) (w : List ℕ) (t : ℕ) (key : Sent) → Passed kind s w t key → hasSlot (slotIn s w t key) ≡ true →
+    holderOf w (slotIn s w t key .at) ≢ 0
+owned-held kind s w t key p e =
+    let q : slotIn s w t key .at ≡ addressed w key = slot-addressed (windowTicks s) t w key in
+    subst (λ (i : ℕ). holderOf w i ≢ 0) (sym q) (addressed-held w key (subst (λ (i : ℕ). i < slotsOf w) q (slot-within kind s w t key p e)))
+
+-- who holds a key that is sent
+pub sent-holder : (key : Sent) → keyFor key .holder ≡ markOf (key .caller .party)
+unfolding keyOf
+sent-holder key = refl
+
+pub mark-some : (party : ℕ) → isParty party ≡ true → markOf party ≢ 0
+mark-some party e = go (eqb party 1) (eqb party 2) e
+  where
+    go : (a b : Bool) → a || b ≡ true → cond a firstMark (cond b secondMark nobody) ≢ 0
+    go true b e = omega arith
+    go false true e = omega arith
+    go false false e = absurd (false≢true e)
 
 -- ---- a change of a key's slot
 
-module _ (kind : RoomKind) (s : Settings) (w : List ℕ) (t : ℕ) (key : List ℕ) (at : ℕ) where
+module _ (kind : RoomKind) (s : Settings) (w : List ℕ) (t : ℕ) (key : Sent) (at : ℕ) where
   abbrev x : Slot
   x = slotIn s w t key
 
@@ -139,7 +168,8 @@ module _ (kind : RoomKind) (s : Settings) (w : List ℕ) (t : ℕ) (key : List �
   pub keep-untouched : Room w → (i : ℕ) → i < slotsOf w → Untouched w (after Keep) i
   keep-untouched o i h =
       let c = read-run w i t o h in
-      subst (λ (v : List ℕ). Untouched w v i) (sym (keep-words w at key b t)) (record { used = c .used; key = c .key; body = c .body })
+      subst (λ (v : List ℕ). Untouched w v i) (sym (keep-words w at key b t))
+      (record { holder = holder-ext w (withReading w t) i (c .key); used = c .used; key = c .key; body = c .body })
 
   -- (a) every other slot's entry and body are as before
   pub others : (change : Change) → Does kind s w t key at change → (i : ℕ) → i < slotsOf w → i ≢ at → Untouched w (after change) i
@@ -170,8 +200,11 @@ module _ (kind : RoomKind) (s : Settings) (w : List ℕ) (t : ℕ) (key : List �
   view = buckets (ringOf w) (bodyOf w at)
 
   module _ (p : Passed kind s w t key) where
-    series-was : x .series ≡ true → x .at ≡ at → hasSeries (useOf w at) ≡ true
-    series-was e q = subst (λ (i : ℕ). hasSeries (useOf w i) ≡ true) q (sym (series-is kind s w t (x .at) x (found-at kind s w t key p (known-has x e))) ∙ e)
+    series-was : x .series ≡ true → x .at ≡ at → hasSeries (usedAt w at) ≡ true
+    series-was e q =
+        subst (λ (i : ℕ). hasSeries (usedAt w i) ≡ true) q
+        (ap hasSeries (used-held w (x .at) (owned-held kind s w t key p (known-has x e))) ∙
+        sym (series-is kind s w t (x .at) x (found-at kind s w t key p (known-has x e))) ∙ e)
 
     seen : x .series ≡ true → x .at ≡ at → seriesAt w at ≡ view
     seen e q = ap (λ (z : Bool). cond z (buckets (ringOf w) (bodyOf w at)) []) (series-was e q)
@@ -195,35 +228,41 @@ module _ (kind : RoomKind) (s : Settings) (w : List ℕ) (t : ℕ) (key : List �
         subst (λ (i : ℕ). x .pass .expired ≡ gone W t (buckets (ringOf w) (bodyOf w i))) q (known-at kind s w t key p h .measured .expired-are) in
         preserving-all (e .then) (ap (λ (y : Bool). cond y [] (drop (e .gone) view)) z ∙ ap (λ (n : ℕ). drop n view) (g ∙ m) ∙ ap (live W t) (sym (seen h q)))
 
-  edit-becomes : (v : List ℕ) (e : Edit) (k : Key) → EditsAt w at b t e → Changed w v at (e .used) k (edited (ringOf w) b t (bodyOf w at) e) t →
+  edit-becomes : (v : List ℕ) (e : Edit) (k : Key) → k .holder ≢ 0 → EditsAt w at b t e → Changed w v at (e .used) k (edited (ringOf w) b t (bodyOf w at) e) t →
       Starts W t (seriesAt w at) (startedView e view) →
       Preserving (e .then) (startedView e view ≡ live W t (seriesAt w at)) → Becomes W b t (seriesAt w at) (seriesAt v at)
   unfolding editedView
-  edit-becomes v e k o c f g = go (hasSeries (e .used)) refl
+  edit-becomes v e k m o c f g = go (hasSeries (e .used)) refl
     where
+      here-used : usedAt v at ≡ e .used
+      here-used = used-held v at (λ z. m (sym (changed-holder c) ∙ z)) ∙ c .used
+
       go : (z : Bool) → hasSeries (e .used) ≡ z → Becomes W b t (seriesAt w at) (seriesAt v at)
       go true h = record {
         from = startedView e view;
         starts = f;
         then = e .then;
-        acts = ap (λ (z : Bool). cond z (buckets (ringOf v) (bodyOf v at)) []) (ap (λ (u : ℕ). hasSeries u) (c .used) ∙ h) ∙
+        acts = ap (λ (z : Bool). cond z (buckets (ringOf v) (bodyOf v at)) []) (ap (λ (u : ℕ). hasSeries u) here-used ∙ h) ∙
             ap₂ buckets (c .ring) (c .body) ∙
             edited-is (ringOf w) b t (bodyOf w at) e (o .edits) .view;
         only = g;
       }
-      go false h = goes W b t _ _ (ap (λ (z : Bool). cond z (buckets (ringOf v) (bodyOf v at)) []) (ap (λ (u : ℕ). hasSeries u) (c .used) ∙ h))
+      go false h = goes W b t _ _ (ap (λ (z : Bool). cond z (buckets (ringOf v) (bodyOf v at)) []) (ap (λ (u : ℕ). hasSeries u) here-used ∙ h))
 
   here-becomes : (change : Change) → Does kind s w t key at change → at < slotsOf w → Becomes W b t (seriesAt w at) (seriesAt (after change) at)
   unfolding startedView
   here-becomes Keep d h = stays W b t _ _ (untouched-series w (after Keep) at (around Keep d .ring) (keep-untouched (d .applies) at h))
   here-becomes Free d h =
       let c = free-changed w at key b t (d .applies .room) (d .applies .inside) in
-      goes W b t _ _ (ap (λ (u : ℕ). cond (hasSeries u) (buckets (ringOf (after Free)) (bodyOf (after Free) at)) []) (c .used))
+      goes W b t _ _ (ap (λ (u : ℕ). cond (hasSeries u) (buckets (ringOf (after Free)) (bodyOf (after Free) at)) [])
+      (used-free (after Free) at (changed-holder c)))
   here-becomes (Update e) d h =
-      edit-becomes (after (Update e)) e (keyAt w at) (d .applies) (update-changed w at key b t e (d .applies))
+      edit-becomes (after (Update e)) e (keyAt w at) (λ z. d .moves .owns .held (sym (key-holder w at) ∙ z)) (d .applies)
+      (update-changed w at key b t e (d .applies))
       (starts (d .passed) e (d .moves .place) (d .moves .from)) (starts-only (d .passed) e (d .moves .place) (d .moves .from))
   here-becomes (Take e) d h =
-      edit-becomes (after (Take e)) e (keyOf key) (d .applies) (take-changed w at key b t e (d .applies))
+      edit-becomes (after (Take e)) e (keyFor key) (λ z. mark-some (key .caller .party) (d .passed .party) (sym (sent-holder key) ∙ z)) (d .applies)
+      (take-changed w at key b t e (d .applies))
       (none (ap (λ (y : Bool). cond y [] (drop (e .gone) view)) (d .moves .begins)))
       (preserving-plain _ (e .then) (d .moves .plain))
 
@@ -261,31 +300,40 @@ module _ (kind : RoomKind) (s : Settings) (w : List ℕ) (t : ℕ) (op : Op kind
         slots = a .slots;
         ring = a .ring;
         later = omega (arith, a .last, d .passed .later);
-        distinct = λ q. placed-distinct w at key (joinTicks s) t q change (d .applies) (moves-placed (slotIn s w t key) w (keyOf key) at change (d .moves));
+        distinct = λ q. placed-distinct w at key (joinTicks s) t q change (d .applies) (moves-placed (slotIn s w t key) w (keyFor key) at change (d .moves));
       })
-  step-leaves o (cleaned stale z p e) =
+  step-leaves o (cleaned stale who z p e) =
       let c = clean-run w t (ticksIn s) stale (p .room) in
       subst (λ (y : List ℕ). Leaves w y) (sym e)
       (record { room = c .room; slots = c .slots; ring = c .ring; later = omega (arith, c .last, p .later); distinct = clean-distinct c })
-  step-leaves o (cleared z r l e) =
-      let c = clear-read-run w r t in
+  step-leaves o (cleared m z r l e) =
+      let c = clear-read-run w m r t in
       subst (λ (y : List ℕ). Leaves w y) (sym e)
-      (record { room = c .room; slots = c .slots; ring = c .ring; later = omega (arith, c .last); distinct = λ d. cleared-distinct w _ t c })
+      (record { room = c .room; slots = c .slots; ring = c .ring; later = omega (arith, c .last); distinct = cleared-distinct w _ m t c })
 
   pub step-becomes : Step kind s w t op v → (i : ℕ) → i < slotsOf w → Becomes (windowTicks s) (joinTicks s) t (seriesAt w i) (seriesAt v i)
   step-becomes (refused e) i h = stays (windowTicks s) (joinTicks s) t _ _ (ap (λ (y : List ℕ). seriesAt y i) e)
   step-becomes (changed key who at change d e) i h =
       subst (λ (y : List ℕ). Becomes (windowTicks s) (joinTicks s) t (seriesAt w i) (seriesAt y i)) (sym e) (change-becomes kind s w t key at change d i h)
-  step-becomes (cleaned stale z p e) i h =
+  step-becomes (cleaned stale who z p e) i h =
       let y = Uses.cleaned w t (ticksIn s) stale in
       let c = clean-run w t (ticksIn s) stale (p .room) in
       let stood = seriesStays (buckets (ringOf w) (bodyOf w i)) t (ticksIn s) stale in
-      let q : seriesAt y i ≡ cond (hasSeries (useOf w i) && stood) (buckets (ringOf y) (bodyOf y i)) [] =
+      let q : seriesAt y i ≡ cond (hasSeries (usedAt w i) && stood) (buckets (ringOf y) (bodyOf y i)) [] =
       ap (λ (z : Bool). cond z (buckets (ringOf y) (bodyOf y i)) []) (series-kept c i h) in
       subst (λ (ys : List Bucket). Becomes (windowTicks s) (joinTicks s) t (seriesAt w i) ys) (sym (ap (λ (y : List ℕ). seriesAt y i) e ∙ q))
-      (clean-goes (windowTicks s) (joinTicks s) t (hasSeries (useOf w i)) stood _ _ (ap₂ buckets (c .ring) (c .bodies i)))
-  step-becomes (cleared z r l e) i h =
-      let y = withReading (clearedWords w) t in
-      let c = clear-read-run w r t in
-      goes (windowTicks s) (joinTicks s) t _ _
-      (ap (λ (y : List ℕ). seriesAt y i) e ∙ ap (λ (u : ℕ). cond (hasSeries u) (buckets (ringOf y) (bodyOf y i)) []) (c .free i h))
+      (clean-goes (windowTicks s) (joinTicks s) t (hasSeries (usedAt w i)) stood _ _ (ap₂ buckets (c .ring) (c .bodies i)))
+  step-becomes (cleared m z r l e) i h = go (ℕ-discrete (holderOf w i) m)
+    where
+      go : Dec (holderOf w i ≡ m) → Becomes (windowTicks s) (joinTicks s) t (seriesAt w i) (seriesAt v i)
+      go (yes q) =
+          let y = withReading (clearedWords w m) t in
+          let c = clear-read-run w m r t in
+          goes (windowTicks s) (joinTicks s) t _ _
+          (ap (λ (y : List ℕ). seriesAt y i) e ∙ ap (λ (u : ℕ). cond (hasSeries u) (buckets (ringOf y) (bodyOf y i)) []) (used-free y i (c .free i h q)))
+      go (no q) =
+          let y = withReading (clearedWords w m) t in
+          let c = clear-read-run w m r t in
+          stays (windowTicks s) (joinTicks s) t _ _
+          (ap (λ (y : List ℕ). seriesAt y i) e ∙
+          untouched-series w y i (c .ring) (record { holder = c .stays i h q; used = c .uses i; key = c .keys i h q; body = c .bodies i }))

@@ -12,7 +12,8 @@ use Rattle.settings.specs.Settings.{windowIn, factorIn}
 use Rattle.settings.specs.Clock.{joinTicks}
 use Rattle.settings.specs.declared.Settings.{Settings}
 use Rattle.keys.specs.declared.Key.{Key}
-use Rattle.keys.specs.Keys.{keyOf, keyFits}
+use Rattle.keys.specs.Keys.{keyFits}
+use Rattle.parties.specs.Parties.{Sent, keyFor}
 use Rattle.change.specs.declared.Change.{Change}
 use Rattle.change.specs.declared.Change.the-variants.{Keep, Free, Update, Take}
 use Rattle.edit.specs.declared.Edit.{Edit}
@@ -85,9 +86,9 @@ moves-placed x w k at Free m = m
 moves-placed x w k at (Update e) m = m .owns
 moves-placed x w k at (Take e) m = m .lacks
 
--- a call that passed refusals 1 to 7, and its change
-pub record Does (kind : RoomKind) (s : Settings) (w : List ℕ) (t : ℕ) (key : List ℕ) (at : ℕ) (change : Change) : Type 0 where
+-- a call that passed refusals 1 to 7, 15 and 16, and its change
+pub record Does (kind : RoomKind) (s : Settings) (w : List ℕ) (t : ℕ) (key : Sent) (at : ℕ) (change : Change) : Type 0 where
   pub passed : Passed kind s w t key
   pub applies : Applies w at (joinTicks s) t change
-  pub moves : Moves (slotIn s w t key) w (keyOf key) at change
+  pub moves : Moves (slotIn s w t key) w (keyFor key) at change
   pub stores : Stores kind s t change

@@ -17,6 +17,8 @@ use Rattle.answers.specs.declared.HistoryUpdateMode.{HistoryUpdateMode}
 use Rattle.settings.specs.declared.Settings.{Settings}
 use Rattle.common.specs.declared.units.RateLimit.{RateLimit}
 use Rattle.frame.specs.Keys.{Bytes}
+use Rattle.parties.specs.declared.Caller.{Caller}
+use Rattle.parties.specs.Parties.{Sent, markOf}
 use Rattle.rules.specs.declared.RoomKind.{RoomKind}
 use Rattle.rules.specs.declared.RoomKind.the-variants.{Absolute, Suppressed}
 use Rattle.judge.specs.Verdict.{Verdict, verdict}
@@ -31,21 +33,21 @@ use Rattle.provider.specs.Provider as Provider
 
 pub data Op : RoomKind → Type 0 where
   -- key, rate, count
-  inc : List ℕ → RateLimit → ℕ → Op Absolute
-  isAllowed : List ℕ → Op Absolute
-  get : List ℕ → Op Absolute
+  inc : Sent → RateLimit → ℕ → Op Absolute
+  isAllowed : Sent → Op Absolute
+  get : Sent → Op Absolute
   -- key, rate, count, draw
-  draws : List ℕ → RateLimit → ℕ → ℕ → Op Suppressed
-  snapshot : List ℕ → Op Suppressed
-  getFactor : List ℕ → Op Suppressed
+  draws : Sent → RateLimit → ℕ → ℕ → Op Suppressed
+  snapshot : Sent → Op Suppressed
+  getFactor : Sent → Op Suppressed
   -- of either kind
-  setRate : {kind : RoomKind} → List ℕ → RateLimit → Op kind
-  set : {kind : RoomKind} → List ℕ → RateLimit → RateLimitComparator → ℕ → HistoryUpdateMode → Op kind
-  delete : {kind : RoomKind} → List ℕ → Op kind
-  -- the stale time; and the provider's cleanup, which the words of the other room come with
-  cleanup : {kind : RoomKind} → ℕ → Op kind
-  cleanupBoth : {kind : RoomKind} → List ℕ → ℕ → Op kind
-  clear : {kind : RoomKind} → Op kind
+  setRate : {kind : RoomKind} → Sent → RateLimit → Op kind
+  set : {kind : RoomKind} → Sent → RateLimit → RateLimitComparator → ℕ → HistoryUpdateMode → Op kind
+  delete : {kind : RoomKind} → Sent → Op kind
+  -- the caller and the stale time; and the provider's cleanup, which the words of the other room and that room's caller come with
+  cleanup : {kind : RoomKind} → Caller → ℕ → Op kind
+  cleanupBoth : {kind : RoomKind} → Caller → List ℕ → Caller → ℕ → Op kind
+  clear : {kind : RoomKind} → Caller → Op kind
 
 -- ---- the answer, and its row of five numbers: the first is the refusal's number, or 0
 
@@ -59,9 +61,9 @@ Answer (getFactor key) = FactorAnswer
 Answer (setRate key rate) = OldRateAnswer
 Answer (set key rate comparator count mode) = SetAnswer
 Answer (delete key) = DeleteAnswer
-Answer (cleanup stale) = DoneAnswer
-Answer (cleanupBoth other stale) = DoneAnswer
-Answer clear = DoneAnswer
+Answer (cleanup who stale) = DoneAnswer
+Answer (cleanupBoth who other whose stale) = DoneAnswer
+Answer (clear who) = DoneAnswer
 
 abbrev pub rowOf : {kind : RoomKind} → (op : Op kind) → Answer op → List ℕ
 rowOf (inc key rate count) = decisionRow
@@ -73,16 +75,16 @@ rowOf (getFactor key) = factorRow
 rowOf (setRate key rate) = oldRateRow
 rowOf (set key rate comparator count mode) = setRow
 rowOf (delete key) = deleteRow
-rowOf (cleanup stale) = doneRow
-rowOf (cleanupBoth other stale) = doneRow
-rowOf clear = doneRow
+rowOf (cleanup who stale) = doneRow
+rowOf (cleanupBoth who other whose stale) = doneRow
+rowOf (clear who) = doneRow
 
 -- ---- the verdict that the call's contract names
 
 -- the provider's cleanup, as a room of this kind sees it
-abbrev pub cleanedBoth : RoomKind → Settings → List ℕ → List ℕ → ℕ → ℕ → Verdict DoneAnswer
-cleanedBoth Absolute s w other t stale = let v = Provider.cleanup s w other t stale in verdict (v .answer) (v .absolute)
-cleanedBoth Suppressed s w other t stale = let v = Provider.cleanup s other w t stale in verdict (v .answer) (v .suppressed)
+abbrev pub cleanedBoth : RoomKind → Settings → List ℕ → Caller → List ℕ → Caller → ℕ → ℕ → Verdict DoneAnswer
+cleanedBoth Absolute s w who other whose t stale = let v = Provider.cleanup s w other t who whose stale in verdict (v .answer) (v .absolute)
+cleanedBoth Suppressed s w who other whose t stale = let v = Provider.cleanup s other w t whose who stale in verdict (v .answer) (v .suppressed)
 
 abbrev pub verdictOf : (kind : RoomKind) → Settings → List ℕ → ℕ → (op : Op kind) → Verdict (Answer op)
 verdictOf kind s w t (inc key rate count) = OnAbsolute.inc s w t key rate count
@@ -94,9 +96,9 @@ verdictOf kind s w t (getFactor key) = OnSuppressed.getFactor s w t key
 verdictOf kind s w t (setRate key rate) = Rate.setRateLimit kind s w t key rate
 verdictOf kind s w t (set key rate comparator count mode) = Set.set kind s w t key rate comparator count mode
 verdictOf kind s w t (delete key) = Delete.delete kind s w t key
-verdictOf kind s w t (cleanup stale) = Cleanup.cleanup kind s w t stale
-verdictOf kind s w t (cleanupBoth other stale) = cleanedBoth kind s w other t stale
-verdictOf kind s w t clear = Clear.clear s w t
+verdictOf kind s w t (cleanup who stale) = Cleanup.cleanup kind s w t who stale
+verdictOf kind s w t (cleanupBoth who other whose stale) = cleanedBoth kind s w who other whose t stale
+verdictOf kind s w t (clear who) = Clear.clear s w t who
 
 abbrev pub after : (kind : RoomKind) → Settings → List ℕ → ℕ → Op kind → List ℕ
 after kind s w t op = verdictOf kind s w t op .words
@@ -110,25 +112,25 @@ answerNumber kind s w t op = numberOf (answerRow kind s w t op)
 -- ---- a key that may enter the room is one of bytes, of any number
 
 abbrev pub Keyed : {kind : RoomKind} → Op kind → Type 0
-Keyed (inc key rate count) = Bytes key
+Keyed (inc key rate count) = Bytes (key .bytes)
 Keyed (isAllowed key) = Unit {0}
 Keyed (get key) = Unit {0}
-Keyed (draws key rate count draw) = Bytes key
+Keyed (draws key rate count draw) = Bytes (key .bytes)
 Keyed (snapshot key) = Unit {0}
-Keyed (getFactor key) = Bytes key
+Keyed (getFactor key) = Bytes (key .bytes)
 Keyed (setRate key rate) = Unit {0}
-Keyed (set key rate comparator count mode) = Bytes key
+Keyed (set key rate comparator count mode) = Bytes (key .bytes)
 Keyed (delete key) = Unit {0}
-Keyed (cleanup stale) = Unit {0}
-Keyed (cleanupBoth other stale) = Unit {0}
-Keyed clear = Unit {0}
+Keyed (cleanup who stale) = Unit {0}
+Keyed (cleanupBoth who other whose stale) = Unit {0}
+Keyed (clear who) = Unit {0}
 
--- ---- what a call may touch: the slot of the key that it names, what is stale, or the whole room
+-- ---- what a call may touch: the slot of the key that it names, what is stale, or all slots with the mark of its party
 
 pub data Touch : Type 0 where
-  slotOf : List ℕ → Touch
+  slotOf : Sent → Touch
   staleBy : ℕ → Touch
-  whole : Touch
+  whole : ℕ → Touch
 
 abbrev pub touches : {kind : RoomKind} → Op kind → Touch
 touches (inc key rate count) = slotOf key
@@ -140,9 +142,9 @@ touches (getFactor key) = slotOf key
 touches (setRate key rate) = slotOf key
 touches (set key rate comparator count mode) = slotOf key
 touches (delete key) = slotOf key
-touches (cleanup stale) = staleBy stale
-touches (cleanupBoth other stale) = staleBy stale
-touches clear = whole
+touches (cleanup who stale) = staleBy stale
+touches (cleanupBoth who other whose stale) = staleBy stale
+touches (clear who) = whole (markOf (who .party))
 
 -- ---- histories
 

@@ -18,10 +18,10 @@ use Rattle.judge.specs.Verdict.{Verdict, unlessRefused}
 
 -- ---- the order of judging
 
--- document 01: "Lowest number first"; document 02, ticket 12: 19, 20, 21 "judged in that order before the limiter is asked"; ticket 2: 13 "is shown never to
--- occur and its number is not used again"
+-- document 01: "Lowest number first"; document 02, ticket 12: 19, 20, 21 "judged in that order before the limiter is asked"; ticket 6: 15 and 16 "judged
+-- after 7 in that order"; ticket 2: 13 "is shown never to occur and its number is not used again"
 abbrev pub order : List ℕ
-order = 19 ∷ 20 ∷ 21 ∷ 1 ∷ 2 ∷ 3 ∷ 4 ∷ 5 ∷ 6 ∷ 7 ∷ 8 ∷ 9 ∷ 10 ∷ 11 ∷ 12 ∷ 14 ∷ []
+order = 19 ∷ 20 ∷ 21 ∷ 1 ∷ 2 ∷ 3 ∷ 4 ∷ 5 ∷ 6 ∷ 7 ∷ 15 ∷ 16 ∷ 8 ∷ 9 ∷ 10 ∷ 11 ∷ 12 ∷ 14 ∷ []
 
 -- how many stand before n in a list; all of them where it does not stand there
 abbrev pub before : List ℕ → ℕ → ℕ

@@ -7,6 +7,7 @@ use Prim.Native.Nat.{ℕ}
 use native.Mathlib.Omega.{arith}
 use lib.Dec.{leb, eqb}
 use borrow.Author.Tests.{le-leb}
+use Rattle.parties.specs.Parties.{Sent}
 use Rattle.base.specs.Decides.{true-and}
 use Rattle.suppression.specs.Factor.{factorWordOk}
 use Rattle.common.specs.Limits.{limitOk, absoluteWord}
@@ -91,7 +92,7 @@ reset-limit : (x : Slot) (limit count : ℕ) (m : HistoryUpdateMode) → reset x
 reset-limit x limit count mode.Replace = refl
 reset-limit x limit count (mode.Preserve p) = refl
 
-module _ (k : RoomKind) (s : Settings) (w : List ℕ) (t : ℕ) (key : List ℕ) (p : Passed k s w t key) where
+module _ (k : RoomKind) (s : Settings) (w : List ℕ) (t : ℕ) (key : Sent) (p : Passed k s w t key) where
   abbrev x : Slot
   x = slotIn s w t key
 
@@ -168,7 +169,7 @@ module _ (k : RoomKind) (s : Settings) (w : List ℕ) (t : ℕ) (key : List ℕ)
 
 -- ---- absolute
 
-module _ (s : Settings) (w : List ℕ) (t : ℕ) (key : List ℕ) (p : Passed kind.Absolute s w t key) where
+module _ (s : Settings) (w : List ℕ) (t : ℕ) (key : Sent) (p : Passed kind.Absolute s w t key) where
   abbrev slot : Slot
   slot = slotIn s w t key
 
@@ -221,7 +222,7 @@ either-stores : (s : Settings) (t : ℕ) (z : Bool) (e : Edit) → Right kind.Su
 either-stores s t true e r = r
 either-stores s t false e r = r
 
-module _ (s : Settings) (w : List ℕ) (t : ℕ) (key : List ℕ) (p : Passed kind.Suppressed s w t key) where
+module _ (s : Settings) (w : List ℕ) (t : ℕ) (key : Sent) (p : Passed kind.Suppressed s w t key) where
   abbrev y : Slot
   y = slotIn s w t key
 

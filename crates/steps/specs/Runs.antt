@@ -8,6 +8,7 @@ use Rattle.answers.specs.declared.DoneAnswer.{DoneAnswer}
 use Rattle.settings.specs.declared.Settings.{Settings}
 use Rattle.rules.specs.declared.RoomKind.{RoomKind}
 use Rattle.rules.specs.declared.RoomKind.the-variants.{Absolute, Suppressed}
+use Rattle.parties.specs.declared.Caller.{Caller}
 use Rattle.judge.specs.Verdict.{Told}
 use Rattle.provider.specs.Provider as Provider
 use Rattle.steps.specs.Ops.{Op, cleanupBoth, Answer, rowOf, verdictOf, Call, words, rows, after, answerRow}
@@ -57,13 +58,13 @@ run-history kind s w (m ∷ ms) r =
 
 -- ---- the provider's cleanup has a contract of both rooms: it meets each room's
 
-pub record BothTold (s : Settings) (a b : List ℕ) (t stale : ℕ) (r : DoneAnswer) (x y : List ℕ) : Type 0 where
-  pub absolute : Told (verdictOf Absolute s a t (cleanupBoth b stale)) r x
-  pub suppressed : Told (verdictOf Suppressed s b t (cleanupBoth a stale)) r y
+pub record BothTold (s : Settings) (a b : List ℕ) (t : ℕ) (c d : Caller) (stale : ℕ) (r : DoneAnswer) (x y : List ℕ) : Type 0 where
+  pub absolute : Told (verdictOf Absolute s a t (cleanupBoth c b d stale)) r x
+  pub suppressed : Told (verdictOf Suppressed s b t (cleanupBoth d a c stale)) r y
 
-pub both-told : (s : Settings) (a b : List ℕ) (t stale : ℕ) (r : DoneAnswer) (x y : List ℕ) → Provider.Told (Provider.cleanup s a b t stale) r x y →
-    BothTold s a b t stale r x y
-both-told s a b t stale r x y o = record {
+pub both-told : (s : Settings) (a b : List ℕ) (t : ℕ) (c d : Caller) (stale : ℕ) (r : DoneAnswer) (x y : List ℕ) →
+    Provider.Told (Provider.cleanup s a b t c d stale) r x y → BothTold s a b t c d stale r x y
+both-told s a b t c d stale r x y o = record {
   absolute = record { answer = o .answer; words = o .absolute };
   suppressed = record { answer = o .answer; words = o .suppressed };
 }

@@ -43,7 +43,9 @@ use Rattle.rules.specs.Absolute.{pickDecision}
 use Rattle.rules.specs.Suppressed as suppressed
 use Rattle.rules.specs.Sets as shared
 use Rattle.room.specs.Room.{ringOf}
-use Rattle.judge.specs.Held.{heldIn, noneFree}
+use Rattle.parties.specs.declared.Caller.{Caller}
+use Rattle.parties.specs.Parties.{Sent, noneLeft, turns}
+use Rattle.judge.specs.Held.{heldIn}
 use Rattle.judge.specs.Judge.{misfits, refusals}
 use Rattle.suppressed_verdicts.specs.Calls as Suppressed
 use Rattle.rules.specs.declared.Asked.{Asked}
@@ -55,43 +57,45 @@ use Rattle.steps.specs.Order.{met, TurnedBy, InOrder, turned-by, judge-t
 use Rattle.steps.specs.Ops as Ops
 use Rattle.steps.specs.Ops.{Op, cleanedBoth, after, answerRow, answerNumber}
 
--- ---- each call's table: 1 to 4 judge the settings (`faults`), 5 to 7 the room, the reading and the key (`misfits`), and then come the call's own
+-- ---- each call's table: 1 to 4 judge the settings (`faults`), 5 to 7, 15 and 16 the room, the reading, the key and the caller (`misfits`),
+-- and then come the call's own
 
 -- 8, 10, 11, 12: an absolute rejection goes before 10 to 12
-abbrev pub absoluteInc : Settings → List ℕ → ℕ → List ℕ → RateLimit → ℕ → List (ℕ × Bool)
-absoluteInc s w t key rate count = refusals kind.Absolute s w t key (absolute.incTurns s (ringOf w) (noneFree w) t rate count (heldIn w key))
+abbrev pub absoluteInc : Settings → List ℕ → ℕ → Sent → RateLimit → ℕ → List (ℕ × Bool)
+absoluteInc s w t key rate count = refusals kind.Absolute s w t key (absolute.incTurns s (ringOf w) (noneLeft w (key .caller)) t rate count (heldIn w key))
 
 -- no other
-abbrev pub plain : RoomKind → Settings → List ℕ → ℕ → List ℕ → List (ℕ × Bool)
+abbrev pub plain : RoomKind → Settings → List ℕ → ℕ → Sent → List (ℕ × Bool)
 plain kind s w t key = refusals kind s w t key []
 
 -- 8 to 12
-abbrev pub suppressedInc : Settings → List ℕ → ℕ → List ℕ → RateLimit → ℕ → ℕ → List (ℕ × Bool)
+abbrev pub suppressedInc : Settings → List ℕ → ℕ → Sent → RateLimit → ℕ → ℕ → List (ℕ × Bool)
 suppressedInc s w t key rate count draw =
-    refusals kind.Suppressed s w t key (suppressed.incTurns s (ringOf w) (noneFree w) t rate count draw (heldIn w key))
+    refusals kind.Suppressed s w t key (suppressed.incTurns s (ringOf w) (noneLeft w (key .caller)) t rate count draw (heldIn w key))
 
 -- 11
-abbrev pub suppressedFactor : Settings → List ℕ → ℕ → List ℕ → List (ℕ × Bool)
-suppressedFactor s w t key = refusals kind.Suppressed s w t key (suppressed.factorTurns (noneFree w) (heldIn w key))
+abbrev pub suppressedFactor : Settings → List ℕ → ℕ → Sent → List (ℕ × Bool)
+suppressedFactor s w t key = refusals kind.Suppressed s w t key (suppressed.factorTurns (noneLeft w (key .caller)) (heldIn w key))
 
 -- 8
-abbrev pub setRate : RoomKind → Settings → List ℕ → ℕ → List ℕ → RateLimit → List (ℕ × Bool)
+abbrev pub setRate : RoomKind → Settings → List ℕ → ℕ → Sent → RateLimit → List (ℕ × Bool)
 setRate kind s w t key rate = refusals kind s w t key (shared.rateTurns rate)
 
 -- 8, 10, 11
-abbrev pub sets : RoomKind → Settings → List ℕ → ℕ → List ℕ → RateLimit → RateLimitComparator → ℕ → HistoryUpdateMode → List (ℕ × Bool)
-sets kind s w t key rate comparator count mode = refusals kind s w t key (shared.setTurns kind s (noneFree w) t rate comparator count mode (heldIn w key))
+abbrev pub sets : RoomKind → Settings → List ℕ → ℕ → Sent → RateLimit → RateLimitComparator → ℕ → HistoryUpdateMode → List (ℕ × Bool)
+sets kind s w t key rate comparator count mode =
+    refusals kind s w t key (shared.setTurns kind s (noneLeft w (key .caller)) t rate comparator count mode (heldIn w key))
 
--- 1 to 4, then 5 of the lengths alone, and 6
-abbrev pub clears : Settings → List ℕ → ℕ → List (ℕ × Bool)
-clears s w t = faults s ++ Clear.unclear w t
+-- 1 to 4, then 5 of the lengths and whose the slots are alone, 6, 15 and 16
+abbrev pub clears : Settings → List ℕ → ℕ → Caller → List (ℕ × Bool)
+clears s w t who = faults s ++ Clear.unclear w t who
 
--- 1 to 4, then 5 of the lengths and every slot in use, and 6; of one room, and of both
-abbrev pub cleans : RoomKind → Settings → List ℕ → ℕ → List (ℕ × Bool)
-cleans kind s w t = faults s ++ Cleanup.misfits kind s w t
+-- 1 to 4, then 5 of the lengths and every slot in use, 6, 15 and 16; of one room, and of both
+abbrev pub cleans : RoomKind → Settings → List ℕ → ℕ → Caller → List (ℕ × Bool)
+cleans kind s w t who = faults s ++ Cleanup.misfits kind s w t who
 
-abbrev pub cleansBoth : Settings → List ℕ → List ℕ → ℕ → List (ℕ × Bool)
-cleansBoth s a b t = faults s ++ eitherMisfits s a b t
+abbrev pub cleansBoth : Settings → List ℕ → List ℕ → ℕ → Caller → Caller → List (ℕ × Bool)
+cleansBoth s a b t c d = faults s ++ eitherMisfits s a b t c d
 
 -- ---- answers that are no refusal have number 0
 
@@ -135,29 +139,29 @@ deleted-0 s t h = either-0 deleteRow (h .known) _ _ refl (either-0 deleteRow (h 
 
 -- ---- both rooms
 
-pub both-turned : (s : Settings) (a b : List ℕ) (t stale : ℕ) →
-    TurnedBy {B = List ℕ × List ℕ} (cleansBoth s a b t) (doneRow (Provider.cleanup s a b t stale .answer)) (a, b)
-    (Provider.cleanup s a b t stale .absolute, Provider.cleanup s a b t stale .suppressed)
+pub both-turned : (s : Settings) (a b : List ℕ) (t : ℕ) (c d : Caller) (stale : ℕ) →
+    TurnedBy {B = List ℕ × List ℕ} (cleansBoth s a b t c d) (doneRow (Provider.cleanup s a b t c d stale .answer)) (a, b)
+    (Provider.cleanup s a b t c d stale .absolute, Provider.cleanup s a b t c d stale .suppressed)
 unfolding Provider.decided doneRow faults
-both-turned s a b t stale =
-    let e : Provider.refusalOfBoth s a b t ≡ first (cleansBoth s a b t) = both-by-table s a b t in
-    turned-by (cleansBoth s a b t) _ _ _ (omega arith)
-    (λ z. rw (e, ne-eqb (first (cleansBoth s a b t)) 0 z))
-    (λ z. rw (e, eq-eqb (first (cleansBoth s a b t)) 0 z))
-    (λ z. rw (e, ne-eqb (first (cleansBoth s a b t)) 0 z))
+both-turned s a b t c d stale =
+    let e : Provider.refusalOfBoth s a b t c d ≡ first (cleansBoth s a b t c d) = both-by-table s a b t c d in
+    turned-by (cleansBoth s a b t c d) _ _ _ (omega arith)
+    (λ z. rw (e, ne-eqb (first (cleansBoth s a b t c d)) 0 z))
+    (λ z. rw (e, eq-eqb (first (cleansBoth s a b t c d)) 0 z))
+    (λ z. rw (e, ne-eqb (first (cleansBoth s a b t c d)) 0 z))
 
 -- ---- the proof
 
 -- the numbers of a table stand in the order of judging
-pub in-order : (s : Settings) (w : List ℕ) (t : ℕ) (key : List ℕ) (rate : RateLimit) (count draw : ℕ) → InOrder 0 (suppressedInc s w t key rate count draw)
-unfolding faults misfits
+pub in-order : (s : Settings) (w : List ℕ) (t : ℕ) (key : Sent) (rate : RateLimit) (count draw : ℕ) → InOrder 0 (suppressedInc s w t key rate count draw)
+unfolding faults misfits turns
 in-order s w t key rate count draw = omega arith
 
 -- ---- every call
 
-abbrev pub bothTable : RoomKind → Settings → List ℕ → List ℕ → ℕ → List (ℕ × Bool)
-bothTable kind.Absolute s w other t = cleansBoth s w other t
-bothTable kind.Suppressed s w other t = cleansBoth s other w t
+abbrev pub bothTable : RoomKind → Settings → List ℕ → Caller → List ℕ → Caller → ℕ → List (ℕ × Bool)
+bothTable kind.Absolute s w who other whose t = cleansBoth s w other t who whose
+bothTable kind.Suppressed s w who other whose t = cleansBoth s other w t whose who
 
 abbrev pub tableOf : (k : RoomKind) → Settings → List ℕ → ℕ → Op k → List (ℕ × Bool)
 tableOf k s w t (Ops.inc key rate count) = absoluteInc s w t key rate count
@@ -169,21 +173,22 @@ tableOf k s w t (Ops.getFactor key) = suppressedFactor s w t key
 tableOf k s w t (Ops.setRate key rate) = setRate k s w t key rate
 tableOf k s w t (Ops.set key rate comparator count mode) = sets k s w t key rate comparator count mode
 tableOf k s w t (Ops.delete key) = plain k s w t key
-tableOf k s w t (Ops.cleanup stale) = cleans k s w t
-tableOf k s w t (Ops.cleanupBoth other stale) = bothTable k s w other t
-tableOf k s w t Ops.clear = clears s w t
+tableOf k s w t (Ops.cleanup who stale) = cleans k s w t who
+tableOf k s w t (Ops.cleanupBoth who other whose stale) = bothTable k s w who other whose t
+tableOf k s w t (Ops.clear who) = clears s w t who
 
-each-turned : (k : RoomKind) (s : Settings) (w : List ℕ) (t : ℕ) (other : List ℕ) (stale : ℕ) →
-    TurnedBy (bothTable k s w other t) (doneRow (cleanedBoth k s w other t stale .answer)) w (cleanedBoth k s w other t stale .words)
-each-turned kind.Absolute s w t other stale =
-    let d = both-turned s w other t stale in
+each-turned : (k : RoomKind) (s : Settings) (w : List ℕ) (t : ℕ) (who : Caller) (other : List ℕ) (whose : Caller) (stale : ℕ) →
+    TurnedBy (bothTable k s w who other whose t) (doneRow (cleanedBoth k s w who other whose t stale .answer)) w
+    (cleanedBoth k s w who other whose t stale .words)
+each-turned kind.Absolute s w t who other whose stale =
+    let d = both-turned s w other t who whose stale in
     record { given = d .given; only = d .only; numbered = d .numbered; stays = λ z. ap (λ (p : List ℕ × List ℕ). p .0) (d .stays z) }
-each-turned kind.Suppressed s w t other stale =
-    let d = both-turned s other w t stale in
+each-turned kind.Suppressed s w t who other whose stale =
+    let d = both-turned s other w t whose who stale in
     record { given = d .given; only = d .only; numbered = d .numbered; stays = λ z. ap (λ (p : List ℕ × List ℕ). p .1) (d .stays z) }
 
 pub turned : (k : RoomKind) (s : Settings) (w : List ℕ) (t : ℕ) (op : Op k) → TurnedBy (tableOf k s w t op) (answerRow k s w t op) w (after k s w t op)
-unfolding faults misfits Clear.unclear Cleanup.misfits Cleanup.cleanup shared.rateTurns Absolute.inc Absolute.isAllowed Absolute.get Suppressed.inc
+unfolding faults misfits turns Clear.unclear Cleanup.misfits Cleanup.cleanup shared.rateTurns Absolute.inc Absolute.isAllowed Absolute.get Suppressed.inc
     Suppressed.get Suppressed.getFactor Rate.setRateLimit Set.set Delete.delete decisionRow totalRow snapshotRow factorRow oldRateRow deleteRow setRow
     doneRow
 turned k s w t (Ops.inc key rate count) =
@@ -204,9 +209,9 @@ turned k s w t (Ops.set key rate comparator count mode) =
     judge-turned setRow set.Refused (sets k s w t key rate comparator count mode) _ w _ refl (λ n. refl) (omega arith) refl
 turned k s w t (Ops.delete key) =
     judge-turned deleteRow delete.Refused (plain k s w t key) _ w _ refl (λ n. refl) (omega arith) (deleted-0 s t (heldIn w key))
-turned k s w t (Ops.cleanup stale) = judge-turned doneRow done.Refused (cleans k s w t) _ w _ refl (λ n. refl) (omega arith) refl
-turned k s w t (Ops.cleanupBoth other stale) = each-turned k s w t other stale
-turned k s w t Ops.clear = judge-turned doneRow done.Refused (clears s w t) _ w _ refl (λ n. refl) (omega arith) refl
+turned k s w t (Ops.cleanup who stale) = judge-turned doneRow done.Refused (cleans k s w t who) _ w _ refl (λ n. refl) (omega arith) refl
+turned k s w t (Ops.cleanupBoth who other whose stale) = each-turned k s w t who other whose stale
+turned k s w t (Ops.clear who) = judge-turned doneRow done.Refused (clears s w t who) _ w _ refl (λ n. refl) (omega arith) refl
 
 pub unmet : (k : RoomKind) (s : Settings) (w : List ℕ) (t : ℕ) (op : Op k) (n : ℕ) → n ≢ 0 → met (tableOf k s w t op) n ≡ false → answerNumber k s w t op ≢ n
 unmet k s w t op = not-given (tableOf k s w t op) (answerRow k s w t op) w (after k s w t op) (turned k s w t op)

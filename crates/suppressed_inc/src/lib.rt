@@ -4,6 +4,7 @@ ghost use Prim.Native.Nat.{_≤_};
 ghost use Rattle.common.specs.Refusals.{first};
 ghost use Rattle.settings.specs.Settings.{bucketIn};
 ghost use Rattle.room.specs.Room.{Room, ringOf};
+ghost use Rattle.parties.specs.Parties.{sent};
 ghost use Rattle.judge.specs.Verdict.{Told};
 ghost use Rattle.plan.specs.Plan.{lacksAt};
 ghost use Rattle.suppressed_refusals.specs.Refusals.{incLate};
@@ -13,6 +14,7 @@ ghost use Rattle.suppressed_verdicts.specs.Opened.{limitAt};
 use answers::RateLimitDecision;
 use common::RateLimit;
 use opened::Slot;
+use parties::Caller;
 use rules::RoomKind;
 use settings::Settings;
 
@@ -32,16 +34,16 @@ fn late(
     settings: Settings,
     w: &[u64],
     x: Slot,
-    at: usize,
+    none: bool,
     reading: u64,
     rate: RateLimit,
     count: u64,
     draw: u64,
 ) -> u64
     requires { ⌜ Room (now w) × (bucketIn settings ≤ 4294967296) ⌝ }
-    ensures { λ n. ⌜ n ≡ first (incLate settings x (lacksAt (now (w .entry)) at x) (ringOf (now (w .entry))) reading rate count draw) ⌝ }
+    ensures { λ n. ⌜ n ≡ first (incLate settings x (lacksAt none x) (ringOf (now (w .entry))) reading rate count draw) ⌝ }
 {
-    let lacks = plan::lacks_slot(w, at, x);
+    let lacks = plan::lacks_slot(none, x);
     let ring = suppressed_refusals::ring_of(w);
     suppressed_refusals::inc_late(settings, x, lacks, ring, reading, rate, count, draw)
 }
@@ -51,12 +53,13 @@ pub fn inc(
     settings: Settings,
     room: &mut [u64],
     reading: u64,
+    caller: Caller,
     key: &[u8],
     rate: RateLimit,
     count: u64,
     draw: u64,
 ) -> RateLimitDecision
-    ensures { λ r. ⌜ Told (inc settings (now (room .entry)) reading (now (key .entry)) rate count draw) r (now (room .exit)) ⌝ }
+    ensures { λ r. ⌜ Told (inc settings (now (room .entry)) reading (sent caller (now (key .entry))) rate count draw) r (now (room .exit)) ⌝ }
 {
     let fault = judge::fault(settings, room);
     if fault != 0 {
@@ -64,13 +67,16 @@ pub fn inc(
     }
     let window = settings.window_ticks();
     let look = settings.look_ticks();
-    let x = opened::open_at(room, judge::address(room, key), reading, window, look);
-    let misfit = judge::misfit(RoomKind::Suppressed, settings, room, reading, key, x);
+    let addressed = judge::address(room, caller, key);
+    let x = opened::open_at(room, addressed, reading, window, look);
+    let kind = RoomKind::Suppressed;
+    let standing = judge::misfit(kind, settings, room, reading, caller, key, x);
+    let misfit = standing.code;
     if misfit != 0 {
         return RateLimitDecision::Refused(misfit);
     }
     let at = plan::place(room, x);
-    let late = late(settings, room, x, at, reading, rate, count, draw);
+    let late = late(settings, room, x, standing.none, reading, rate, count, draw);
     if late != 0 {
         return RateLimitDecision::Refused(late);
     }
@@ -79,6 +85,7 @@ pub fn inc(
     let outcome = forecast_opened::decide(settings, room, x, limit, forecast, reading, count, draw);
     let caching = outcome.caching;
     let change = suppressed_edits::inc_change(x, limit, count, outcome.declined, caching);
-    change::apply(room, at, key, settings.join_ticks(), reading, change);
+    let join = settings.join_ticks();
+    change::apply(room, at, caller, key, join, reading, change);
     outcome.decision
 }

@@ -1,5 +1,6 @@
 // What the suppressed limiter says of a key without counting: its live totals with its factor, and the factor alone, which takes a slot.
 ghost use mathlib.Core.Path.{_≡_};
+ghost use Rattle.parties.specs.Parties.{sent};
 ghost use Rattle.judge.specs.Verdict.{Told};
 ghost use Rattle.rules.specs.declared.RoomKind.the-variants.{Suppressed};
 ghost use Rattle.suppressed_verdicts.specs.Calls.{get, getFactor};
@@ -8,6 +9,7 @@ use answers::FactorAnswer;
 use answers::SnapshotAnswer;
 use answers::SuppressedRateLimitSnapshot;
 use opened::Slot;
+use parties::Caller;
 use rules::RoomKind;
 use settings::Settings;
 
@@ -28,14 +30,21 @@ fn snapshot_of(x: Slot, factor: f64) -> SuppressedRateLimitSnapshot
 }
 
 // A key's live totals and its factor.
-pub fn get(settings: Settings, room: &mut [u64], reading: u64, key: &[u8]) -> SnapshotAnswer
-    ensures { λ r. ⌜ Told (get settings (now (room .entry)) reading (now (key .entry))) r (now (room .exit)) ⌝ }
+pub fn get(
+    settings: Settings,
+    room: &mut [u64],
+    reading: u64,
+    caller: Caller,
+    key: &[u8],
+) -> SnapshotAnswer
+    ensures { λ r. ⌜ Told (get settings (now (room .entry)) reading (sent caller (now (key .entry)))) r (now (room .exit)) ⌝ }
 {
     let judged = judge::judge(
         RoomKind::Suppressed,
         settings,
         room,
         reading,
+        caller,
         key,
         judge::NO_LOOK,
     );
@@ -50,6 +59,7 @@ pub fn get(settings: Settings, room: &mut [u64], reading: u64, key: &[u8]) -> Sn
     change::apply(
         room,
         x.at,
+        caller,
         key,
         settings.join_ticks(),
         reading,
@@ -63,15 +73,17 @@ pub fn get_suppression_factor(
     settings: Settings,
     room: &mut [u64],
     reading: u64,
+    caller: Caller,
     key: &[u8],
 ) -> FactorAnswer
-    ensures { λ r. ⌜ Told (getFactor settings (now (room .entry)) reading (now (key .entry))) r (now (room .exit)) ⌝ }
+    ensures { λ r. ⌜ Told (getFactor settings (now (room .entry)) reading (sent caller (now (key .entry)))) r (now (room .exit)) ⌝ }
 {
     let judged = judge::judge(
         RoomKind::Suppressed,
         settings,
         room,
         reading,
+        caller,
         key,
         judge::FIRST_LOOK,
     );
@@ -81,7 +93,7 @@ pub fn get_suppression_factor(
     }
     let x = judged.slot;
     let at = plan::place(room, x);
-    if plan::lacks_slot(room, at, x) {
+    if plan::lacks_slot(judged.none, x) {
         return FactorAnswer::Refused(11);
     }
     let asked = factor_opened::ask(settings, room, x, x.limit, reading);
@@ -89,6 +101,7 @@ pub fn get_suppression_factor(
     change::apply(
         room,
         at,
+        caller,
         key,
         settings.join_ticks(),
         reading,

@@ -21,13 +21,14 @@ use Rattle.ring.specs.Ring.{countOf, buckets}
 use Rattle.ring.specs.Sums.{sum-none}
 use Rattle.ring.specs.View.{view-length}
 use Rattle.room.specs.Room.{Room, slotsOf, ringOf, bodyOf}
+use Rattle.parties.specs.Parties.{Sent, noneLeft}
 use Rattle.judge.specs.declared.Judged.{Judged}
 use Rattle.rules.specs.declared.RoomKind.the-variants as kind
 use Rattle.opened.specs.declared.Slot.{Slot}
 use Rattle.judge.specs.Held.{heldIn}
 use Rattle.judge.specs.Judge.{early, judgedWith, Passed, slotIn, lookedIn}
 use Rattle.opened.specs.Slot.{hasSlot}
-use Rattle.judge.specs.Laws.{code-is, slot-is, passed}
+use Rattle.judge.specs.Laws.{code-is, none-is, slot-is, passed, free-there}
 use Rattle.judge.specs.Verdict.{Told, call-early, call-own, call-done}
 use Rattle.change.specs.declared.Change.{Change}
 use Rattle.change.specs.declared.Change.the-variants.{Keep, Update, Take}
@@ -104,7 +105,7 @@ module _ (w : List ℕ) (x : Slot) where
 
 -- ---- get, of a slot x that the code has found
 
-module _ (s : Settings) (w : List ℕ) (t : ℕ) (key : List ℕ) (e : early kind.Suppressed s w t key ≡ 0) (x : Slot) (p : x ≡ slotIn s w t key) where
+module _ (s : Settings) (w : List ℕ) (t : ℕ) (key : Sent) (e : early kind.Suppressed s w t key ≡ 0) (x : Slot) (p : x ≡ slotIn s w t key) where
   opening-passed : Passed kind.Suppressed s w t key
   opening-passed = passed kind.Suppressed s w t key e
 
@@ -136,7 +137,7 @@ module _ (s : Settings) (w : List ℕ) (t : ℕ) (key : List ℕ) (e : early kin
 
 -- ---- get_suppression_factor and inc, of a slot x that the code has found and looked at
 
-module _ (s : Settings) (w : List ℕ) (t : ℕ) (key : List ℕ) (e : early kind.Suppressed s w t key ≡ 0) (x : Slot) (p : x ≡ lookedIn s w t key) where
+module _ (s : Settings) (w : List ℕ) (t : ℕ) (key : Sent) (e : early kind.Suppressed s w t key ≡ 0) (x : Slot) (p : x ≡ lookedIn s w t key) where
   passing : Passed kind.Suppressed s w t key
   passing = passed kind.Suppressed s w t key e
 
@@ -160,17 +161,17 @@ module _ (s : Settings) (w : List ℕ) (t : ℕ) (key : List ℕ) (e : early kin
   unfolding getFactor
   factor-is a h = sym (ap₂ (λ (y : Slot) (b : Asked). factorOn s w t key y b) p (h ∙ ap (λ (y : Slot). askingAt s w t y) p))
 
-  -- at is the place that the code has found, full whether there is none
-  module _ (at : ℕ) (m : at ≡ placeOf w x) (full : Bool) (n : full ≡ lacksAt w at x) where
-    full-is : lacksAt w (placeOf w x) x ≡ full
-    full-is = sym (n ∙ ap (λ (i : ℕ). lacksAt w i x) m)
+  -- at is the place that the code has found, none whether the party has no slot left, full whether one is needed then
+  module _ (at : ℕ) (m : at ≡ placeOf w x) (none : Bool) (g : none ≡ noneLeft w (key .caller)) (full : Bool) (n : full ≡ lacksAt none x) where
+    full-is : lacksAt (noneLeft w (key .caller)) x ≡ full
+    full-is = sym (n ∙ ap (λ (z : Bool). lacksAt z x) g)
 
     pub factor-full : full ≡ true → Told (Calls.getFactor s w t key) (factor.Refused 11) w
     unfolding factorOn first
     factor-full f =
         let a : Asked = askedAt s w t x (x .limit) in
         rw (← factor-opened s w t key, factor-is a refl)
-        (call-own factor.Refused kind.Suppressed s w t key (factorOwn w x) (factorDoes s w t key x a) 11 e (sym (rw (full-is, f))) (λ z. omega arith))
+        (call-own factor.Refused kind.Suppressed s w t key (factorOwn w key x) (factorDoes s w t key x a) 11 e (sym (rw (full-is, f))) (λ z. omega arith))
 
     pub factor-done : full ≡ false → (a : Asked) → a ≡ askedAt s w t x (x .limit) →
         (ch : Change) (y : List ℕ) → ch ≡ factorChange x (a .caching) t → y ≡ applied w at key (joinTicks s) t ch →
@@ -178,15 +179,15 @@ module _ (s : Settings) (w : List ℕ) (t : ℕ) (key : List ℕ) (e : early kin
     unfolding factorOn first
     factor-done f a h ch y k q =
         rw (← factor-opened s w t key, factor-is a h)
-        (call-done factor.Refused kind.Suppressed s w t key (factorOwn w x) (factorDoes s w t key x a) (factor.Factor (a .factor)) y e (rw (full-is, f))
+        (call-done factor.Refused kind.Suppressed s w t key (factorOwn w key x) (factorDoes s w t key x a) (factor.Factor (a .factor)) y e (rw (full-is, f))
         (record { answer = refl; words = q ∙ ap₂ (λ (i : ℕ) (d : Change). applied w i key (joinTicks s) t d) m k }))
 
-    inside : full ≡ false → placeOf w x < slotsOf w
-    inside f = place-inside s w t (overdueIn s t (heldIn w key)) x stood (full-is ∙ f)
+    inside : lacksAt (noneLeft w (key .caller)) x ≡ false → placeOf w x < slotsOf w
+    inside = place-inside s w t (overdueIn s t (heldIn w key)) x stood (noneLeft w (key .caller)) (free-there kind.Suppressed s w t key passing)
 
     lone-by : full ≡ false → (z : Bool) → Applies w (placeOf w x) (joinTicks s) t (loneBy z t)
-    lone-by f true = opening-edits w (placeOf w x) (passing .room) (inside f) (joinTicks s) t 0 0 t 2 Nothing tt
-    lone-by f false = opening-edits w (placeOf w x) (passing .room) (inside f) (joinTicks s) t 0 0 t 2 Nothing tt
+    lone-by f true = opening-edits w (placeOf w x) (passing .room) (inside (full-is ∙ f)) (joinTicks s) t 0 0 t 2 Nothing tt
+    lone-by f false = opening-edits w (placeOf w x) (passing .room) (inside (full-is ∙ f)) (joinTicks s) t 0 0 t 2 Nothing tt
 
     lone-applies : full ≡ false → (z : Bool) (k : Caching) → Applies w (placeOf w x) (joinTicks s) t (loneChange z k t)
     lone-applies f z Left = passing .room
@@ -208,10 +209,10 @@ module _ (s : Settings) (w : List ℕ) (t : ℕ) (key : List ℕ) (e : early kin
 
     -- ---- inc
     module _ (rate : RateLimit) (c draw r late : ℕ) (i : r ≡ ringOf w) (l : late ≡ first (incLate s x full r t rate c draw)) where
-      late-positive : Positive (incLate s x (lacksAt w (placeOf w x) x) (ringOf w) t rate c draw)
+      late-positive : Positive (incLate s x (lacksAt (noneLeft w (key .caller)) x) (ringOf w) t rate c draw)
       late-positive = omega arith
 
-      late-is : late ≡ first (incLate s x (lacksAt w (placeOf w x) x) (ringOf w) t rate c draw)
+      late-is : late ≡ first (incLate s x (lacksAt (noneLeft w (key .caller)) x) (ringOf w) t rate c draw)
       late-is = l ∙ ap₂ (λ (b : Bool) (j : ℕ). first (incLate s x b j t rate c draw)) (sym full-is) i
 
       inc-is : (o : Outcome) → o ≡ incOutcome s w t rate c draw x → inc s w t key rate c draw ≡ incOn s w t key rate c draw x o
@@ -224,11 +225,11 @@ module _ (s : Settings) (w : List ℕ) (t : ℕ) (key : List ℕ) (e : early kin
       inc-late z =
           let o : Outcome = incOutcome s w t rate c draw x in
           rw (← inc-opened s w t key rate c draw, inc-is o refl)
-          (call-own decision.Refused kind.Suppressed s w t key (incOwn s w t rate c draw x) (incDoes s w t key rate c x o) late e late-is z)
+          (call-own decision.Refused kind.Suppressed s w t key (incOwn s w t key rate c draw x) (incDoes s w t key rate c x o) late e late-is z)
 
       module _ (f : late ≡ 0) where
-        none-late : AllFalse (incLate s x (lacksAt w (placeOf w x) x) (ringOf w) t rate c draw)
-        none-late = all-false (incLate s x (lacksAt w (placeOf w x) x) (ringOf w) t rate c draw) late-positive (sym late-is ∙ f)
+        none-late : AllFalse (incLate s x (lacksAt (noneLeft w (key .caller)) x) (ringOf w) t rate c draw)
+        none-late = all-false (incLate s x (lacksAt (noneLeft w (key .caller)) x) (ringOf w) t rate c draw) late-positive (sym late-is ∙ f)
 
         pub inc-total : x .pass .«live_total» + c ≤ mostTotal
         unfolding passes
@@ -241,8 +242,7 @@ module _ (s : Settings) (w : List ℕ) (t : ℕ) (key : List ℕ) (e : early kin
             inc-edits s w t (placeOf w x) (overdueIn s t (heldIn w key)) x (passing .room) (known-place h) k limit c d b (none-late .1 .1 .0)
             (none-late .1 .1 .1 .1 .0)
         edit-by k limit d b false h =
-            new-edits w (placeOf w x) (joinTicks s) t (passing .room)
-            (place-inside s w t (overdueIn s t (heldIn w key)) x stood (none-late .1 .1 .1 .0)) x k limit c d (x .factor)
+            new-edits w (placeOf w x) (joinTicks s) t (passing .room) (inside (none-late .1 .1 .1 .0)) x k limit c d (x .factor)
             (x .«factor_time») (x .used) b (omega (arith, inc-total))
 
         either : (y : Edit) (z : Bool) → EditsAt w (placeOf w x) (joinTicks s) t y → Applies w (placeOf w x) (joinTicks s) t (cond z (Update y) (Take y))
@@ -267,7 +267,7 @@ module _ (s : Settings) (w : List ℕ) (t : ℕ) (key : List ℕ) (e : early kin
           unfolding incOn
           inc-done ch y k q =
               rw (← inc-opened s w t key rate c draw, inc-is o outcome-is)
-              (call-done decision.Refused kind.Suppressed s w t key (incOwn s w t rate c draw x) (incDoes s w t key rate c x o) (o .decision) y e
+              (call-done decision.Refused kind.Suppressed s w t key (incOwn s w t key rate c draw x) (incDoes s w t key rate c x o) (o .decision) y e
               (sym late-is ∙ f)
               (record {
                 answer = refl;
@@ -288,7 +288,7 @@ module _ (s : Settings) (w : List ℕ) (t : ℕ) (key : List ℕ) (e : early kin
 
 -- ---- the calls, from what the judging function has found
 
-module _ (s : Settings) (w : List ℕ) (t : ℕ) (key : List ℕ) (x : Slot) (j : Judged) (h : j ≡ judgedWith kind.Suppressed s w t key x) where
+module _ (s : Settings) (w : List ℕ) (t : ℕ) (key : Sent) (x : Slot) (j : Judged) (h : j ≡ judgedWith kind.Suppressed s w t key x) where
   early-is : j .code ≡ early kind.Suppressed s w t key
   early-is = ap (λ (y : Judged). y .code) h ∙ code-is kind.Suppressed s w t key x
 
@@ -297,6 +297,9 @@ module _ (s : Settings) (w : List ℕ) (t : ℕ) (key : List ℕ) (x : Slot) (j 
 
   pub slot-found : j .code ≡ 0 → j .slot ≡ x
   slot-found z = ap (λ (y : Judged). y .slot) h ∙ slot-is kind.Suppressed s w t key (not-early z)
+
+  pub none-found : j .code ≡ 0 → j .none ≡ noneLeft w (key .caller)
+  none-found z = ap (λ (y : Judged). y .none) h ∙ none-is kind.Suppressed s w t key x (not-early z)
 
   pub room-found : j .code ≡ 0 → Room w
   room-found z = passed kind.Suppressed s w t key (not-early z) .room

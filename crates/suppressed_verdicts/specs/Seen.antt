@@ -33,9 +33,10 @@ use Rattle.rules.specs.Held.{Held, lacksSlot}
 use Rattle.rules.specs.Both.{limitIn, liveOf, overdueIn, lookedOf, unrated, passes, ringFull}
 use Rattle.rules.specs.Suppressed as rules
 use Rattle.room.specs.Room.{ringOf, bodyOf}
+use Rattle.parties.specs.Parties.{Sent, noneLeft}
 use Rattle.change.specs.Words.{applied}
 use Rattle.opened.specs.declared.Slot.{Slot}
-use Rattle.judge.specs.Held.{heldIn, noneFree}
+use Rattle.judge.specs.Held.{heldIn}
 use Rattle.judge.specs.Judge.{Passed, slotIn, lookedIn}
 use Rattle.judge.specs.Verdict.{call-alike}
 use Rattle.plan.specs.Plan.{placeOf, lacksAt, fullAfter}
@@ -197,7 +198,7 @@ module _ (s : Settings) (t : ℕ) (h : Held) (x : Slot) (o : Seen (windowTicks s
 
 -- ---- so the calls are those that the contracts name
 
-module _ (s : Settings) (w : List ℕ) (t : ℕ) (key : List ℕ) where
+module _ (s : Settings) (w : List ℕ) (t : ℕ) (key : Sent) where
   abbrev h : Held
   h = heldIn w key
 
@@ -252,7 +253,7 @@ module _ (s : Settings) (w : List ℕ) (t : ℕ) (key : List ℕ) where
       let x = lookedIn s w t key in
       let a = asking-is s t (overdueIn s t h) h x (looks p) w (second-looked p) in
       record {
-        owns = ap (λ (z : Bool). (11, z) ∷ []) (lacks-is (windowTicks s) t (overdueIn s t h) h x (looks p) w);
+        owns = ap (λ (z : Bool). (11, z) ∷ []) (lacks-is (windowTicks s) t (overdueIn s t h) h x (looks p) (noneLeft w (key .caller)));
         answers = ap (λ (y : Asked). factor.Factor (y .factor)) a;
         wordings = ap (λ (y : Asked). applied w (placeOf w x) key (joinTicks s) t (factorChange x (y .caching) t)) a;
       })
@@ -269,16 +270,16 @@ module _ (s : Settings) (w : List ℕ) (t : ℕ) (key : List ℕ) where
 
     -- 8 to 12, as the code judges them
     pub late-is : (p : Passed Suppressed s w t key) →
-        incLate s (lookedIn s w t key) (lacksAt w (placeOf w (lookedIn s w t key)) (lookedIn s w t key)) (ringOf w) t rate c draw ≡
-        incNumbers (unrated rate) (ltb rules.mostDraw draw) (passes c (counts (lookedOf s t (heldIn w key)))) (lacksSlot (noneFree w) (heldIn w key))
-        (ringFull (ringOf w) (joinTicks s) t (lookedOf s t (heldIn w key)))
+        incLate s (lookedIn s w t key) (lacksAt (noneLeft w (key .caller)) (lookedIn s w t key)) (ringOf w) t rate c draw ≡
+        incNumbers (unrated rate) (ltb rules.mostDraw draw) (passes c (counts (lookedOf s t (heldIn w key))))
+        (lacksSlot (noneLeft w (key .caller)) (heldIn w key)) (ringFull (ringOf w) (joinTicks s) t (lookedOf s t (heldIn w key)))
     late-is p =
         let o = looks p in
         let full = full-after (ringOf w) (joinTicks s) t (x .pass .expired) x (h .buckets) (o .length-is) (o .newest-is) ∙
         ap (λ (k : ℕ). ringFull (ringOf w) (joinTicks s) t (drop k (h .buckets))) (o .gone-is) in
         ap₂ (λ (a b : Bool). incNumbers (unrated rate) (ltb rules.mostDraw draw) a b (fullAfter (ringOf w) (joinTicks s) t (x .pass .expired) x))
-        (ap (passes c) (o .live-is)) (lacks-is (windowTicks s) t (overdueIn s t h) h x o w) ∙
-        ap (incNumbers (unrated rate) (ltb rules.mostDraw draw) (passes c (counts (lookedOf s t h))) (lacksSlot (noneFree w) h)) full
+        (ap (passes c) (o .live-is)) (lacks-is (windowTicks s) t (overdueIn s t h) h x o (noneLeft w (key .caller))) ∙
+        ap (incNumbers (unrated rate) (ltb rules.mostDraw draw) (passes c (counts (lookedOf s t h))) (lacksSlot (noneLeft w (key .caller)) h)) full
 
     pub inc-opened : inc s w t key rate c draw ≡ Calls.inc s w t key rate c draw
     unfolding inc incOn Calls.inc

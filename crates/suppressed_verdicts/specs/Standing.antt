@@ -1,4 +1,4 @@
--- What a call that passes refusals 1 to 7 knows of its key's slot x: where it is, its series, and its sums.
+-- What a call that passes refusals 1 to 7, 15 and 16 knows of its key's slot x: where it is, its series, and its sums.
 -- Assumes nothing.
 use mathlib.Core.Path.{_≡_, refl, sym, ap, ap₂, subst, _∙_}
 use mathlib.Core.Bool.{Bool, true, false, not, _&&_, _||_, cond, false≢true}
@@ -6,9 +6,7 @@ use mathlib.Core.List.{List}
 use Prim.Native.Nat.{ℕ, _-_, _^_, _≤_, _<_}
 use native.Mathlib.Decide.{decLt}
 use native.Mathlib.Omega.{arith}
-use lib.Dec.{leb}
 use lib.ListN.{drop}
-use borrow.Author.Tests.{leb-false}
 use Rattle.rules.specs.Laws.{recent-among}
 use Rattle.settings.specs.Clock.{longest, windowTicks, lookTicks}
 use Rattle.settings.specs.declared.Settings.{Settings}
@@ -21,6 +19,7 @@ use Rattle.ring.specs.Order.{fine-sums, fine-drop}
 use Rattle.ring.specs.Ring.{countOf, counts, declineds, buckets}
 use Rattle.ring.specs.Sums.{sum-split}
 use Rattle.room.specs.Room.{slotsOf, ringOf, lastOf, bodyOf, vacant}
+use Rattle.parties.specs.Parties.{Sent}
 use Rattle.rules.specs.declared.RoomKind.the-variants as kind
 use Rattle.opened.specs.declared.Slot.{Slot}
 use Rattle.judge.specs.Held.{heldIn}
@@ -72,7 +71,7 @@ lone-pass s w t at x f e =
 
 -- ---- the slot that a key addresses, as it is opened
 
-module _ (s : Settings) (w : List ℕ) (t : ℕ) (key : List ℕ) (q : Passed kind.Suppressed s w t key) (x : Slot) (p : x ≡ slotIn s w t key) where
+module _ (s : Settings) (w : List ℕ) (t : ℕ) (key : Sent) (q : Passed kind.Suppressed s w t key) (x : Slot) (p : x ≡ slotIn s w t key) where
   there : addressed w key < slotsOf w → Found kind.Suppressed s w t (x .at) x
   there l =
       let f : Found kind.Suppressed s w t (addressed w key) x =
@@ -106,7 +105,7 @@ pub record Stood (s : Settings) (w : List ℕ) (t : ℕ) (out : Bool) (x : Slot)
   pub known : x .series ≡ true → Known kind.Suppressed s w t (x .at) out x
   pub unknown : x .series ≡ false → x .pass ≡ unsound
 
-module _ (s : Settings) (w : List ℕ) (t : ℕ) (key : List ℕ) (q : Passed kind.Suppressed s w t key) where
+module _ (s : Settings) (w : List ℕ) (t : ℕ) (key : Sent) (q : Passed kind.Suppressed s w t key) where
   pub stood-slot : (x : Slot) → x ≡ slotIn s w t key → Stood s w t true x
   stood-slot x p = record { used-in = λ e. used s w t key q x p e .inside; known = known s w t key q x p; unknown = unknown s w t key q x p }
 
@@ -143,14 +142,14 @@ module _ (s : Settings) (w : List ℕ) (t : ℕ) (key : List ℕ) (q : Passed ki
       }
 
 module _ (s : Settings) (w : List ℕ) (t : ℕ) (out : Bool) (x : Slot) (d : Stood s w t out x) where
-  -- where a slot is not lacking, the place is in the room
-  pub place-inside : lacksAt w (placeOf w x) x ≡ false → placeOf w x < slotsOf w
+  -- where a slot is not lacking, the place is in the room: one is free, unless the party has none left
+  pub place-inside : (none : Bool) → (none ≡ false → vacant w < slotsOf w) → lacksAt none x ≡ false → placeOf w x < slotsOf w
   unfolding lacksAt placeOf
-  place-inside f = go (hasSlot x) refl f
+  place-inside none free f = go (hasSlot x) refl f
     where
-      go : (z : Bool) → hasSlot x ≡ z → not z && leb (slotsOf w) (cond z (x .at) (vacant w)) ≡ false → cond z (x .at) (vacant w) < slotsOf w
+      go : (z : Bool) → hasSlot x ≡ z → not z && none ≡ false → cond z (x .at) (vacant w) < slotsOf w
       go true e g = d .used-in e
-      go false e g = leb-false (slotsOf w) (vacant w) g
+      go false e g = free g
 
   pub sums : (n : ℕ) → Sums n w t x
   sums n = go (x .series) refl

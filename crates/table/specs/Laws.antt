@@ -12,7 +12,7 @@ use lib.Dec.{leb, ltb, eqb}
 use borrow.Author.Tests.{le-leb, lt-leb, leb-true, eq-eqb, ne-eqb, eqb-true, lt-ltb, le-ltb, ltb-true, ltb-false}
 use Rattle.base.specs.Decides.{and-true, other-true, not-so}
 use Rattle.base.specs.Seek.{seek-le, seek-passes}
-use Rattle.layout.specs.Layout.{slotsWord, longestKey}
+use Rattle.layout.specs.Layout.{slotsWord, nobody, longestKey}
 use Rattle.keys.specs.declared.Key.{Key}
 use Rattle.keys.specs.Keys.{keyOf, keyFits}
 use Rattle.room.specs.Room.{Room, Directory, ringOf, keyAt, keySound, withUse, entered}
@@ -65,23 +65,23 @@ pub entry-le : (w key : List ℕ) → entryFor w key ≤ knownOf w
 unfolding entryFor
 entry-le w key = go (ltb longestKey (length key))
   where
-    go : (x : Bool) → cond x (knownOf w) (entryFrom w (keyOf key) 0) ≤ knownOf w
+    go : (x : Bool) → cond x (knownOf w) (entryFrom w (keyOf nobody key) 0) ≤ knownOf w
     go true = omega arith
-    go false = omega (arith, seek-le (names w (keyOf key)) (knownOf w - 0) 0)
+    go false = omega (arith, seek-le (names w (keyOf nobody key)) (knownOf w - 0) 0)
 
 -- the key of a controller's entry is the one that was looked for, and has at most 32 bytes
-pub entry-key : (w key : List ℕ) → entryFor w key < knownOf w → (length key ≤ longestKey) × (keyAt w (entryFor w key) ≡ keyOf key)
+pub entry-key : (w key : List ℕ) → entryFor w key < knownOf w → (length key ≤ longestKey) × (keyAt w (entryFor w key) ≡ keyOf nobody key)
 unfolding entryFor names
 entry-key w key h = go (ltb longestKey (length key)) refl h
   where
-    go : (x : Bool) → ltb longestKey (length key) ≡ x → cond x (knownOf w) (entryFrom w (keyOf key) 0) < knownOf w →
-        (length key ≤ longestKey) × (keyAt w (cond x (knownOf w) (entryFrom w (keyOf key) 0)) ≡ keyOf key)
+    go : (x : Bool) → ltb longestKey (length key) ≡ x → cond x (knownOf w) (entryFrom w (keyOf nobody key) 0) < knownOf w →
+        (length key ≤ longestKey) × (keyAt w (cond x (knownOf w) (entryFrom w (keyOf nobody key) 0)) ≡ keyOf nobody key)
     go true e l = absurd (omega arith)
     go false e l =
-        (ltb-false longestKey (length key) e, same-key _ _ (seek-passes (names w (keyOf key)) (knownOf w - 0) 0 (omega arith)))
+        (ltb-false longestKey (length key) e, same-key _ _ (seek-passes (names w (keyOf nobody key)) (knownOf w - 0) 0 (omega arith)))
 
 pub entry-sound : (w key : List ℕ) → Bytes key → entryFor w key < knownOf w → keySound w (entryFor w key) ≡ true
-entry-sound w key y h = let e = entry-key w key h in ap keyFits (e .1) ∙ key-fits key y (e .0)
+entry-sound w key y h = let e = entry-key w key h in ap keyFits (e .1) ∙ key-fits nobody key y (e .0)
 
 module _ (w key : List ℕ) where
   pub known-yes : entryFor w key < knownOf w → isKnown w key ≡ true
@@ -208,7 +208,7 @@ module _ (w key : List ℕ) where
   remembered-known at number e h = sym (rw (known-yes w key (omega (arith, e)), ← e))
 
   pub remembered-new : (at number : ℕ) → at ≡ entryFor w key → knownOf w ≤ at →
-      entered (set w slotsWord (knownOf w + 1)) (knownOf w) number (keyOf key) ≡ remembered w key number
+      entered (set w slotsWord (knownOf w + 1)) (knownOf w) number (keyOf nobody key) ≡ remembered w key number
   unfolding remembered
   remembered-new at number e h = sym (rw (known-no w key (omega (arith, e))))
 

@@ -1,6 +1,6 @@
 -- A gateway's table, in lent words: header and directory as a room has them, and nothing behind. The header's first word says how many controllers the
--- table knows, at most 64; its other two, a room's ring and last reading, are 0, so no table is a room. An entry has the controller's last admitted number
--- where a room's has the use, then the key. w are the words of a table.
+-- table knows, at most 64; the next two, a room's ring and last reading, are 0, so no table is a room. An entry has the controller's last admitted number
+-- where a room's has the use, then the key, which nobody holds: a controller is known by its bytes alone. w are the words of a table.
 -- Assumes nothing.
 use mathlib.Core.Path.{_≡_}
 use mathlib.Core.Bool.{Bool, true, false, cond, not, _&&_, _||_}
@@ -9,7 +9,7 @@ use Prim.Native.Nat.{ℕ, _+_, _-_, _*_, _≤_, _<_}
 use lib.ListN.{length, set, replicate}
 use lib.Dec.{leb, ltb, eqb}
 use Rattle.base.specs.Seek.{seek}
-use Rattle.layout.specs.Layout.{slotsWord, headerWords, entryWords, mostSlots, longestKey}
+use Rattle.layout.specs.Layout.{slotsWord, headerWords, entryWords, nobody, mostSlots, longestKey}
 use Rattle.keys.specs.declared.Key.{Key}
 use Rattle.keys.specs.Keys.{keyOf, sameKey}
 use Rattle.room.specs.Room.{slotsOf, ringOf, lastOf, useOf, keyAt, keySound, entered, withUse}
@@ -21,7 +21,7 @@ use Rattle.table.specs.declared.Looked.{Looked}
 abbrev pub mostControllers : ℕ
 mostControllers = mostSlots
 
--- 387
+-- 451
 abbrev pub tableWords : ℕ
 tableWords = headerWords + entryWords * mostControllers
 
@@ -71,7 +71,7 @@ entryFrom w k a = seek (names w k) a (knownOf w - a)
 
 -- a controller's entry, or the number of entries; a key of over 32 bytes has none
 unfoldable pub entryFor : List ℕ → List ℕ → ℕ
-entryFor w key = cond (ltb longestKey (length key)) (knownOf w) (entryFrom w (keyOf key) 0)
+entryFor w key = cond (ltb longestKey (length key)) (knownOf w) (entryFrom w (keyOf nobody key) 0)
 
 unfoldable pub isKnown : List ℕ → List ℕ → Bool
 isKnown w key = ltb (entryFor w key) (knownOf w)
@@ -97,7 +97,7 @@ lastNumber w key = cond (isKnown w key) (numberAt w (entryFor w key)) 0
 -- a controller that it knows has a new number; another one stands behind the others
 unfoldable pub remembered : List ℕ → List ℕ → ℕ → List ℕ
 remembered w key number =
-    cond (isKnown w key) (withUse w (entryFor w key) number) (entered (set w slotsWord (knownOf w + 1)) (knownOf w) number (keyOf key))
+    cond (isKnown w key) (withUse w (entryFor w key) number) (entered (set w slotsWord (knownOf w + 1)) (knownOf w) number (keyOf nobody key))
 
 -- ---- both at once, as the code does it
 

@@ -1,4 +1,5 @@
-// A gateway's table in lent words: judging it, finding a controller, and remembering a number. Header and entries stand as in a room.
+// A gateway's table in lent words: judging it, finding a controller, and remembering a number. Header and entries stand as in a room; nobody
+// holds an entry, since a controller is known by its bytes alone.
 ghost use mathlib.Core.Path.{_≡_};
 ghost use Prim.Native.Nat.{_+_, _≤_, _<_};
 ghost use lib.ListN.{set};
@@ -78,7 +79,7 @@ fn entry_for(w: &[u64], key: &[u8]) -> usize
     if LONGEST_KEY < key.len() {
         return w[layout::SLOTS] as usize;
     }
-    entry_from(w, keys::key_of(key), 0)
+    entry_from(w, keys::key_of(layout::NOBODY, key), 0)
 }
 
 // Whether a shot can have this number.
@@ -157,6 +158,6 @@ pub fn remember(w: &mut [u64], key: &[u8], at: usize, number: u64)
     if at < w[layout::SLOTS] as usize {
         room::set_use(w, at, number);
     } else {
-        enter(w, keys::key_of(key), number);
+        enter(w, keys::key_of(layout::NOBODY, key), number);
     }
 }

@@ -17,6 +17,7 @@ use Rattle.common.specs.Refusals.{first, first-both}
 use Rattle.common.specs.declared.units.RateLimit.{RateLimit}
 use Rattle.settings.specs.Settings.{faults}
 use Rattle.settings.specs.declared.Settings.{Settings}
+use Rattle.parties.specs.Parties.{Sent}
 use Rattle.rules.specs.Suppressed.{admits}
 use Rattle.suppressed_verdicts.specs.Calls.{inc}
 use Rattle.table.specs.Table.{soundFor}
@@ -50,26 +51,28 @@ unfolding first
 five-unmet true e = refl
 five-unmet false e = absurd (omega arith)
 
-module _ (s : Settings) (w r : List ℕ) (t : ℕ) (key : List ℕ) (number : ℕ) (rate : RateLimit) (draw : ℕ) where
-  asks-then : soundFor w key ≡ true → first (gateTurns w key number) ≡ 0 → isHeld w key number ≡ false → asks w key number ≡ true
+module _ (s : Settings) (w r : List ℕ) (t : ℕ) (key : Sent) (number : ℕ) (rate : RateLimit) (draw : ℕ) where
+  asks-then : soundFor w (key .bytes) ≡ true → first (gateTurns w (key .bytes) number) ≡ 0 → isHeld w (key .bytes) number ≡ false →
+      asks w (key .bytes) number ≡ true
   unfolding asks
-  asks-then o g h = rw (o, eq-eqb (first (gateTurns w key number)) 0 g, h)
+  asks-then o g h = rw (o, eq-eqb (first (gateTurns w (key .bytes) number)) 0 g, h)
 
   -- where nothing refuses a shot that is not held, the table is sound and the limiter is asked
-  then-asks : first (gateTurns w key number ++ limiterTurns s w r t key rate draw) ≡ 0 → isHeld w key number ≡ false → asks w key number ≡ true
+  then-asks : first (gateTurns w (key .bytes) number ++ limiterTurns s w r t key rate draw) ≡ 0 → isHeld w (key .bytes) number ≡ false →
+      asks w (key .bytes) number ≡ true
   unfolding gateTurns faults
   then-asks e h =
-      let g = first-both (gateTurns w key number) (limiterTurns s w r t key rate draw) (omega arith) e in
+      let g = first-both (gateTurns w (key .bytes) number) (limiterTurns s w r t key rate draw) (omega arith) e in
       let f = first-both (faults s) _ (omega arith) (g .1) in
-      let o = first-both ((5, not (soundFor w key)) ∷ []) _ (omega arith) (f .1) in
-      asks-then (five-unmet (soundFor w key) (o .0)) (g .0) h
+      let o = first-both ((5, not (soundFor w (key .bytes))) ∷ []) _ (omega arith) (f .1) in
+      asks-then (five-unmet (soundFor w (key .bytes)) (o .0)) (g .0) h
 
-  pub shot-quiet : asks w key number ≡ false → Quiet r (shot s w r t key number rate draw)
+  pub shot-quiet : asks w (key .bytes) number ≡ false → Quiet r (shot s w r t key number rate draw)
   unfolding shot unlessRefused shotRow
-  shot-quiet e = go (isHeld w key number) refl (eqb (first (shotTurns s w r t key number rate draw)) 0) refl
+  shot-quiet e = go (isHeld w (key .bytes) number) refl (eqb (first (shotTurns s w r t key number rate draw)) 0) refl
     where
-      go : (h : Bool) → isHeld w key number ≡ h → (z : Bool) →
-          let n = first (gateTurns w key number ++ unlessHeld h (limiterTurns s w r t key rate draw)) in
+      go : (h : Bool) → isHeld w (key .bytes) number ≡ h → (z : Bool) →
+          let n = first (gateTurns w (key .bytes) number ++ unlessHeld h (limiterTurns s w r t key rate draw)) in
           let v = passed h s w r t key number rate draw in
           eqb n 0 ≡ z → Quiet r (record { answer = cond z (v .answer) (Refused n); table = cond z (v .table) w; room = cond z (v .room) r })
       go true p true q = record { room = refl; none = refl; said = inl refl }
@@ -79,21 +82,21 @@ module _ (s : Settings) (w r : List ℕ) (t : ℕ) (key : List ℕ) (number : �
 
   -- ---- and one that it is
 
-  pub shot-by-limiter : asks w key number ≡ true → asked s w r t key number rate draw ≡ shot s w r t key number rate draw
+  pub shot-by-limiter : asks w (key .bytes) number ≡ true → asked s w r t key number rate draw ≡ shot s w r t key number rate draw
   unfolding asks
   shot-by-limiter e =
-      let a = and-true (soundFor w key) _ e in
-      let b = and-true (eqb (first (gateTurns w key number)) 0) _ (a .1) in
-      shot-asked s w r t key number rate draw (a .0) (eqb-true _ 0 (b .0)) (unheld (isHeld w key number) (b .1))
+      let a = and-true (soundFor w (key .bytes)) _ e in
+      let b = and-true (eqb (first (gateTurns w (key .bytes) number)) 0) _ (a .1) in
+      shot-asked s w r t key number rate draw (a .0) (eqb-true _ 0 (b .0)) (unheld (isHeld w (key .bytes) number) (b .1))
     where
       unheld : (h : Bool) → not h ≡ true → h ≡ false
       unheld true q = absurd (false≢true q)
       unheld false q = refl
 
-  pub limiter-answers : asks w key number ≡ true → shot s w r t key number rate draw .answer ≡ asShot (inc s r t key rate 1 draw .answer)
+  pub limiter-answers : asks w (key .bytes) number ≡ true → shot s w r t key number rate draw .answer ≡ asShot (inc s r t key rate 1 draw .answer)
   unfolding asked
   limiter-answers e = ap (λ (v : Verdict). v .answer) (sym (shot-by-limiter e))
 
-  pub limiter-leaves : asks w key number ≡ true → shot s w r t key number rate draw .room ≡ inc s r t key rate 1 draw .words
+  pub limiter-leaves : asks w (key .bytes) number ≡ true → shot s w r t key number rate draw .room ≡ inc s r t key rate 1 draw .words
   unfolding asked
   limiter-leaves e = ap (λ (v : Verdict). v .room) (sym (shot-by-limiter e))

@@ -1,5 +1,5 @@
 -- Demand 3 through a gateway: ceiling and floor of a controller's shots, with the table's words any at the beginning, and any calls, shots of any
--- controllers and new seasons between.
+-- controllers of either party and new seasons between.
 -- Assumes nothing.
 use mathlib.Core.Path.{_≡_, refl, sym, ap, subst, _∙_}
 use mathlib.Core.Bool.{Bool, true, false, cond}
@@ -14,6 +14,7 @@ use Rattle.settings.specs.Clock.{windowTicks, joinTicks}
 use Rattle.settings.specs.declared.Settings.{Settings}
 use Rattle.rules.specs.declared.RoomKind.the-variants.{Suppressed}
 use Rattle.room.specs.Room.{empty}
+use Rattle.parties.specs.Parties.{Sent}
 use Rattle.suppressed_verdicts.specs.Calls.{inc}
 use Rattle.gateway.specs.Gateway as Gateway
 use Rattle.gateway.specs.Gateway.{asShot}
@@ -26,19 +27,19 @@ use Rattle.through.specs.Events.{Event, shot, call, season, Lent, lent, 
 
 -- ---- what is asked of the events: a shot is an increment by 1
 
-abbrev pub By : Clause → Settings → List ℕ → RateLimit → Lent → Event → Type 0
+abbrev pub By : Clause → Settings → Sent → RateLimit → Lent → Event → Type 0
 By P s key rate x (shot t k number r draw) = P s key rate (x .room) t (draws k r 1 draw)
 By P s key rate x (call c) = P s key rate (x .room) (c .reading) (c .op)
 By P s key rate x season = Unit {0}
 
-abbrev pub EachBy : Clause → Settings → List ℕ → RateLimit → Lent → List Event → Type 0
+abbrev pub EachBy : Clause → Settings → Sent → RateLimit → Lent → List Event → Type 0
 EachBy P s key rate x [] = Unit {0}
 EachBy P s key rate x (e ∷ es) = By P s key rate (left s x es) e × EachBy P s key rate x es
 
 -- so of the limiter's own history
-asked-by : (P : Clause) (s : Settings) (key : List ℕ) (rate : RateLimit) (x : Lent) (calls : List (Call Suppressed)) (r : List ℕ) (e : Event) →
+asked-by : (P : Clause) (s : Settings) (key : Sent) (rate : RateLimit) (x : Lent) (calls : List (Call Suppressed)) (r : List ℕ) (e : Event) →
     words Suppressed s r calls ≡ x .room → By P s key rate x e → AllBy P s key rate r calls → AllBy P s key rate r (asking x e calls)
-asked-by P s key rate x calls r (shot t k number a draw) q p h = go (asks (x .table) k number)
+asked-by P s key rate x calls r (shot t k number a draw) q p h = go (asks (x .table) (k .bytes) number)
   where
     go : (z : Bool) → AllBy P s key rate r (cond z (increment t k a 1 draw ∷ calls) calls)
     go true = (subst (λ (y : List ℕ). P s key rate y t (draws k a 1 draw)) (sym q) p, h)
@@ -46,7 +47,7 @@ asked-by P s key rate x calls r (shot t k number a draw) q p h = go (asks (x .ta
 asked-by P s key rate x calls r (call c) q p h = (subst (λ (y : List ℕ). P s key rate y (c .reading) (c .op)) (sym q) p, h)
 asked-by P s key rate x calls r season q p h = h
 
-all-asked : (P : Clause) (s : Settings) (key : List ℕ) (rate : RateLimit) (x : Lent) (es : List Event) → EachBy P s key rate x es →
+all-asked : (P : Clause) (s : Settings) (key : Sent) (rate : RateLimit) (x : Lent) (es : List Event) → EachBy P s key rate x es →
     AllBy P s key rate (x .room) (asked s x es)
 all-asked P s key rate x [] p = tt
 all-asked P s key rate x (e ∷ es) p =
@@ -56,7 +57,7 @@ all-asked P s key rate x (e ∷ es) p =
 
 abbrev pub CeilingThrough : (Settings → ℕ) → (Settings → RateLimit → ℕ) → Clause → Type 0
 CeilingThrough span limit P =
-    (s : Settings) (slots ring : ℕ) (table key : List ℕ) (rate : RateLimit) (events : List Event) →
+    (s : Settings) (slots ring : ℕ) (table : List ℕ) (key : Sent) (rate : RateLimit) (events : List Event) →
     IsKey key → joinTicks s ≤ windowTicks s → EachBy P s key rate (lent table (empty slots ring)) events →
     (from : ℕ) → inSpan from (from + span s) (admittedIn s key (lent table (empty slots ring)) events) ≤ limit s rate
 
@@ -75,7 +76,7 @@ mission-through-ceiling = carry-ceiling LeavesAlone mission-ceiling
 
 abbrev pub FloorThrough : (Settings → ℕ) → (Settings → RateLimit → ℕ) → Clause → Type 0
 FloorThrough back limit P =
-    (s : Settings) (slots ring : ℕ) (table key : List ℕ) (rate : RateLimit) (events : List Event) (t number : ℕ) (given : RateLimit) (draw : ℕ) →
+    (s : Settings) (slots ring : ℕ) (table : List ℕ) (key : Sent) (rate : RateLimit) (events : List Event) (t number : ℕ) (given : RateLimit) (draw : ℕ) →
     IsKey key → joinTicks s ≤ windowTicks s →
     let x = lent table (empty slots ring) in
     let y = left s x events in
@@ -84,7 +85,7 @@ FloorThrough back limit P =
     1 + aged (back s) t (admittedIn s key x events) ≤ limit s rate → answer ≡ Decided Allowed
 
 carry-floor : (P : Clause) → Floor lookBack softOf P → FloorThrough lookBack softOf P
-carry-floor P f s slots ring table key rate events t number given draw is le p n h l = go (asks w key number) refl
+carry-floor P f s slots ring table key rate events t number given draw is le p n h l = go (asks w (key .bytes) number) refl
   where
     x : Lent
     x = lent table (empty slots ring)
@@ -101,7 +102,7 @@ carry-floor P f s slots ring table key rate events t number given draw is le p n
     same : r ≡ words Suppressed s (empty slots ring) calls
     same = same-room s x events
 
-    go : (z : Bool) → asks w key number ≡ z → Gateway.shot s w r t key number given draw .answer ≡ Decided Allowed
+    go : (z : Bool) → asks w (key .bytes) number ≡ z → Gateway.shot s w r t key number given draw .answer ≡ Decided Allowed
     go false e = absurd (out (shot-quiet s w r t key number given draw e .said))
       where
         out : (Gateway.shot s w r t key number given draw .answer ≡ Held) ⊎ (numberOf (shotRow (Gateway.shot s w r t key number given draw .answer)) ≢ 0) → ⊥

@@ -8,6 +8,7 @@ use Prim.Native.Nat.{ℕ, _≤_}
 use native.Mathlib.Omega.{arith}
 use native.Mathlib.Decide.{ℕ-discrete}
 use lib.Dec.{ltb}
+use Rattle.parties.specs.Parties.{Sent}
 use Rattle.common.specs.Refusals.{first}
 use Rattle.common.specs.declared.units.RateLimit.{RateLimit}
 use Rattle.common.specs.declared.comparator.RateLimitComparator.{RateLimitComparator}
@@ -26,7 +27,7 @@ use Rattle.unnamed_set.specs.Unnamed.{badCall, blindTurns, refusal}
 
 -- ---- the code
 
-module _ (kind : RoomKind) (s : Settings) (w : List ℕ) (t : ℕ) (key : List ℕ) (rate : RateLimit) (count : ℕ)
+module _ (kind : RoomKind) (s : Settings) (w : List ℕ) (t : ℕ) (key : Sent) (rate : RateLimit) (count : ℕ)
     (j : Judged) (e : j ≡ judged kind s w t key) where
   judged-code : j .code ≡ early kind s w t key
   judged-code = ap (λ (y : Judged). y .code) e ∙ code-is kind s w t key (slotIn s w t key)
@@ -35,7 +36,7 @@ module _ (kind : RoomKind) (s : Settings) (w : List ℕ) (t : ℕ) (key : List �
   unfolding refusal
   refusal-early z = judged-code ∙ sym (refused-early kind s w t key _ (λ f. z (judged-code ∙ f)))
 
-  -- where none of 1 to 7 is met
+  -- where none of 1 to 7, 15 and 16 is met
   late-is : j .code ≡ 0 → refusal kind s w t key rate count ≡ first (blindTurns rate count ++ ((badCall, true) ∷ []))
   unfolding refusal
   late-is h = refused-own kind s w t key _ (sym judged-code ∙ h)
@@ -64,13 +65,13 @@ module _ (kind : RoomKind) (s : Settings) (w : List ℕ) (t : ℕ) (key : List �
 abbrev pub Exactly : ℕ → ℕ → ℕ → Type 0
 Exactly n x y = (x ≡ n → y ≡ n) × (y ≡ n → x ≡ n)
 
-module _ (kind : RoomKind) (s : Settings) (w : List ℕ) (t : ℕ) (key : List ℕ) (rate : RateLimit) (count : ℕ)
+module _ (kind : RoomKind) (s : Settings) (w : List ℕ) (t : ℕ) (key : Sent) (rate : RateLimit) (count : ℕ)
     (full : Bool) (comparator : RateLimitComparator) (mode : HistoryUpdateMode) (h : Held) where
-  -- a number up to 10 is given without them exactly where it is given with them
-  pub as-named : (n : ℕ) → n ≢ 0 → n ≤ 10 →
+  -- a number other than 11 and 14 is given without them exactly where it is given with them
+  pub as-named : (n : ℕ) → n ≢ 0 → n ≢ 11 → n ≢ 14 →
       Exactly n (refusal kind s w t key rate count) (first (refusals kind s w t key (setTurns kind s full t rate comparator count mode h)))
   unfolding refusal first
-  as-named n z low = go (ℕ-discrete (early kind s w t key) 0)
+  as-named n z m k = go (ℕ-discrete (early kind s w t key) 0)
     where
       own : List (ℕ × Bool)
       own = blindTurns rate count ++ ((badCall, true) ∷ [])
@@ -81,8 +82,8 @@ module _ (kind : RoomKind) (s : Settings) (w : List ℕ) (t : ℕ) (key : List �
       late : (a b c : Bool) → Exactly n (cond a 8 (cond b 10 14)) (cond a 8 (cond b 10 (cond c 11 0)))
       late true b c = (λ p. p, λ p. p)
       late false true c = (λ p. p, λ p. p)
-      late false false true = (λ p. absurd (omega (arith, low, p)), λ p. absurd (omega (arith, low, p)))
-      late false false false = (λ p. absurd (omega (arith, low, p)), λ p. absurd (z (sym p)))
+      late false false true = (λ p. absurd (k (sym p)), λ p. absurd (m (sym p)))
+      late false false false = (λ p. absurd (k (sym p)), λ p. absurd (z (sym p)))
 
       go : Dec (early kind s w t key ≡ 0) → Exactly n (first (refusals kind s w t key own)) (first (refusals kind s w t key ownSet))
       go (yes e) =

@@ -1,10 +1,11 @@
--- A set whose comparator or mode is not named, as a face for C can ask for one: it is no call. "Lowest number first", so 14 is given after all that can be
--- judged without them.
+-- A set whose comparator or mode is not named, as a face for C can ask for one: it is no call. 14 is the last in the order of judging, so it is given after all
+-- that can be judged without them.
 -- Assumes nothing.
 use mathlib.Core.Bool.{Bool, true}
 use mathlib.Core.List.{List, [], _∷_, _++_}
 use Prim.Native.Nat.{ℕ}
 use lib.Dec.{ltb}
+use Rattle.parties.specs.Parties.{Sent}
 use Rattle.common.specs.Refusals.{first}
 use Rattle.common.specs.declared.units.RateLimit.{RateLimit}
 use Rattle.settings.specs.declared.Settings.{Settings}
@@ -21,9 +22,9 @@ badCall = 14
 abbrev pub blindTurns : RateLimit → ℕ → List (ℕ × Bool)
 blindTurns rate count = (8, unrated rate) ∷ (10, ltb mostTotal count) ∷ []
 
--- 1 to 8, 10, and else 14
-abbrev pub unnamed : RoomKind → Settings → List ℕ → ℕ → List ℕ → RateLimit → ℕ → List (ℕ × Bool)
+-- 1 to 7, 15, 16, 8, 10, and else 14
+abbrev pub unnamed : RoomKind → Settings → List ℕ → ℕ → Sent → RateLimit → ℕ → List (ℕ × Bool)
 unnamed kind s w t key rate count = refusals kind s w t key (blindTurns rate count ++ ((badCall, true) ∷ []))
 
-unfoldable pub refusal : RoomKind → Settings → List ℕ → ℕ → List ℕ → RateLimit → ℕ → ℕ
+unfoldable pub refusal : RoomKind → Settings → List ℕ → ℕ → Sent → RateLimit → ℕ → ℕ
 refusal kind s w t key rate count = first (unnamed kind s w t key rate count)

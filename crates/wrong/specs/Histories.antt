@@ -14,13 +14,14 @@ use Rattle.answers.specs.declared.RateLimitDecision.{RateLimitDecision}
 use Rattle.answers.specs.declared.RateLimitDecision.the-variants as decision
 use Rattle.answers.specs.declared.RateLimitDecision.the-variants.{Allowed}
 use Rattle.settings.specs.declared.Settings.{Settings}
+use Rattle.parties.specs.Parties.{Sent}
 use Rattle.rules.specs.declared.RoomKind.the-variants.{Suppressed}
 use Rattle.judge.specs.Verdict.{Verdict}
 use Rattle.suppressed_verdicts.specs.Calls as Own
 use Rattle.admissions.specs.Log.{Entry, noted, pick, pick-all, inSpan, aged}
 use Rattle.steps.specs.Ops as Ops
 use Rattle.steps.specs.Ops.{Call, draws, words, rows}
-use Rattle.demand3.specs.History.{rowAdmits, admitsCount, sameBytes, logged, admitted, IsKey, AllLeaveAlone}
+use Rattle.demand3.specs.History.{rowAdmits, admitsCount, sameKey, logged, admitted, IsKey, AllLeaveAlone}
 use Rattle.demand3.specs.Demand3.{lessBucket, mission-ceiling, mission-floor}
 use Rattle.promises.specs.Rules.{Inc}
 use Rattle.promises.specs.Cases.{hardBy, perSecond, key, room, single}
@@ -85,7 +86,7 @@ same-log (c ∷ cs) = ap₂ (λ (w : List ℕ) (l : List Entry). noted (admitsCo
     (same-log cs)
 
 is-key : IsKey key
-is-key = record { bytes = key-bytes; short = omega arith }
+is-key = record { party = refl; bytes = key-bytes; short = omega arith }
 
 pub own-ceiling : Ceiling Own.inc
 own-ceiling shots from =
@@ -179,7 +180,7 @@ module _ (f : Inc) (declines : Always (λ d. d ≡ decision.Suppressed one false
 
 -- ---- "demand 3 counts from the answers given": calls that were answered alike have one log, whatever the settings, and whatever words they found
 
-pub counts-from-answers : (s z : Settings) (k w v : List ℕ) (made : List (Call Suppressed)) → rows Suppressed s w made ≡ rows Suppressed z v made →
+pub counts-from-answers : (s z : Settings) (k : Sent) (w v : List ℕ) (made : List (Call Suppressed)) → rows Suppressed s w made ≡ rows Suppressed z v made →
     admitted s k w made ≡ admitted z k v made
 counts-from-answers s z k w v [] e = refl
 counts-from-answers s z k w v (c ∷ cs) e =
@@ -190,12 +191,12 @@ counts-from-answers s z k w v (c ∷ cs) e =
         admitted s k w cs ≡ admitted z k v cs →
         logged s k (words Suppressed s w cs) (c .reading) op (admitted s k w cs) ≡ logged z k (words Suppressed z v cs) (c .reading) op (admitted z k v cs)
     go (Ops.draws k′ rate count draw) h l =
-        ap₂ (λ (row : List ℕ) (log : List Entry). noted (sameBytes k′ k && rowAdmits row) (c .reading) count log) h l
+        ap₂ (λ (row : List ℕ) (log : List Entry). noted (sameKey k′ k && rowAdmits row) (c .reading) count log) h l
     go (Ops.snapshot k′) h l = l
     go (Ops.getFactor k′) h l = l
     go (Ops.setRate k′ rate) h l = l
     go (Ops.set k′ rate comparator count mode) h l = l
     go (Ops.delete k′) h l = l
-    go (Ops.cleanup stale) h l = l
-    go (Ops.cleanupBoth other stale) h l = l
-    go Ops.clear h l = l
+    go (Ops.cleanup who stale) h l = l
+    go (Ops.cleanupBoth who other whose stale) h l = l
+    go (Ops.clear who) h l = l

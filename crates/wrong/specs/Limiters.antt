@@ -22,6 +22,7 @@ use Rattle.keys.specs.declared.Key.{Key}
 use Rattle.ring.specs.declared.Bucket.{Bucket}
 use Rattle.ring.specs.Ring.{buckets, sumOf, counts}
 use Rattle.room.specs.Room.{ringOf, bodyOf}
+use Rattle.parties.specs.Parties.{Sent, turns}
 use Rattle.rules.specs.declared.RoomKind.{RoomKind}
 use Rattle.rules.specs.declared.RoomKind.the-variants.{Absolute, Suppressed}
 use Rattle.judge.specs.Judge.{misfits}
@@ -42,7 +43,7 @@ use Rattle.promises.specs.Boundary.{Fills, boundary, further}
 -- demand 1
 abbrev pub ByTable : RoomKind → Inc → Type 0
 ByTable kind f =
-    (s : Settings) (w : List ℕ) (t : ℕ) (k : List ℕ) (rate : RateLimit) (count draw : ℕ) →
+    (s : Settings) (w : List ℕ) (t : ℕ) (k : Sent) (rate : RateLimit) (count draw : ℕ) →
     TurnedBy (incTable kind s w t k rate count draw) (decisionRow (f s w t k rate count draw .answer)) w (f s w t k rate count draw .words)
 
 -- demand 2 is `IncByRules`; its halves are said of f's answers with the rules' words, and of the rules' answers with f's words
@@ -68,14 +69,14 @@ own-rules Suppressed = demand2 .suppressed-inc
 -- ---- answers and state together are the rules
 
 -- the rules leave one answer
-rule-answer : (kind : RoomKind) (s : Settings) (w : List ℕ) (t : ℕ) (k : List ℕ) (rate : RateLimit) (count draw : ℕ) (v u : Verdict RateLimitDecision) →
+rule-answer : (kind : RoomKind) (s : Settings) (w : List ℕ) (t : ℕ) (k : Sent) (rate : RateLimit) (count draw : ℕ) (v u : Verdict RateLimitDecision) →
     IncRule kind s w t k rate count draw v → IncRule kind s w t k rate count draw u → v .answer ≡ u .answer
 rule-answer Absolute s w t k rate count draw v u p q = p .answer ∙ sym (q .answer)
 rule-answer Suppressed s w t k rate count draw v u p q = p .answer ∙ sym (q .answer)
 
 -- the words of v pass with the answer of u too
 module _
-    (kind : RoomKind) (s : Settings) (w : List ℕ) (t : ℕ) (k : List ℕ) (rate : RateLimit) (count draw : ℕ) (v u : Verdict RateLimitDecision) where
+    (kind : RoomKind) (s : Settings) (w : List ℕ) (t : ℕ) (k : Sent) (rate : RateLimit) (count draw : ℕ) (v u : Verdict RateLimitDecision) where
   answered : v .answer ≡ u .answer → IncRule kind s w t k rate count draw v → IncRule kind s w t k rate count draw (verdict (u .answer) (v .words))
   answered e p = subst (λ (d : RateLimitDecision). IncRule kind s w t k rate count draw (verdict d (v .words))) e p
 
@@ -101,13 +102,13 @@ module _ (kind : RoomKind) (f : Inc) where
 
 -- ---- at one input
 
-table-in-order : (kind : RoomKind) (s : Settings) (w : List ℕ) (t : ℕ) (k : List ℕ) (rate : RateLimit) (count draw : ℕ) →
+table-in-order : (kind : RoomKind) (s : Settings) (w : List ℕ) (t : ℕ) (k : Sent) (rate : RateLimit) (count draw : ℕ) →
     InOrder 0 (incTable kind s w t k rate count draw)
-unfolding faults misfits
+unfolding faults misfits turns
 table-in-order Absolute s w t k rate count draw = omega arith
 table-in-order Suppressed s w t k rate count draw = in-order s w t k rate count draw
 
-pub key-bytes : Bytes key
+pub key-bytes : Bytes (key .bytes)
 key-bytes zero = omega arith
 key-bytes (suc i) = omega arith
 
@@ -140,7 +141,7 @@ allowed-0 d e = ap (λ (x : RateLimitDecision). numberOf (decisionRow x)) e
 -- ---- what every answer is like
 
 abbrev pub Always : (RateLimitDecision → Type 0) → Inc → Type 0
-Always P f = (s : Settings) (w : List ℕ) (t : ℕ) (k : List ℕ) (rate : RateLimit) (count draw : ℕ) → P (f s w t k rate count draw .answer)
+Always P f = (s : Settings) (w : List ℕ) (t : ℕ) (k : Sent) (rate : RateLimit) (count draw : ℕ) → P (f s w t k rate count draw .answer)
 
 -- a decision's case and its wait, by its row of document 01's numbers
 abbrev pub caseOf : RateLimitDecision → ℕ
@@ -218,7 +219,7 @@ module _ (f : Inc) where
 
 abbrev pub SameAnswers : RoomKind → Inc → Type 0
 SameAnswers kind f =
-    (s : Settings) (w : List ℕ) (t : ℕ) (k : List ℕ) (rate : RateLimit) (count draw : ℕ) →
+    (s : Settings) (w : List ℕ) (t : ℕ) (k : Sent) (rate : RateLimit) (count draw : ℕ) →
     f s w t k rate count draw .answer ≡ incOf kind s w t k rate count draw .answer
 
 pub same-by-answers : (kind : RoomKind) (f : Inc) → SameAnswers kind f → ByAnswers kind f
@@ -260,7 +261,7 @@ stated kind f p w count z both =
 
 -- changes nothing
 abbrev pub Idles : Inc → Type 0
-Idles f = (s : Settings) (w : List ℕ) (t : ℕ) (k : List ℕ) (rate : RateLimit) (count draw : ℕ) → f s w t k rate count draw .words ≡ w
+Idles f = (s : Settings) (w : List ℕ) (t : ℕ) (k : Sent) (rate : RateLimit) (count draw : ℕ) → f s w t k rate count draw .words ≡ w
 
 -- what fills an empty room stands in its slot
 pub idling-breaks-the-state : (kind : RoomKind) (f : Inc) → Idles f → ByState kind f → ⊥
@@ -272,9 +273,9 @@ idling-breaks-the-state kind f h p =
 
 -- counts the first increment only: words change while the key has no bucket
 pub record Once (kind : RoomKind) (f : Inc) : Type 0 where
-  pub begins : (s : Settings) (w : List ℕ) (t : ℕ) (k : List ℕ) (rate : RateLimit) (count draw : ℕ) → bucketsOf w k ≡ [] →
+  pub begins : (s : Settings) (w : List ℕ) (t : ℕ) (k : Sent) (rate : RateLimit) (count draw : ℕ) → bucketsOf w k ≡ [] →
       f s w t k rate count draw .words ≡ incOf kind s w t k rate count draw .words
-  pub ends : (s : Settings) (w : List ℕ) (t : ℕ) (k : List ℕ) (rate : RateLimit) (count draw : ℕ) → bucketsOf w k ≢ [] → f s w t k rate count draw .words ≡ w
+  pub ends : (s : Settings) (w : List ℕ) (t : ℕ) (k : Sent) (rate : RateLimit) (count draw : ℕ) → bucketsOf w k ≢ [] → f s w t k rate count draw .words ≡ w
 
 pub some-held : (kind : RoomKind) → bucketsOf (single kind) key ≢ []
 some-held kind e = let n : _≡_ {A = ℕ} 1 0 = ap length (sym (filling kind .single-buckets) ∙ e) in omega (arith, n)

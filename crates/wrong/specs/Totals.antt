@@ -12,6 +12,7 @@ use Rattle.settings.specs.Settings.{defaults, faults}
 use Rattle.answers.specs.declared.SnapshotAnswer.{SnapshotAnswer}
 use Rattle.answers.specs.declared.TotalAnswer.{TotalAnswer}
 use Rattle.settings.specs.declared.Settings.{Settings}
+use Rattle.parties.specs.Parties.{Sent, turns}
 use Rattle.rules.specs.declared.RoomKind.the-variants.{Absolute, Suppressed}
 use Rattle.judge.specs.Judge.{misfits}
 use Rattle.judge.specs.Verdict.{Verdict}
@@ -28,12 +29,12 @@ use Rattle.wrong.specs.Limiters.{key-bytes}
 
 -- of the 10 at reading 0, at an age of one window
 ten-passes : first (plain Absolute defaults ten 10000 key) ≡ 0
-unfolding faults misfits totalRow
+unfolding faults misfits turns totalRow
 ten-passes =
     taken (plain Absolute defaults ten 10000 key) (omega arith) _ _ _ (demand1 .calls Absolute defaults ten 10000 (get key))
     (ap (λ (a : TotalAnswer). getD (totalRow a) 0 0) (boundary .live-10000))
 
-pub telling-breaks-the-absolute-sums : (g : Settings → List ℕ → ℕ → List ℕ → Verdict TotalAnswer) →
+pub telling-breaks-the-absolute-sums : (g : Settings → List ℕ → ℕ → Sent → Verdict TotalAnswer) →
     getD (totalRow (g defaults ten 10000 key .answer)) 2 0 ≢ 10 → TotalByRules g → ⊥
 unfolding totalRow
 telling-breaks-the-absolute-sums g h p =
@@ -42,12 +43,12 @@ telling-breaks-the-absolute-sums g h p =
 
 -- of the 20 at reading 0, at the same reading
 twenty-passes : first (plain Suppressed (hardBy 2) twenty 0 key) ≡ 0
-unfolding faults misfits snapshotRow
+unfolding faults misfits turns snapshotRow
 twenty-passes =
     taken (plain Suppressed (hardBy 2) twenty 0 key) (omega arith) _ _ _ (demand1 .calls Suppressed (hardBy 2) twenty 0 (snapshot key))
     (ap (λ (a : SnapshotAnswer). getD (snapshotRow a) 0 0) (further .twenty-given))
 
-pub telling-breaks-the-sums : (g : Settings → List ℕ → ℕ → List ℕ → Verdict SnapshotAnswer) →
+pub telling-breaks-the-sums : (g : Settings → List ℕ → ℕ → Sent → Verdict SnapshotAnswer) →
     getD (snapshotRow (g (hardBy 2) twenty 0 key .answer)) 2 0 ≢ 20 → SnapshotByRules g → ⊥
 unfolding snapshotRow
 telling-breaks-the-sums g h p =
@@ -56,10 +57,10 @@ telling-breaks-the-sums g h p =
 
 -- ---- stored: whatever it is, the slot is unsound and the next call is turned away with 5. So `NeverFive` does not hold of any words
 
-pub storing-breaks-the-absolute-sums : (n : ℕ) → n ≢ 10 → totalRow (aget 0 (set ten 10 n) .answer) ≡ refusedRow 5
+pub storing-breaks-the-absolute-sums : (n : ℕ) → n ≢ 10 → totalRow (aget 0 (set ten 74 n) .answer) ≡ refusedRow 5
 unfolding totalRow
 storing-breaks-the-absolute-sums n h = rw (further .absolute-made-up n h)
 
-pub storing-breaks-the-sums : (n : ℕ) → n ≢ 20 → snapshotRow (sget 0 (set twenty 10 n) .answer) ≡ refusedRow 5
+pub storing-breaks-the-sums : (n : ℕ) → n ≢ 20 → snapshotRow (sget 0 (set twenty 74 n) .answer) ≡ refusedRow 5
 unfolding snapshotRow
 storing-breaks-the-sums n h = rw (further .made-up n h)

@@ -8,6 +8,9 @@ use Rattle.abi.proofs.frostaxle_absolute_is_allowed.Tie as tie
 settings-requires : tie.Need-settings-requires
 settings-requires c κs = search needs
 
+caller-of-requires : tie.Need-caller-of-requires
+caller-of-requires c κs = search needs
+
 is-allowed-requires : tie.Need-is-allowed-requires
 is-allowed-requires c κs = search needs
 
@@ -23,7 +26,8 @@ same-length c = search needs
 returns : tie.Need-returns
 returns c =
     let answered = c .before .before .before .before .before in
-    faced decisionRow _ _ _ _ _ _ (rw (answered .before .before .settings .ensures) at (answered .is-allowed .ensures))
+    let called = answered .before .before in
+    faced decisionRow _ _ _ _ _ _ (rw (called .before .settings .ensures, called .caller-of .ensures) at (answered .is-allowed .ensures))
     (c .before .before .decision-row .ensures) (c .give .ensures)
 
 pub frostaxle-absolute-is-allowed-spec : {M : Type 1} → statement M
@@ -31,6 +35,7 @@ frostaxle-absolute-is-allowed-spec =
     tie.close
     (tie.spec
     settings-requires
+    caller-of-requires
     is-allowed-requires
     decision-row-requires
     give-requires

@@ -7,6 +7,9 @@ use Rattle.abi.proofs.frostaxle_gateway_shot.Tie as tie
 settings-requires : tie.Need-settings-requires
 settings-requires c κs = search needs
 
+caller-of-requires : tie.Need-caller-of-requires
+caller-of-requires c κs = search needs
+
 shot-requires : tie.Need-shot-requires
 shot-requires c κs = search needs
 
@@ -25,14 +28,16 @@ same-length-2 c = search needs
 returns : tie.Need-returns
 returns c =
     let answered = c .before .before .before .before .before .before .before in
-    faced-gateway _ _ _ _ _ _ _ (rw (answered .before .before .before .settings .ensures) at (answered .shot .ensures)) (c .before .before .shot-row .ensures)
-    (c .give .ensures)
+    let called = answered .before .before .before in
+    faced-gateway _ _ _ _ _ _ _ (rw (called .before .settings .ensures, called .caller-of .ensures) at (answered .shot .ensures))
+    (c .before .before .shot-row .ensures) (c .give .ensures)
 
 pub frostaxle-gateway-shot-spec : {M : Type 1} → statement M
 frostaxle-gateway-shot-spec =
     tie.close
     (tie.spec
     settings-requires
+    caller-of-requires
     shot-requires
     shot-row-requires
     give-requires

@@ -7,6 +7,12 @@ use Rattle.abi.proofs.frostaxle_provider_cleanup.Tie as tie
 settings-requires : tie.Need-settings-requires
 settings-requires c κs = search needs
 
+caller-of-requires : tie.Need-caller-of-requires
+caller-of-requires c κs = search needs
+
+caller-of-requires-2 : tie.Need-caller-of-requires-2
+caller-of-requires-2 c κs = search needs
+
 cleanup-requires : tie.Need-cleanup-requires
 cleanup-requires c κs = search needs
 
@@ -25,14 +31,18 @@ same-length-2 c = search needs
 returns : tie.Need-returns
 returns c =
     let answered = c .before .before .before .before .before .before .before in
-    faced-both _ _ _ _ _ _ _ (rw (answered .before .before .before .settings .ensures) at (answered .cleanup .ensures)) (c .before .before .done-row .ensures)
-    (c .give .ensures)
+    let others = answered .before .before .before in
+    let ones = others .before in
+    faced-both _ _ _ _ _ _ _ (rw (ones .before .settings .ensures, ones .caller-of .ensures, others .caller-of2 .ensures) at (answered .cleanup .ensures))
+    (c .before .before .done-row .ensures) (c .give .ensures)
 
 pub frostaxle-provider-cleanup-spec : {M : Type 1} → statement M
 frostaxle-provider-cleanup-spec =
     tie.close
     (tie.spec
     settings-requires
+    caller-of-requires
+    caller-of-requires-2
     cleanup-requires
     done-row-requires
     give-requires

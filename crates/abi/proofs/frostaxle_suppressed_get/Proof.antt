@@ -8,6 +8,9 @@ use Rattle.abi.proofs.frostaxle_suppressed_get.Tie as tie
 settings-requires : tie.Need-settings-requires
 settings-requires c κs = search needs
 
+caller-of-requires : tie.Need-caller-of-requires
+caller-of-requires c κs = search needs
+
 get-requires : tie.Need-get-requires
 get-requires c κs = search needs
 
@@ -23,14 +26,16 @@ same-length c = search needs
 returns : tie.Need-returns
 returns c =
     let answered = c .before .before .before .before .before in
-    faced snapshotRow _ _ _ _ _ _ (rw (answered .before .before .settings .ensures) at (answered .get .ensures)) (c .before .before .snapshot-row .ensures)
-    (c .give .ensures)
+    let called = answered .before .before in
+    faced snapshotRow _ _ _ _ _ _ (rw (called .before .settings .ensures, called .caller-of .ensures) at (answered .get .ensures))
+    (c .before .before .snapshot-row .ensures) (c .give .ensures)
 
 pub frostaxle-suppressed-get-spec : {M : Type 1} → statement M
 frostaxle-suppressed-get-spec =
     tie.close
     (tie.spec
     settings-requires
+    caller-of-requires
     get-requires
     snapshot-row-requires
     give-requires

@@ -8,6 +8,9 @@ use Rattle.abi.proofs.frostaxle_suppressed_get_suppression_factor.Tie a
 settings-requires : tie.Need-settings-requires
 settings-requires c κs = search needs
 
+caller-of-requires : tie.Need-caller-of-requires
+caller-of-requires c κs = search needs
+
 get-suppression-factor-requires : tie.Need-get-suppression-factor-requires
 get-suppression-factor-requires c κs = search needs
 
@@ -23,7 +26,8 @@ same-length c = search needs
 returns : tie.Need-returns
 returns c =
     let answered = c .before .before .before .before .before in
-    faced factorRow _ _ _ _ _ _ (rw (answered .before .before .settings .ensures) at (answered .get-suppression-factor .ensures))
+    let called = answered .before .before in
+    faced factorRow _ _ _ _ _ _ (rw (called .before .settings .ensures, called .caller-of .ensures) at (answered .get-suppression-factor .ensures))
     (c .before .before .factor-row .ensures) (c .give .ensures)
 
 pub frostaxle-suppressed-get-suppression-factor-spec : {M : Type 1} → statement M
@@ -31,6 +35,7 @@ frostaxle-suppressed-get-suppression-factor-spec =
     tie.close
     (tie.spec
     settings-requires
+    caller-of-requires
     get-suppression-factor-requires
     factor-row-requires
     give-requires

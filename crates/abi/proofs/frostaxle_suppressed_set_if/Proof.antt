@@ -9,6 +9,9 @@ settings-requires c κs = search needs
 comparison-of-requires : tie.Need-comparison-of-requires
 comparison-of-requires c κs = search needs
 
+caller-of-requires : tie.Need-caller-of-requires
+caller-of-requires c κs = search needs
+
 set-requires : tie.Need-set-requires
 set-requires c κs = search needs
 
@@ -18,9 +21,10 @@ same-length c = search needs
 returns : tie.Need-returns
 returns c =
     let set = c .before .before in
-    let compared = set .before .before .before in
-    rw (compared .before .settings .ensures, compared .comparison-of .ensures) at (set .set .ensures)
+    let called = set .before .before in
+    let compared = called .before .before in
+    rw (compared .before .settings .ensures, compared .comparison-of .ensures, called .caller-of .ensures) at (set .set .ensures)
 
 pub frostaxle-suppressed-set-if-spec : {M : Type 1} → statement M
 frostaxle-suppressed-set-if-spec =
-    tie.close (tie.spec settings-requires comparison-of-requires set-requires same-length returns)
+    tie.close (tie.spec settings-requires comparison-of-requires caller-of-requires set-requires same-length returns)

@@ -1,16 +1,18 @@
 -- The slot opened is the key's, what it planned can be carried out, and every refusal is settled before that.
 -- Assumes nothing.
 use mathlib.Core.Path.{_≡_, refl, sym, ap, ap₂, subst, _∙_}
+use mathlib.Core.Bool.{false}
 use Prim.Native.Nat.{ℕ}
 use Rattle.common.specs.Limits.{absoluteWord}
 use Rattle.common.specs.Ranges.{rateOk}
 use Rattle.common.specs.Refusals.{first}
 use Rattle.room.specs.Room.{Room, ringOf}
+use Rattle.parties.specs.Parties.{sent}
 use Rattle.settings.specs.Settings.{windowIn, Proper}
 use Rattle.settings.specs.Clock.{ticksIn}
 use Rattle.rules.specs.declared.RoomKind.the-variants.{Absolute}
 use Rattle.opened.specs.Slot.{noSlot, pickSlot, firstLook}
-use Rattle.judge.specs.Laws.{refused-is, passed-is, fault-early, no-fault, opened-is, plain-is}
+use Rattle.judge.specs.Laws.{refused-is, passed-is, standing-code, standing-none, fault-early, no-fault, opened-is, plain-is}
 use Rattle.change.specs.Words.{Applies, applied}
 use Rattle.plan.specs.Plan.{lacksAt}
 use Rattle.absolute_test.specs.Test.{allowedAt, decidedAt}
@@ -26,15 +28,17 @@ use Rattle.absolute_inc.proofs.inc.Tie as tie
 passed : (c : tie.Else1) → let a = c .before .before .before .before .before .args in Room (a .room .now) × Proper (a .settings)
 passed c =
     let a = c .before .before .before .before .before .args in
-    no-fault Absolute (a .settings) (a .room .now) (a .reading) (a .key .now) (sym (c .before .fault .ensures) ∙ c .if1 .left)
+    no-fault Absolute (a .settings) (a .room .now) (a .reading) (sent (a .caller) (a .key .now)) (sym (c .before .fault .ensures) ∙ c .if1 .left)
 
 found : (c : tie.After-late) →
     let d = c .before .before in
     let n = d .before .before .before in
     let r = n .before .before .before in
-    let g = r .before .before .before .before .before in
-    let a = g .before .before .before .before .before .before .before .before .before .args in
-    Finds (a .settings) (a .room .now) (a .reading) (a .key .now) (a .rate) (a .count) (record { code = 0; slot = g .open-at .result }) (r .place .result)
+    let v = r .before .before .before in
+    let g = v .before .before in
+    let a = g .before .before .before .before .before .before .before .before .before .before .args in
+    Finds (a .settings) (a .room .now) (a .reading) (sent (a .caller) (a .key .now)) (a .rate) (a .count)
+    (record { code = 0; none = v .misfit .result .none; slot = g .open-at .result }) (r .place .result)
     (n .allows-first .result) (d .clears .result) (c .late .result)
 found c =
     let d = c .before .before in
@@ -46,16 +50,19 @@ found c =
     let u = r .before .before in
     let v = u .before in
     let g = v .before .before in
-    let h = g .before in
+    let h = g .before .before in
     let i = h .before .before in
     let a = i .before .before .before .before .before .before .args in
+    let key = sent (a .caller) (a .key .now) in
     let slot = g .open-at .result in
+    let y = v .misfit in
     record {
       goes = record {
-        is = passed-is Absolute (a .settings) (a .room .now) (a .reading) (a .key .now) slot (sym (v .misfit .ensures) ∙ u .if2 .left)
-            (plain-is Absolute (a .settings) (a .room .now) (a .reading) (a .key .now) _ _ slot (g .open-at .ensures) (i .window-ticks .ensures)
-            (h .address .ensures));
-        none = refl;
+        is = passed-is Absolute (a .settings) (a .room .now) (a .reading) key (y .result .none) slot
+            (sym (standing-code Absolute (a .settings) (a .room .now) (a .reading) key (y .result) (y .ensures)) ∙ u .if2 .left)
+            (standing-none Absolute (a .settings) (a .room .now) (a .reading) key (y .result) (y .ensures) (u .if2 .left))
+            (plain-is Absolute (a .settings) (a .room .now) (a .reading) key _ _ slot (g .open-at .ensures) (i .window-ticks .ensures) (h .address .ensures));
+        unrefused = refl;
       };
       place-is = r .place .ensures;
       may-is = n .allows-first .ensures ∙
@@ -65,18 +72,18 @@ found c =
           (q .cut-limit .ensures);
       number-is = c .late .ensures ∙
           ap (λ (ticks : ℕ). first (incRefusals (ringOf (a .room .now)) ticks (a .reading) (a .count) (rateOk (a .rate .0)) (n .allows-first .result)
-          (lacksAt (a .room .now) (r .place .result) slot) (d .clears .result) slot)) (m .join-ticks .ensures);
+          (lacksAt (y .result .none) slot) (d .clears .result) slot)) (m .join-ticks .ensures);
     }
 
 looked : (c : tie.After-looked-unless) →
     let n = c .before .before .before .before .before .before .before in
     let g = n .before .before .before .before .before .before .before .before in
-    let a = g .before .before .before .before .before .before .before .before .before .args in
+    let a = g .before .before .before .before .before .before .before .before .before .before .args in
     c .looked-unless .result ≡ pickSlot (n .allows-first .result) (g .open-at .result) (lookIn (a .settings) (a .reading) (g .open-at .result))
 looked c =
     let n = c .before .before .before .before .before .before .before in
     let g = n .before .before .before .before .before .before .before .before in
-    let a = g .before .before .before .before .before .before .before .before .before .args in
+    let a = g .before .before .before .before .before .before .before .before .before .before .args in
     let slot = g .open-at .result in
     c .looked-unless .ensures ∙
     ap (λ (look : ℕ). pickSlot (n .allows-first .result) slot (firstLook look (a .reading) slot)) (n .before .look-ticks .ensures)
@@ -85,7 +92,7 @@ made : (c : tie.After-inc-change) →
     let d = c .before .before .before .before .before .before in
     let n = d .before .before .before in
     let g = n .before .before .before .before .before .before .before .before in
-    let a = g .before .before .before .before .before .before .before .before .before .args in
+    let a = g .before .before .before .before .before .before .before .before .before .before .args in
     let slot = g .open-at .result in
     c .inc-change .result ≡
     incChange (absoluteWord (a .rate .0) (windowIn (a .settings))) (a .count) (n .allows-first .result) (d .clears .result) slot
@@ -94,7 +101,7 @@ made c =
     let d = c .before .before .before .before .before .before in
     let n = d .before .before .before in
     let g = n .before .before .before .before .before .before .before .before in
-    let a = g .before .before .before .before .before .before .before .before .before .args in
+    let a = g .before .before .before .before .before .before .before .before .before .before .args in
     c .inc-change .ensures ∙
     ap (incChange (absoluteWord (a .rate .0) (windowIn (a .settings))) (a .count) (n .allows-first .result) (d .clears .result) (g .open-at .result))
     (looked (c .before .before))
@@ -111,9 +118,10 @@ returns : tie.Need-returns
 returns c =
     let y = c .before in
     let a = y .before .before .before .before .args in
-    let e = fault-early Absolute (a .settings) (a .room .now) (a .reading) (a .key .now) (y .fault .result) (y .fault .ensures) (c .if1 .taken) in
-    inc-refused (a .settings) (a .room .now) (a .reading) (a .key .now) (a .rate) (a .count) (record { code = y .fault .result; slot = noSlot 0 })
-    (refused-is Absolute (a .settings) (a .room .now) (a .reading) (a .key .now) _ (y .fault .result) e (c .if1 .taken)) (c .if1 .taken)
+    let key = sent (a .caller) (a .key .now) in
+    let e = fault-early Absolute (a .settings) (a .room .now) (a .reading) key (y .fault .result) (y .fault .ensures) (c .if1 .taken) in
+    inc-refused (a .settings) (a .room .now) (a .reading) key (a .rate) (a .count) (record { code = y .fault .result; none = false; slot = noSlot 0 })
+    (refused-is Absolute (a .settings) (a .room .now) (a .reading) key _ (y .fault .result) e (c .if1 .taken)) (c .if1 .taken)
 
 window-ticks-requires : tie.Need-window-ticks-requires
 window-ticks-requires c κs = passed c .1 .window-high
@@ -122,12 +130,12 @@ address-requires : tie.Need-address-requires
 address-requires c κs = passed (c .before .before) .0
 
 open-at-requires : tie.Need-open-at-requires
-open-at-requires c κs = passed (c .before .before .before) .0
+open-at-requires c κs = passed (c .before .before .before .before) .0
 
 misfit-requires : tie.Need-misfit-requires
 misfit-requires c κs =
     let g = c .before in
-    let h = g .before in
+    let h = g .before .before in
     let i = h .before .before in
     let a = i .before .before .before .before .before .before .args in
     let k = passed (i .before) in (
@@ -135,7 +143,7 @@ misfit-requires c κs =
         room = k .0;
         reading = a .reading;
         look = i .window-ticks .result;
-        is = opened-is Absolute (a .settings) (a .room .now) (a .reading) (a .key .now) _ _ _ (g .open-at .result) (g .open-at .ensures)
+        is = opened-is Absolute (a .settings) (a .room .now) (a .reading) (sent (a .caller) (a .key .now)) _ _ _ (g .open-at .result) (g .open-at .ensures)
             (i .window-ticks .ensures) (h .address .ensures);
       },
       k .1,
@@ -146,32 +154,36 @@ same-length-2 c = search needs
 
 returns-2 : tie.Need-returns-2
 returns-2 c =
-    let y = c .before in
-    let a = c .before .before .before .before .before .before .before .before .before .before .before .before .args in
-    inc-refused (a .settings) (a .room .now) (a .reading) (a .key .now) (a .rate) (a .count) (record { code = y .misfit .result; slot = noSlot 0 })
-    (refused-is Absolute (a .settings) (a .room .now) (a .reading) (a .key .now) _ (y .misfit .result) (sym (y .misfit .ensures)) (c .if2 .taken))
+    let y = c .before .misfit in
+    let a = c .before .before .before .before .before .before .before .before .before .before .before .before .before .args in
+    let key = sent (a .caller) (a .key .now) in
+    inc-refused (a .settings) (a .room .now) (a .reading) key (a .rate) (a .count) (record { code = y .result .code; none = false; slot = noSlot 0 })
+    (refused-is Absolute (a .settings) (a .room .now) (a .reading) key _ (y .result .code)
+    (sym (standing-code Absolute (a .settings) (a .room .now) (a .reading) key (y .result) (y .ensures))) (c .if2 .taken))
     (c .if2 .taken)
 
 place-requires : tie.Need-place-requires
-place-requires c κs = passed (c .before .before .before .before .before .before .before .before) .0
+place-requires c κs = passed (c .before .before .before .before .before .before .before .before .before) .0
 
 cut-limit-requires : tie.Need-cut-limit-requires
 cut-limit-requires c κs = search needs
 
 look-ticks-requires : tie.Need-look-ticks-requires
-look-ticks-requires c κs = passed (c .before .before .before .before .before .before .before .before .before .before) .1 .window-high
+look-ticks-requires c κs = passed (c .before .before .before .before .before .before .before .before .before .before .before) .1 .window-high
 
 allows-first-requires : tie.Need-allows-first-requires
 allows-first-requires c κs = search needs
 
 join-ticks-requires : tie.Need-join-ticks-requires
-join-ticks-requires c κs = passed (c .before .before .before .before .before .before .before .before .before .before .before .before) .1 .bucket-high
+join-ticks-requires c κs = passed (c .before .before .before .before .before .before .before .before .before .before .before .before .before) .1 .bucket-high
 
 clears-requires : tie.Need-clears-requires
-clears-requires c κs = passed (c .before .before .before .before .before .before .before .before .before .before .before .before .before .before) .0
+clears-requires c κs = passed (c .before .before .before .before .before .before .before .before .before .before .before .before .before .before .before) .0
 
 late-requires : tie.Need-late-requires
-late-requires c κs = passed (c .before .before .before .before .before .before .before .before .before .before .before .before .before .before .before .before) .0
+late-requires c κs =
+    let d = c .before .before .before .before .before .before .before .before in
+    passed (d .before .before .before .before .before .before .before .before .before) .0
 
 same-length-3 : tie.Need-same-length-3
 same-length-3 c = search needs
@@ -183,7 +195,9 @@ looked-unless-requires : tie.Need-looked-unless-requires
 looked-unless-requires c κs = search needs
 
 decided-requires : tie.Need-decided-requires
-decided-requires c κs = passed (c .before .before .before .before .before .before .before .before .before .before .before .before .before .before .before .before .before .before .before) .1 .window-high
+decided-requires c κs =
+    let d = c .before .before .before .before .before .before .before .before .before .before .before in
+    passed (d .before .before .before .before .before .before .before .before .before) .1 .window-high
 
 inc-change-requires : tie.Need-inc-change-requires
 inc-change-requires c κs = search needs
@@ -194,7 +208,7 @@ apply-requires c κs =
     let z = x .before .before .before in
     let m = z .before .before .before .before .before in
     let r = m .before .before .before .before in
-    let a = r .before .before .before .before .before .before .before .before .before .before .before .before .before .before .args in
+    let a = r .before .before .before .before .before .before .before .before .before .before .before .before .before .before .before .args in
     subst (λ (ticks : ℕ). Applies (a .room .now) (r .place .result) ticks (a .reading) (x .inc-change .result)) (sym (m .join-ticks .ensures))
     (inc-fits (found (z .before)) (z .if3 .left) (x .inc-change .result) (made x))
 
@@ -210,10 +224,11 @@ returns-4 c =
     let m = z .before .before .before .before .before in
     let n = m .before in
     let r = n .before .before .before in
-    let a = r .before .before .before .before .before .before .before .before .before .before .before .before .before .before .args in
+    let a = r .before .before .before .before .before .before .before .before .before .before .before .before .before .before .before .args in
     inc-done (found (z .before)) (z .if3 .left) (x .inc-change .result) (made x) (b .apply .last .0)
     (b .apply .ensures ∙
-    ap (λ (ticks : ℕ). applied (a .room .now) (r .place .result) (a .key .now) ticks (a .reading) (x .inc-change .result)) (m .join-ticks .ensures))
+    ap (λ (ticks : ℕ). applied (a .room .now) (r .place .result) (sent (a .caller) (a .key .now)) ticks (a .reading) (x .inc-change .result))
+    (m .join-ticks .ensures))
     (k .decided .result)
     (k .decided .ensures ∙
     ap (decidedAt (ticksIn (a .settings)) (a .settings .«window_size») (a .reading) (n .allows-first .result)) (looked (k .before)))

@@ -3,6 +3,7 @@ use mathlib.Core.Path.{sym, ap, subst, _∙_}
 use mathlib.Core.Bool.{Bool}
 use Prim.Native.Nat.{ℕ}
 use Rattle.settings.specs.Clock.{ticksIn}
+use Rattle.parties.specs.Parties.{sent}
 use Rattle.change.specs.Words.{Applies, applied}
 use Rattle.absolute_test.specs.Test.{evicts, allowedAt, decidedAt}
 use Rattle.absolute_verdicts.specs.Told.{ask-window, ask-bucket, ask-refused, ask-fits, ask-done}
@@ -20,7 +21,7 @@ returns : tie.Need-returns
 returns c =
     let y = c .before in
     let a = y .before .before .before .before .args in
-    ask-refused (a .settings) (a .room .now) (a .reading) (a .key .now) (y .judge .result) (y .judge .ensures) (c .if1 .taken)
+    ask-refused (a .settings) (a .room .now) (a .reading) (sent (a .caller) (a .key .now)) (y .judge .result) (y .judge .ensures) (c .if1 .taken)
 
 cut-limit-requires : tie.Need-cut-limit-requires
 cut-limit-requires c κs = search needs
@@ -33,7 +34,7 @@ decided-requires c κs =
     let y = c .before .before .before in
     let d = y .before in
     let a = d .before .before .before .before .args in
-    ask-window (a .settings) (a .room .now) (a .reading) (a .key .now) (d .judge .result) (d .judge .ensures) (y .if1 .left)
+    ask-window (a .settings) (a .room .now) (a .reading) (sent (a .caller) (a .key .now)) (d .judge .result) (d .judge .ensures) (y .if1 .left)
 
 evicts-requires : tie.Need-evicts-requires
 evicts-requires c κs = search needs
@@ -43,7 +44,7 @@ join-ticks-requires c κs =
     let y = c .before .before .before .before .before in
     let d = y .before in
     let a = d .before .before .before .before .args in
-    ask-bucket (a .settings) (a .room .now) (a .reading) (a .key .now) (d .judge .result) (d .judge .ensures) (y .if1 .left)
+    ask-bucket (a .settings) (a .room .now) (a .reading) (sent (a .caller) (a .key .now)) (d .judge .result) (d .judge .ensures) (y .if1 .left)
 
 ask-change-requires : tie.Need-ask-change-requires
 ask-change-requires c κs = search needs
@@ -56,7 +57,7 @@ apply-requires c κs =
     let q = p .before in
     let a = q .before .before .before .before .args in
     subst (λ (ticks : ℕ). Applies (a .room .now) (q .judge .result .slot .at) ticks (a .reading) (c .ask-change .result)) (sym (y .join-ticks .ensures))
-    (ask-fits (a .settings) (a .room .now) (a .reading) (a .key .now) (q .judge .result) (q .judge .ensures) (p .if1 .left)
+    (ask-fits (a .settings) (a .room .now) (a .reading) (sent (a .caller) (a .key .now)) (q .judge .result) (q .judge .ensures) (p .if1 .left)
     (d .evicts .result) (c .ask-change .result) (c .ask-change .ensures))
 
 same-length-2 : tie.Need-same-length-2
@@ -76,10 +77,10 @@ returns-2 c =
     let a = g .before .before .before .before .args in
     let slot = g .judge .result .slot in
     let may = p .allows .ensures ∙ ap (λ (limit : ℕ). allowedAt limit slot) (u .cut-limit .ensures) in
-    ask-done (a .settings) (a .room .now) (a .reading) (a .key .now) (g .judge .result) (g .judge .ensures) (v .if1 .left)
+    ask-done (a .settings) (a .room .now) (a .reading) (sent (a .caller) (a .key .now)) (g .judge .result) (g .judge .ensures) (v .if1 .left)
     (n .evicts .result) (n .evicts .ensures ∙ ap (λ (limit : ℕ). evicts limit slot) (u .cut-limit .ensures))
     (d .ask-change .result) (d .ask-change .ensures) (y .apply .last .0)
-    (y .apply .ensures ∙ ap (λ (ticks : ℕ). applied (a .room .now) (slot .at) (a .key .now) ticks (a .reading) (d .ask-change .result))
+    (y .apply .ensures ∙ ap (λ (ticks : ℕ). applied (a .room .now) (slot .at) (sent (a .caller) (a .key .now)) ticks (a .reading) (d .ask-change .result))
     (m .join-ticks .ensures))
     (o .decided .result)
     (o .decided .ensures ∙ ap (λ (allowed : Bool). decidedAt (ticksIn (a .settings)) (a .settings .«window_size») (a .reading) allowed slot) may)

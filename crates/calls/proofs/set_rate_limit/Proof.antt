@@ -7,6 +7,7 @@ use Rattle.change.specs.declared.Change.{Change}
 use Rattle.change.specs.Words.{applied, Applies}
 use Rattle.opened.specs.declared.Slot.{Slot}
 use Rattle.calls.specs.Calls.{judged-passed, judged-applies, judged-early, judged-own, judged-done}
+use Rattle.parties.specs.Parties.{sent}
 use Rattle.judge.specs.Verdict.{told-as}
 use Rattle.shared_opened.specs.Opened.{limiting}
 use Rattle.calls.specs.Opened.{limits, rateOwnOf}
@@ -26,9 +27,10 @@ returns : tie.Need-returns
 returns c =
     let y = c .before in
     let a = y .before .before .before .before .args in
-    told-as (rate-opened (a .kind) (a .settings) (a .room .now) (a .reading) (a .key .now) (a .rate))
-    (judged-early (a .kind) (a .settings) (a .room .now) (a .reading) (a .key .now) (y .judge .result) (y .judge .ensures) Refused (rateOwnOf (a .rate))
-    (limits (a .kind) (a .settings) (a .room .now) (a .reading) (a .key .now) (a .rate)) (c .if1 .taken))
+    told-as (rate-opened (a .kind) (a .settings) (a .room .now) (a .reading) (sent (a .caller) (a .key .now)) (a .rate))
+    (judged-early (a .kind) (a .settings) (a .room .now) (a .reading) (sent (a .caller) (a .key .now)) (y .judge .result) (y .judge .ensures) Refused
+    (rateOwnOf (a .rate))
+    (limits (a .kind) (a .settings) (a .room .now) (a .reading) (sent (a .caller) (a .key .now)) (a .rate)) (c .if1 .taken))
 
 rate-refusal-requires : tie.Need-rate-refusal-requires
 rate-refusal-requires c κs = search needs
@@ -42,9 +44,10 @@ returns-2 c =
     let d = y .before in
     let m = d .before in
     let a = m .before .before .before .before .args in
-    told-as (rate-opened (a .kind) (a .settings) (a .room .now) (a .reading) (a .key .now) (a .rate))
-    (judged-own (a .kind) (a .settings) (a .room .now) (a .reading) (a .key .now) (m .judge .result) (m .judge .ensures) Refused (rateOwnOf (a .rate))
-    (limits (a .kind) (a .settings) (a .room .now) (a .reading) (a .key .now) (a .rate)) (y .rate-refusal .result) (d .if1 .left)
+    told-as (rate-opened (a .kind) (a .settings) (a .room .now) (a .reading) (sent (a .caller) (a .key .now)) (a .rate))
+    (judged-own (a .kind) (a .settings) (a .room .now) (a .reading) (sent (a .caller) (a .key .now)) (m .judge .result) (m .judge .ensures) Refused
+    (rateOwnOf (a .rate))
+    (limits (a .kind) (a .settings) (a .room .now) (a .reading) (sent (a .caller) (a .key .now)) (a .rate)) (y .rate-refusal .result) (d .if1 .left)
     (y .rate-refusal .ensures) (c .if2 .taken))
 
 limit-of-requires : tie.Need-limit-of-requires
@@ -58,7 +61,8 @@ join-ticks-requires c κs =
     let y = c .before .before .before .before .before .before in
     let d = y .before in
     let a = d .before .before .before .before .args in
-    judged-passed (a .kind) (a .settings) (a .room .now) (a .reading) (a .key .now) (d .judge .result) (d .judge .ensures) (y .if1 .left) .settings .bucket-high
+    judged-passed (a .kind) (a .settings) (a .room .now) (a .reading) (sent (a .caller) (a .key .now)) (d .judge .result) (d .judge .ensures) (y .if1 .left)
+    .settings .bucket-high
 
 apply-requires : tie.Need-apply-requires
 apply-requires c κs =
@@ -70,10 +74,12 @@ apply-requires c κs =
     let limit = d .limit-of .result in
     subst (λ (ticks : ℕ). Applies (a .room .now) (n .judge .result .slot .at) ticks (a .reading) (y .limiting .result)) (sym (c .join-ticks .ensures))
     (subst (λ (change : Change). Applies (a .room .now) (n .judge .result .slot .at) (joinTicks (a .settings)) (a .reading) change) (sym (y .limiting .ensures))
-    (judged-applies (a .kind) (a .settings) (a .room .now) (a .reading) (a .key .now) (n .judge .result) (n .judge .ensures) (λ (x : Slot). limiting x limit)
+    (judged-applies (a .kind) (a .settings) (a .room .now) (a .reading) (sent (a .caller) (a .key .now)) (n .judge .result) (n .judge .ensures)
+    (λ (x : Slot). limiting x limit)
     (m .if1 .left)
-    (rate-applies (a .kind) (a .settings) (a .room .now) (a .reading) (a .key .now) limit
-    (judged-passed (a .kind) (a .settings) (a .room .now) (a .reading) (a .key .now) (n .judge .result) (n .judge .ensures) (m .if1 .left)))))
+    (rate-applies (a .kind) (a .settings) (a .room .now) (a .reading) (sent (a .caller) (a .key .now)) limit
+    (judged-passed (a .kind) (a .settings) (a .room .now) (a .reading) (sent (a .caller) (a .key .now)) (n .judge .result) (n .judge .ensures)
+    (m .if1 .left)))))
 
 old-rate-requires : tie.Need-old-rate-requires
 old-rate-requires c κs = search needs
@@ -93,15 +99,17 @@ returns-3 c =
     let r = q .before in
     let a = r .before .before .before .before .args in
     let x = r .judge .result .slot in
-    told-as (rate-opened (a .kind) (a .settings) (a .room .now) (a .reading) (a .key .now) (a .rate))
-    (judged-done (a .kind) (a .settings) (a .room .now) (a .reading) (a .key .now) (r .judge .result) (r .judge .ensures) Refused (rateOwnOf (a .rate))
-    (limits (a .kind) (a .settings) (a .room .now) (a .reading) (a .key .now) (a .rate)) _ _ (q .if1 .left)
+    told-as (rate-opened (a .kind) (a .settings) (a .room .now) (a .reading) (sent (a .caller) (a .key .now)) (a .rate))
+    (judged-done (a .kind) (a .settings) (a .room .now) (a .reading) (sent (a .caller) (a .key .now)) (r .judge .result) (r .judge .ensures) Refused
+    (rateOwnOf (a .rate))
+    (limits (a .kind) (a .settings) (a .room .now) (a .reading) (sent (a .caller) (a .key .now)) (a .rate)) _ _ (q .if1 .left)
     (sym (p .rate-refusal .ensures) ∙ o .if2 .left)
     (record {
       answer = c .old-rate .ensures;
       words = y .apply .ensures ∙
-          ap (λ (ticks : ℕ). applied (a .room .now) (x .at) (a .key .now) ticks (a .reading) (m .limiting .result)) (d .join-ticks .ensures) ∙
-          ap (applied (a .room .now) (x .at) (a .key .now) (joinTicks (a .settings)) (a .reading))
+          ap (λ (ticks : ℕ). applied (a .room .now) (x .at) (sent (a .caller) (a .key .now)) ticks (a .reading) (m .limiting .result))
+          (d .join-ticks .ensures) ∙
+          ap (applied (a .room .now) (x .at) (sent (a .caller) (a .key .now)) (joinTicks (a .settings)) (a .reading))
           (m .limiting .ensures ∙ ap (limiting x) (n .limit-of .ensures));
     }))
 

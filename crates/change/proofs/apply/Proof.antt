@@ -4,6 +4,7 @@ use mathlib.Core.Path.{sym, ap, subst, _∙_}
 use mathlib.Core.List.{List}
 use Prim.Native.Nat.{ℕ}
 use Rattle.room.specs.Room.{Directory, withReading}
+use Rattle.parties.specs.Parties.{sent}
 use Rattle.change.specs.Words.{applied}
 use Rattle.change.specs.Laws.{carried-room}
 use borrow.Author.Needs.{needs}
@@ -17,7 +18,8 @@ store-reading-requires : tie.Need-store-reading-requires
 store-reading-requires c κs =
     let k = c .before .before .before in
     let a = k .before .before .before .before in
-    let o = carried-room (a .args .w .now) (a .args .at) (a .args .key .now) (a .args .size) (a .args .reading) (a .args .change) (a .pre) in
+    let o = carried-room (a .args .w .now) (a .args .at) (sent (a .args .caller) (a .args .key .now)) (a .args .size) (a .args .reading) (a .args .change)
+    (a .pre) in
     subst (λ (y : List ℕ). Directory y) (sym (k .carry .ensures)) (room-directory o)
 
 same-length : tie.Need-same-length

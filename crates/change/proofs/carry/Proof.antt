@@ -11,8 +11,8 @@ enum-told c = search needs
 enum-told-2 : tie.Need-enum-told-2
 enum-told-2 c = search needs
 
-set-use-requires : tie.Need-set-use-requires
-set-use-requires c κs = let p = rw (c .before .enum-told2 .given .1) at (c .before .before .before .before .before .pre) in
+release-requires : tie.Need-release-requires
+release-requires c κs = let p = rw (c .before .enum-told2 .given .1) at (c .before .before .before .before .before .pre) in
     (room-directory (p .room), p .inside)
 
 enum-known-change : tie.Need-enum-known-change
@@ -36,7 +36,7 @@ same-length c = search needs
 
 returns-2 : tie.Need-returns-2
 unfolding carried
-returns-2 c = rw (c .before .before .before .before .enum-told2 .given .1) (c .before .before .set-use .ensures)
+returns-2 c = rw (c .before .before .before .before .enum-told2 .given .1) (c .before .before .release .ensures)
 
 same-length-2 : tie.Need-same-length-2
 same-length-2 c = search needs
@@ -58,7 +58,7 @@ carry-spec =
     (tie.spec
     enum-told
     enum-told-2
-    set-use-requires
+    release-requires
     enum-known-change
     update-requires
     enum-known-change-2

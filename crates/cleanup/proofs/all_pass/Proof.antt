@@ -4,7 +4,7 @@ use mathlib.Core.Bool.{true}
 use Prim.Native.Nat.{_-_, _≤_}
 use borrow.Author.Tests.{not-true, not-false}
 use Rattle.room.specs.Room.{slotsOf}
-use Rattle.cleanup.specs.Every.{every, every-on, every-off}
+use Rattle.base.specs.Every.{every, every-on, every-off}
 use Rattle.cleanup.specs.Cleanup.{slotPasses}
 use borrow.Author.Needs.{needs}
 use native.Mathlib.Omega.{arith}

@@ -18,7 +18,7 @@ returns : tie.Need-returns
 returns c =
     let j = c .before .judge-all in
     let a = c .before .before .before .before .args in
-    cleanup-refused (a .kind) (a .settings) (a .room .now) (a .reading) (a .stale) (j .result) (j .ensures) (c .if1 .taken)
+    cleanup-refused (a .kind) (a .settings) (a .room .now) (a .reading) (a .caller) (a .stale) (j .result) (j .ensures) (c .if1 .taken)
 
 ticks-per-millisecond-requires : tie.Need-ticks-per-millisecond-requires
 ticks-per-millisecond-requires c κs = search needs
@@ -27,8 +27,8 @@ clean-requires : tie.Need-clean-requires
 clean-requires c κs =
     let j = c .before .before .before in
     let a = j .before .before .before .args in (
-      passed-ready (a .kind) (a .settings) (a .room .now) (a .reading)
-          (passed (a .kind) (a .settings) (a .room .now) (a .reading) (sym (j .judge-all .ensures) ∙ c .before .before .if1 .left)),
+      passed-ready (a .kind) (a .settings) (a .room .now) (a .reading) (a .caller)
+          (passed (a .kind) (a .settings) (a .room .now) (a .reading) (a .caller) (sym (j .judge-all .ensures) ∙ c .before .before .if1 .left)),
       subst (λ (n : ℕ). 1 ≤ n) (sym (c .ticks-per-millisecond .ensures)) (ticks-some (a .settings)),
     )
 
@@ -41,7 +41,7 @@ returns-2 c =
     let i = k .before .before .before in
     let j = i .before in
     let a = j .before .before .before .args in
-    cleanup-done (a .kind) (a .settings) (a .room .now) (a .reading) (a .stale) (k .clean .last .0) (sym (j .judge-all .ensures) ∙ i .if1 .left)
+    cleanup-done (a .kind) (a .settings) (a .room .now) (a .reading) (a .caller) (a .stale) (k .clean .last .0) (sym (j .judge-all .ensures) ∙ i .if1 .left)
     (k .clean .ensures ∙ ap (λ (n : ℕ). cleaned (a .room .now) (a .reading) n (a .stale)) (k .before .ticks-per-millisecond .ensures))
 
 pub cleanup-spec : {M : Type 1} → statement M

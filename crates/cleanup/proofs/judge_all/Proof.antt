@@ -14,7 +14,7 @@ refusal-requires c κs = search needs
 returns : tie.Need-returns
 returns c =
     let a = c .before .before .before .args in
-    number-fault (a .kind) (a .settings) (a .w .now) (a .reading) (c .before .refusal .result) (c .before .refusal .ensures) (c .if1 .taken)
+    number-fault (a .kind) (a .settings) (a .w .now) (a .reading) (a .caller) (c .before .refusal .result) (c .before .refusal .ensures) (c .if1 .taken)
 
 sized-requires : tie.Need-sized-requires
 sized-requires c κs = search needs
@@ -24,7 +24,7 @@ returns-2 c =
     let z = c .before in
     let n = z .before in
     let a = n .before .before .before .args in
-    number-lengths (a .kind) (a .settings) (a .w .now) (a .reading) (proper (a .settings) (sym (n .before .refusal .ensures) ∙ n .if1 .left))
+    number-lengths (a .kind) (a .settings) (a .w .now) (a .reading) (a .caller) (proper (a .settings) (sym (n .before .refusal .ensures) ∙ n .if1 .left))
     (undecided (z .sized .result) (c .if2 .taken) (z .sized .ensures))
 
 judge-room-requires : tie.Need-judge-room-requires

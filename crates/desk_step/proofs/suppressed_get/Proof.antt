@@ -2,11 +2,15 @@
 -- Assumes nothing.
 use Rattle.suppressed_verdicts.specs.Calls as Suppressed
 use Rattle.desk_step.specs.Desk.{suppressedGet}
-use Rattle.desk_lines.specs.Lines.{snapshotLine}
+use Rattle.desk_lines.specs.Lines.{alone, snapshotLine}
+use Rattle.parties.specs.Parties.{sent}
 use Rattle.desk_step.specs.Laws.{line-told}
 use borrow.Author.Needs.{needs}
 use Rattle.desk_step.proofs.suppressed_get.Statement.{statement}
 use Rattle.desk_step.proofs.suppressed_get.Tie as tie
+
+alone-requires : tie.Need-alone-requires
+alone-requires c κs = search needs
 
 get-requires : tie.Need-get-requires
 get-requires c κs = search needs
@@ -23,11 +27,14 @@ same-length c = search needs
 returns : tie.Need-returns
 unfolding suppressedGet
 returns c =
-    let a = c .before .before .before .before .before .before .before .before .before .args in
-    let g = c .before .before .before .before .before .get in
-    line-told (snapshotLine (a .t)) (a .key .now) (Suppressed.get (a .settings) (a .room .now) (a .t) (a .key .now)) (g .result) (g .last .1 .0)
-    (c .before .stored-of .result) (c .snapshot-line .result) (g .ensures) (c .before .stored-of .ensures) (c .snapshot-line .ensures)
+    let g = c .before .before .before .before .before in
+    let one = g .before .before in
+    let a = one .before .before .before .before .args in
+    let key = sent (alone (a .room .now)) (a .key .now) in
+    let told = rw (one .alone .ensures) at (g .get .ensures) in
+    line-told (snapshotLine (a .t)) (a .key .now) (Suppressed.get (a .settings) (a .room .now) (a .t) key) (g .get .result) (g .get .last .1 .0)
+    (c .before .stored-of .result) (c .snapshot-line .result) told (c .before .stored-of .ensures) (c .snapshot-line .ensures)
 
 pub suppressed-get-spec : {M : Type 1} → statement M
 suppressed-get-spec =
-    tie.close (tie.spec get-requires stored-of-requires snapshot-line-requires same-length returns)
+    tie.close (tie.spec alone-requires get-requires stored-of-requires snapshot-line-requires same-length returns)

@@ -3,6 +3,7 @@
 use mathlib.Core.Path.{sym, _∙_}
 use borrow.Author.Needs.{needs}
 use borrow.Author.Tests.{not-true, not-false}
+use Rattle.parties.specs.Parties.{sent}
 use Rattle.gateway.specs.Laws.{asked-turned, asked-admitted}
 use Rattle.gateway.proofs.ask.Statement.{statement}
 use Rattle.gateway.proofs.ask.Tie as tie
@@ -22,10 +23,11 @@ same-length c = search needs
 returns : tie.Need-returns
 returns c =
     let a = c .before .before .before .before .before .before .before .before .before .before .args in
+    let key = sent (a .caller) (a .controller .now) in
     let i = c .before .before .before .before .before .inc in
     let d = c .before .before .is-admitted in
     rw (c .as-shot .ensures)
-    (asked-turned (a .settings) (a .table .now) (a .room .now) (a .reading) (a .controller .now) (a .number) (a .rate) (a .draw) (i .result) _
+    (asked-turned (a .settings) (a .table .now) (a .room .now) (a .reading) key (a .number) (a .rate) (a .draw) (i .result) _
     (i .ensures) (sym (d .ensures) ∙ not-true (d .result) (c .before .if1 .taken)))
 
 remember-requires : tie.Need-remember-requires
@@ -40,10 +42,11 @@ same-length-3 c = search needs
 returns-2 : tie.Need-returns-2
 returns-2 c =
     let a = c .before .before .before .before .before .before .before .before .before .before .before .before .before .args in
+    let key = sent (a .caller) (a .controller .now) in
     let i = c .before .before .before .before .before .before .before .before .inc in
     let t = c .before .before .before .before in
     let d = t .before .is-admitted in
-    asked-admitted (a .settings) (a .table .now) (a .room .now) (a .reading) (a .controller .now) (a .number) (a .rate) (a .draw) (i .result) _
+    asked-admitted (a .settings) (a .table .now) (a .room .now) (a .reading) key (a .number) (a .rate) (a .draw) (i .result) _
     (c .before .before .remember .last .0) (i .ensures) (sym (d .ensures) ∙ not-false (d .result) (t .if1 .left)) (c .before .before .remember .ensures)
 
 pub ask-spec : {M : Type 1} → statement M

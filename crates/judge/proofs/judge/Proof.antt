@@ -2,9 +2,10 @@
 -- Assumes nothing.
 use mathlib.Core.Path.{_∙_, sym, ap}
 use Prim.Native.Nat.{ℕ}
+use Rattle.parties.specs.Parties.{sent}
 use Rattle.opened.specs.Slot.{firstLook}
 use Rattle.judge.specs.Judge.{slotIn, slotBy}
-use Rattle.judge.specs.Laws.{refused-is, passed-is, fault-early, no-fault, opened-is, slot-by}
+use Rattle.judge.specs.Laws.{refused-is, passed-is, standing-code, standing-none, fault-early, no-fault, opened-is, slot-by}
 use borrow.Author.Needs.{needs}
 use Rattle.judge.proofs.judge.Statement.{statement}
 use Rattle.judge.proofs.judge.Tie as tie
@@ -20,7 +21,7 @@ returns c =
     let a = c .before .before .before .before .before in
     let s = a .args .settings in
     let w = a .args .w .now in
-    let key = a .args .key .now in
+    let key = sent (a .args .caller) (a .args .key .now) in
     let t = a .args .reading in
     let n = c .before .before .fault in
     c .refused .ensures ∙ refused-is (a .args .kind) s w t key (slotBy (a .args .first) s w t key) (n .result)
@@ -31,7 +32,7 @@ window-ticks-requires c κs =
     let a = c .before .before .before .before in
     let s = a .args .settings in
     let w = a .args .w .now in
-    let key = a .args .key .now in
+    let key = sent (a .args .caller) (a .args .key .now) in
     let t = a .args .reading in
     no-fault (a .args .kind) s w t key (sym (c .before .fault .ensures) ∙ c .if1 .left) .1 .window-high
 
@@ -40,7 +41,7 @@ look-of-requires c κs =
     let a = c .before .before .before .before .before in
     let s = a .args .settings in
     let w = a .args .w .now in
-    let key = a .args .key .now in
+    let key = sent (a .args .caller) (a .args .key .now) in
     let t = a .args .reading in
     no-fault (a .args .kind) s w t key (sym (c .before .before .fault .ensures) ∙ c .before .if1 .left) .1 .window-high
 
@@ -49,7 +50,7 @@ address-requires c κs =
     let a = c .before .before .before .before .before .before in
     let s = a .args .settings in
     let w = a .args .w .now in
-    let key = a .args .key .now in
+    let key = sent (a .args .caller) (a .args .key .now) in
     let t = a .args .reading in
     no-fault (a .args .kind) s w t key (sym (c .before .before .before .fault .ensures) ∙ c .before .before .if1 .left) .0
 
@@ -58,7 +59,7 @@ open-at-requires c κs =
     let a = c .before .before .before .before .before .before .before in
     let s = a .args .settings in
     let w = a .args .w .now in
-    let key = a .args .key .now in
+    let key = sent (a .args .caller) (a .args .key .now) in
     let t = a .args .reading in
     no-fault (a .args .kind) s w t key (sym (c .before .before .before .before .fault .ensures) ∙ c .before .before .before .if1 .left) .0
 
@@ -67,7 +68,7 @@ misfit-requires c κs =
     let a = c .before .before .before .before .before .before .before .before in
     let s = a .args .settings in
     let w = a .args .w .now in
-    let key = a .args .key .now in
+    let key = sent (a .args .caller) (a .args .key .now) in
     let t = a .args .reading in
     let o = no-fault (a .args .kind) s w t key (sym (c .before .before .before .before .before .fault .ensures) ∙
     c .before .before .before .before .if1 .left) in
@@ -90,25 +91,27 @@ returns-2 c =
     let a = c .before .before .before .before .before .before .before .before .before .before .before in
     let s = a .args .settings in
     let w = a .args .w .now in
-    let key = a .args .key .now in
+    let key = sent (a .args .caller) (a .args .key .now) in
     let t = a .args .reading in
     let m = c .before .before .misfit in
     c .refused2 .ensures ∙
-    refused-is (a .args .kind) s w t key (slotBy (a .args .first) s w t key) (m .result) (sym (m .ensures)) (c .before .if2 .taken)
+    refused-is (a .args .kind) s w t key (slotBy (a .args .first) s w t key) (m .result .code)
+    (sym (standing-code (a .args .kind) s w t key (m .result) (m .ensures))) (c .before .if2 .taken)
 
 returns-3 : tie.Need-returns-3
 returns-3 c =
     let a = c .before .before .before .before .before .before .before .before .before .before in
     let s = a .args .settings in
     let w = a .args .w .now in
-    let key = a .args .key .now in
+    let key = sent (a .args .caller) (a .args .key .now) in
     let t = a .args .reading in
     let m = c .before .misfit in
     let x = c .before .before .open-at in
     let i = c .before .before .before .address in
     let l = c .before .before .before .before .look-of in
     let n = c .before .before .before .before .before .window-ticks in
-    passed-is (a .args .kind) s w t key (x .result) (sym (m .ensures) ∙ c .if2 .left)
+    passed-is (a .args .kind) s w t key (m .result .none) (x .result) (sym (standing-code (a .args .kind) s w t key (m .result) (m .ensures)) ∙ c .if2 .left)
+    (standing-none (a .args .kind) s w t key (m .result) (m .ensures) (c .if2 .left))
     (opened-is (a .args .kind) s w t key (l .result) (n .result) (i .result) (x .result) (x .ensures) (n .ensures) (i .ensures) ∙
     ap (λ (look : ℕ). firstLook look t (slotIn s w t key)) (l .ensures) ∙ slot-by (a .args .kind) s w t key (a .args .first))
 

@@ -1,69 +1,39 @@
--- Each refusal is met where those before it are not.
+-- The census is taken once, for the refusals and for what is left.
 -- Assumes nothing.
-use mathlib.Core.Path.{_∙_, sym}
-use borrow.Author.Tests.{not-true, not-false}
-use Rattle.judge.specs.Laws.{early-unsound, early-reading, early-key, early-none}
+use mathlib.Core.Path.{_≡_, sym, _∙_}
+use borrow.Author.Tests.{eq-eqb, ne-eqb}
+use Rattle.parties.specs.Parties.{sent}
+use Rattle.parties.specs.Laws.{census-counts}
+use Rattle.judge.specs.Judge.{standing}
+use Rattle.judge.specs.Laws.{passed}
 use borrow.Author.Needs.{needs}
 use Rattle.judge.proofs.misfit.Statement.{statement}
 use Rattle.judge.proofs.misfit.Tie as tie
 
-sound-at-requires : tie.Need-sound-at-requires
-sound-at-requires c κs = c .before .before .pre .0
+census-requires : tie.Need-census-requires
+census-requires c κs = c .before .before .pre .0 .room
+
+early-requires : tie.Need-early-requires
+early-requires c κs = let a = c .before .before .before in (a .pre .0, a .pre .1, c .census .ensures)
 
 returns : tie.Need-returns
-returns c =
-    let a = c .before .before .before .before in
-    let s = a .args .settings in
-    let w = a .args .w .now in
-    let key = a .args .key .now in
-    let t = a .args .reading in
-    let e = c .before .sound-at in
-    sym (early-unsound (a .args .kind) s w t key (a .pre .1) (a .pre .0 .room) (sym (e .ensures) ∙ not-true (e .result) (c .if1 .taken)))
+unfolding standing
+returns c = sym (rw (sym (c .before .early .ensures), ne-eqb (c .before .early .result) 0 (c .if1 .taken)))
 
-shared-slice-read-if2 : tie.Need-shared-slice-read-if2
-shared-slice-read-if2 c = search needs
+none-left-requires : tie.Need-none-left-requires
+none-left-requires c κs =
+    let z = c .before .before in
+    let a = z .before .before .before in
+    let p = passed (a .args .kind) (a .args .settings) (a .args .w .now) (a .args .reading) (sent (a .args .caller) (a .args .key .now))
+    (sym (c .before .early .ensures) ∙ c .if1 .left) in
+    census-counts (a .args .w .now) (z .census .result) (z .census .ensures) (p .theirs)
 
 returns-2 : tie.Need-returns-2
+unfolding standing
 returns-2 c =
-    let a = c .before .before .before .before .before .before in
-    let s = a .args .settings in
-    let w = a .args .w .now in
-    let key = a .args .key .now in
-    let t = a .args .reading in
-    let e = c .before .before .before .sound-at in
-    sym (early-reading (a .args .kind) s w t key (a .pre .1) (a .pre .0 .room) (sym (e .ensures) ∙ not-false (e .result) (c .before .before .if1 .left))
-    (c .if2 .taken))
-
-returns-3 : tie.Need-returns-3
-returns-3 c =
-    let a = c .before .before .before .before .before .before .before in
-    let s = a .args .settings in
-    let w = a .args .w .now in
-    let key = a .args .key .now in
-    let t = a .args .reading in
-    let e = c .before .before .before .before .sound-at in
-    sym (early-key (a .args .kind) s w t key (a .pre .1) (a .pre .0 .room) (sym (e .ensures) ∙ not-false (e .result) (c .before .before .before .if1 .left))
-    (c .before .if2 .left)
-    (c .if3 .taken))
-
-returns-4 : tie.Need-returns-4
-returns-4 c =
-    let a = c .before .before .before .before .before .before .before in
-    let s = a .args .settings in
-    let w = a .args .w .now in
-    let key = a .args .key .now in
-    let t = a .args .reading in
-    let e = c .before .before .before .before .sound-at in
-    sym (early-none (a .args .kind) s w t key
-    (record {
-      settings = a .pre .1;
-      room = a .pre .0 .room;
-      sound = sym (e .ensures) ∙ not-false (e .result) (c .before .before .before .if1 .left);
-      later = c .before .if2 .left;
-      short = c .if3 .left;
-    }))
+    let y = c .before in
+    sym (rw (sym (y .before .early .ensures), eq-eqb (y .before .early .result) 0 (y .if1 .left), sym (c .none-left .ensures), y .if1 .left))
 
 pub misfit-spec : {M : Type 1} → statement M
 misfit-spec =
-    tie.close
-    (tie.spec sound-at-requires returns shared-slice-read-if2 returns-2 returns-3 returns-4)
+    tie.close (tie.spec census-requires early-requires returns none-left-requires returns-2)

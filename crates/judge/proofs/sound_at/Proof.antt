@@ -4,6 +4,7 @@ use mathlib.Core.Path.{_∙_, ap}
 use Prim.Native.Nat.{ℕ}
 use native.Mathlib.Omega.{arith}
 use Rattle.room.specs.Room.{lastOf}
+use Rattle.parties.specs.Parties.{sent}
 use Rattle.opened.specs.Right.{slotRight, sound-none, sound-some}
 use borrow.Author.Needs.{needs}
 use Rattle.judge.proofs.sound_at.Statement.{statement}
@@ -29,7 +30,8 @@ returns-2 c =
     let k = c .before .before .before .before .before in
     let a = k .before .before in
     let w = a .args .w .now in
-    sound-some (a .args .kind) (a .args .settings) w (a .args .key .now) (a .args .x) _ (λ i. omega (arith, k .shared-slice-known2 .given i)) (a .pre)
+    sound-some (a .args .kind) (a .args .settings) w (sent (a .args .caller) (a .args .key .now)) (a .args .x) _
+    (λ i. omega (arith, k .shared-slice-known2 .given i)) (a .pre)
     (c .before .before .before .if1 .left)
     (c .slot-right .ensures ∙ ap (λ (u : ℕ). slotRight (a .args .kind) (a .args .settings) (lastOf w) u (a .args .x)) (c .before .use-of .ensures))
 

@@ -32,10 +32,24 @@ returns-4 c = simp (
 )
 
 returns-5 : tie.Need-returns-5
-returns-5 c = let a = c .before .before .before .before .before .before .before .before .before .before .before .before .before .before .args in
-    same-last (a .k) (a .l) (c .before .before .before .before .before .before .before .before .before .before .before .if1 .left)
-    (c .before .before .before .before .before .before .before .before .if2 .left) (c .before .before .before .before .before .if3 .left)
-    (c .before .before .if4 .left)
+unfolding sameKey
+returns-5 c = simp (
+  eq-eqb _ _ (c .before .before .before .before .before .before .before .before .before .before .before .before .if1 .left),
+  eq-eqb _ _ (c .before .before .before .before .before .before .before .before .before .if2 .left),
+  eq-eqb _ _ (c .before .before .before .before .before .before .if3 .left),
+  eq-eqb _ _ (c .before .before .before .if4 .left),
+  ne-eqb _ _ (c .if5 .taken),
+)
+
+returns-6 : tie.Need-returns-6
+returns-6 c =
+    let five = c .before .before in
+    let four = five .before .before .before in
+    let three = four .before .before .before in
+    let two = three .before .before .before in
+    let one = two .before .before .before in
+    let a = one .before .before .before .args in
+    same-last (a .k) (a .l) (one .if1 .left) (two .if2 .left) (three .if3 .left) (four .if4 .left) (five .if5 .left)
 
 pub same-key-spec : {M : Type 1} → statement M
-same-key-spec = tie.close (tie.spec returns returns-2 returns-3 returns-4 returns-5)
+same-key-spec = tie.close (tie.spec returns returns-2 returns-3 returns-4 returns-5 returns-6)

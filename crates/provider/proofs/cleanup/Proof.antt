@@ -21,7 +21,8 @@ returns : tie.Need-returns
 returns c =
     let j = c .before in
     let a = j .before .before .before .before .before .args in
-    both-refused (a .settings) (a .absolute .now) (a .suppressed .now) (a .reading) (a .stale) (j .judge-both .result) (j .judge-both .ensures) (c .if1 .taken)
+    both-refused (a .settings) (a .absolute .now) (a .suppressed .now) (a .reading) (a .absolutes) (a .suppresseds) (a .stale) (j .judge-both .result)
+    (j .judge-both .ensures) (c .if1 .taken)
 
 ticks-per-millisecond-requires : tie.Need-ticks-per-millisecond-requires
 ticks-per-millisecond-requires c κs = search needs
@@ -32,7 +33,8 @@ clean-requires c κs =
     let i = n .before in
     let j = i .before in
     let a = j .before .before .before .before .before .args in (
-      both-ready (a .settings) (a .absolute .now) (a .suppressed .now) (a .reading) (sym (j .judge-both .ensures) ∙ i .if1 .left) .0,
+      both-ready (a .settings) (a .absolute .now) (a .suppressed .now) (a .reading) (a .absolutes) (a .suppresseds) (sym (j .judge-both .ensures) ∙
+          i .if1 .left) .0,
       subst (λ (k : ℕ). 1 ≤ k) (sym (n .ticks-per-millisecond .ensures)) (ticks-some (a .settings)),
     )
 
@@ -42,7 +44,8 @@ clean-requires-2 c κs =
     let i = n .before in
     let j = i .before in
     let a = j .before .before .before .before .before .args in (
-      both-ready (a .settings) (a .absolute .now) (a .suppressed .now) (a .reading) (sym (j .judge-both .ensures) ∙ i .if1 .left) .1,
+      both-ready (a .settings) (a .absolute .now) (a .suppressed .now) (a .reading) (a .absolutes) (a .suppresseds) (sym (j .judge-both .ensures) ∙
+          i .if1 .left) .1,
       subst (λ (k : ℕ). 1 ≤ k) (sym (n .ticks-per-millisecond .ensures)) (ticks-some (a .settings)),
     )
 
@@ -60,7 +63,8 @@ returns-2 c =
     let i = n .before in
     let j = i .before in
     let a = j .before .before .before .before .before .args in
-    both-done (a .settings) (a .absolute .now) (a .suppressed .now) (a .reading) (a .stale) (x .clean .last .0) (y .clean2 .last .0)
+    both-done (a .settings) (a .absolute .now) (a .suppressed .now) (a .reading) (a .absolutes) (a .suppresseds) (a .stale) (x .clean .last .0)
+    (y .clean2 .last .0)
     (sym (j .judge-both .ensures) ∙ i .if1 .left)
     (x .clean .ensures ∙ ap (λ (k : ℕ). cleaned (a .absolute .now) (a .reading) k (a .stale)) (n .ticks-per-millisecond .ensures))
     (y .clean2 .ensures ∙ ap (λ (k : ℕ). cleaned (a .suppressed .now) (a .reading) k (a .stale)) (n .ticks-per-millisecond .ensures))

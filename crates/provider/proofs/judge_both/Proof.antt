@@ -19,7 +19,8 @@ returns c =
     let n = c .before in
     let m = n .before in
     let a = m .before .before .before .args in
-    number-is (a .settings) (a .absolute .now) (a .suppressed .now) (a .reading) (c .lowest .result) (m .judge-all .result) (n .judge-all2 .result)
+    number-is (a .settings) (a .absolute .now) (a .suppressed .now) (a .reading) (a .absolutes) (a .suppresseds) (c .lowest .result) (m .judge-all .result)
+    (n .judge-all2 .result)
     (c .lowest .ensures) (m .judge-all .ensures) (n .judge-all2 .ensures)
 
 pub judge-both-spec : {M : Type 1} → statement M

@@ -36,7 +36,7 @@ use denote.RattleType.{RattleType, owns}
 use denote.Shadow.{pureI}
 use denote.Laws.{Is, shows}
 use denote.Memory.{cellAt, pointee}
-use denote.Plain.{uint-makes}
+use denote.Plain.{uint-makes, uint-vals, uint-tells}
 use denote.Builtin.{u8, u64, usize}
 use denote.Ref.{RefT, now}
 use denote.Slice.{sliceTy, sliceVal, ShrSlice, MutSlice, Room, heres, codedHoleys, at-slice, slice-vals, shr-slice-tells, mut-slice-tells, shr-slice-lawful}
@@ -68,7 +68,8 @@ use Rattle.ring.proofs.Bucket.Laws as T′
 use Rattle.room.specs.Room.{ringOf, bodyOf}
 use Rattle.readout.specs.declared.Plan.{Plan}
 use Rattle.readout.specs.ReadOut.{planOf, rowAt}
-use Rattle.finding.specs.Finding.{found}
+use Rattle.parties.specs.Parties.{Sent}
+use Rattle.finding.specs.Finding.{asked, found}
 use Rattle.readout.specs.Laws.{row-readable, row-length, row-more, row-shown}
 use Rattle.readout.proofs.Plan as P
 use Rattle.readout.proofs.Plan.Laws as P′
@@ -103,7 +104,10 @@ stayed = (
     stay-dropped (plain (λ _. S.the-row)) yes,
     (
       stay-dropped (shrSliceOf (0 ∷ []) tt (plain (λ _. u64))) yes,
-      (stay-dropped (shrSliceOf (1 ∷ []) tt (plain (λ _. u8))) yes, (stay-slice (2 ∷ []) tt (plain (λ _. R)), tt)),
+      (
+        stay-dropped (plain (λ _. u64)) yes,
+        (stay-dropped (shrSliceOf (1 ∷ []) tt (plain (λ _. u8))) yes, (stay-slice (2 ∷ []) tt (plain (λ _. R)), tt)),
+      ),
     ),
   ),
 )
@@ -117,10 +121,11 @@ module _ {M : Type 1} (𝓤 : URA M) (H : Heap 𝓤) (A : Atoms 𝓤) (mem : Mem
   BucketAt = tripleOf 𝓤 H A bucket-at.signature (bucket-at.spec 𝓤 H A mem run)
 
 module _ {M : Type 1} (𝓤 : URA M) (H : Heap 𝓤) (A : Atoms 𝓤) (W : Given 𝓤 H A) (mem : Memory → SProp 𝓤) (run : Routine → Fun 𝓤) (κ₀ κ₁ κ₂ : Lft)
-    (q₀ q₁ q₂ : Share) (kind : RoomKind) (settings : Settings) (room key : RefT (List ℕ)) (b o : ℕ) (γ : GName) (ys : List Bucket)
-    (kind-is : Is K.the-row kind (EL.vals K.the-type K′.the-laws kind)) (settings-is : Is S.the-row settings (LL.vals S.the-type S′.the-laws settings))
-    (room-is : Is (ShrSlice (named 0) κ₀ u64) room (slice-vals room)) (key-is : Is (ShrSlice (named 1) κ₁ u8) key (slice-vals key))
-    (spaces : Room R (length ys)) where
+    (q₀ q₁ q₂ : Share) (kind : RoomKind) (settings : Settings) (room : RefT (List ℕ)) (party : ℕ) (key : RefT (List ℕ)) (b o : ℕ) (γ : GName)
+    (ys : List Bucket) (kind-is : Is K.the-row kind (EL.vals K.the-type K′.the-laws kind))
+    (settings-is : Is S.the-row settings (LL.vals S.the-type S′.the-laws settings))
+    (room-is : Is (ShrSlice (named 0) κ₀ u64) room (slice-vals room)) (party-fits : party < 2 ^ 64)
+    (key-is : Is (ShrSlice (named 1) κ₁ u8) key (slice-vals key)) (spaces : Room R (length ys)) where
   -- the row at the list l, its machine value, the words, the plan, and the row once i buckets are written
   abbrev x : List Bucket → RefT (List Bucket)
   x l = record { ptr = (b, o); name = γ; now = l }
@@ -128,20 +133,27 @@ module _ {M : Type 1} (𝓤 : URA M) (H : Heap 𝓤) (A : Atoms 𝓤) (W : Given
   abbrev s : Val
   s = sliceVal (b, o) (length ys)
 
+  -- the key as it is asked for
+  abbrev ask : Sent
+  ask = asked party (now key)
+
   abbrev plan : Plan
-  plan = planOf (found kind settings (now room) (now key)) (length ys)
+  plan = planOf (found kind settings (now room) ask) (length ys)
 
   abbrev m : ℕ
   m = plan .fitting
 
   abbrev rows : ℕ → List Bucket
-  rows i = rowAt kind settings (now room) (now key) ys i
+  rows i = rowAt kind settings (now room) ask ys i
 
-  abbrev a : RoomKind × (Settings × (RefT (List ℕ) × (RefT (List ℕ) × (RefT (List Bucket) × Unit {0}))))
-  a = (kind, (settings, (room, (key, (x ys, tt)))))
+  abbrev a : RoomKind × (Settings × (RefT (List ℕ) × (ℕ × (RefT (List ℕ) × (RefT (List Bucket) × Unit {0})))))
+  a = (kind, (settings, (room, (party, (key, (x ys, tt))))))
 
-  abbrev vals : List Val × (List Val × (List Val × (List Val × (List Val × Unit {0}))))
-  vals = (EL.vals K.the-type K′.the-laws kind, (LL.vals S.the-type S′.the-laws settings, (slice-vals room, (slice-vals key, (s ∷ [], tt)))))
+  abbrev vals : List Val × (List Val × (List Val × (List Val × (List Val × (List Val × Unit {0})))))
+  vals = (
+    EL.vals K.the-type K′.the-laws kind,
+    (LL.vals S.the-type S′.the-laws settings, (slice-vals room, (vint w64 party ∷ [], (slice-vals key, (s ∷ [], tt))))),
+  )
 
   abbrev Post : Val → SProp 𝓤
   Post = walkOf 𝓤 H A read-out.ended stayed (read-out.clauses 𝓤 H A mem run) .post (((κ₀, (κ₁, (κ₂, tt))), (q₀, (q₁, (q₂, tt))), tt, a, vals), tt)
@@ -159,8 +171,11 @@ module _ {M : Type 1} (𝓤 : URA M) (H : Heap 𝓤) (A : Atoms 𝓤) (W : Given
       (κ₀, (κ₁, tt)),
       (q₀, (q₁, tt)),
       tt,
-      (kind, (settings, (room, (key, (length ys, tt))))),
-      (EL.vals K.the-type K′.the-laws kind, (LL.vals S.the-type S′.the-laws settings, (slice-vals room, (slice-vals key, (vint w64 (length ys) ∷ [], tt))))),
+      (kind, (settings, (room, (party, (key, (length ys, tt)))))),
+      (
+        EL.vals K.the-type K′.the-laws kind,
+        (LL.vals S.the-type S′.the-laws settings, (slice-vals room, (vint w64 party ∷ [], (slice-vals key, (vint w64 (length ys) ∷ [], tt))))),
+      ),
     ),
     tt,
   )
@@ -170,16 +185,16 @@ module _ {M : Type 1} (𝓤 : URA M) (H : Heap 𝓤) (A : Atoms 𝓤) (W : Given
       qed W ((‵ (flft κ₀ q₀) ⊛ ‵ (flft κ₁ q₁)) ∷ (‵ Key ⊛ ‵ Words) ∷ []) ∵ split ! $ nothing ! $ move ! (2 ∷ 0 ∷ []) $ join ! $ move !
       (1 ∷ 0 ∷ []) $ join ! $ move ! (1 ∷ []) $ split ! $
       -- [the key; the words; the tokens]
-      nothing ! $ owned ! usize (Is usize) (uint-makes 𝓤 H A W w64) (length ys) _ (refl, spaces .0) $ fjoin ! $ move ! (1 ∷ 0 ∷ []) $ fjoin ! $ move !
-      (1 ∷ 0 ∷ []) $ fjoin ! $
+      nothing ! $ owned ! usize (Is usize) (uint-makes 𝓤 H A W w64) (length ys) _ (refl, spaces .0) $ fjoin ! $ move ! (1 ∷ 0 ∷ []) $ fjoin ! $
+      owned ! u64 (Is u64) (uint-makes 𝓤 H A W w64) party _ (refl, party-fits) $ fjoin ! $ move ! (1 ∷ 0 ∷ []) $ fjoin ! $
       owned ! S.the-row (Is S.the-row) (LL.makes S.the-type S′.the-plain 𝓤 H A) settings _ settings-is $ fjoin ! $ owned ! K.the-row (Is K.the-row)
       (EL.makes K.the-type K′.the-plain 𝓤 H A) kind _ kind-is $ fjoin ! $
       move ! (1 ∷ 0 ∷ []) $ join ! $ frame ! $ done !
 
   decide-said : (r : Plan) →
-      ent 𝓤 (ensured 𝓤 H A decide.ended (decide.clauses 𝓤 H A mem run) (κ₀, (κ₁, tt)) (kind, (settings, (room, (key, (length ys, tt))))) tt r)
+      ent 𝓤 (ensured 𝓤 H A decide.ended (decide.clauses 𝓤 H A mem run) (κ₀, (κ₁, tt)) (kind, (settings, (room, (party, (key, (length ys, tt)))))) tt r)
       (fact 𝓤 (r ≡ plan))
-  decide-said r = exE 𝓤 _ (λ ws. snd∗ 𝓤 (sem 𝓤 H A (lasts decide.ended (κ₀, (κ₁, tt)) (kind, (settings, (room, (key, (length ys, tt))))) ws))
+  decide-said r = exE 𝓤 _ (λ ws. snd∗ 𝓤 (sem 𝓤 H A (lasts decide.ended (κ₀, (κ₁, tt)) (kind, (settings, (room, (party, (key, (length ys, tt)))))) ws))
       (fact 𝓤 (r ≡ plan)))
 
   abbrev answer : Val
@@ -208,7 +223,7 @@ module _ {M : Type 1} (𝓤 : URA M) (H : Heap 𝓤) (A : Atoms 𝓤) (W : Given
 
     goes-at : (i : ℕ) → i < m → ent 𝓤 (⋆ 𝓤 H A (‵ (flft κ₀ q₀) ∷ ‵ Words ∷ [])) (BucketAt 𝓤 H A mem run .pre (to-at i))
     goes-at i h =
-        qed W (‵ (flft κ₀ q₀) ∷ ‵ Words ∷ []) ∵ says ! (row-readable kind settings (now room) (now key) ys i h) $ nothing ! $ move !
+        qed W (‵ (flft κ₀ q₀) ∷ ‵ Words ∷ []) ∵ says ! (row-readable kind settings (now room) ask ys i h) $ nothing ! $ move !
         (1 ∷ 0 ∷ []) $ join ! $ frame ! $
         nothing ! $ owned ! usize (Is usize) (uint-makes 𝓤 H A W w64) i _ (refl, omega (arith, m-fits)) $ fjoin ! $ owned ! usize (Is usize)
         (uint-makes 𝓤 H A W w64) (plan .slot) _ (refl, slot-fits) $ fjoin ! $ move ! (1 ∷ 0 ∷ []) $ fjoin ! $ done !
@@ -218,25 +233,26 @@ module _ {M : Type 1} (𝓤 : URA M) (H : Heap 𝓤) (A : Atoms 𝓤) (W : Given
         ent 𝓤 (⋆ 𝓤 H A (‵ (flft κ₀ q₀) ∷ ‵ (flft κ₁ q₁) ∷ ‵ (flft κ₂ q₂) ∷ ‵ (fobs γ (codedHoleys R .code (heres R (rows i)))) ∷ ‵
         (fbor κ₂ (Held R (length (rows i)) b o γ)) ∷ [])) (Post answer)
     exits i e =
-        let l : length (rows i) ≡ length ys = row-length kind settings (now room) (now key) ys i (omega arith) in
+        let l : length (rows i) ≡ length ys = row-length kind settings (now room) ask ys i (omega arith) in
         qed W (‵ (flft κ₀ q₀) ∷ ‵ (flft κ₁ q₁) ∷ ‵ (flft κ₂ q₂) ∷ ‵ (fobs γ (codedHoleys R .code (heres R (rows i)))) ∷ ‵
         (fbor κ₂ (Held R (length (rows i)) b o γ)) ∷ []) ∵
         suffices ! _ (ends-at 𝓤 H A read-out.ended stayed (read-out.clauses 𝓤 H A mem run) W
-        (((κ₀, (κ₁, (κ₂, tt))), (q₀, (q₁, (q₂, tt))), tt, a, vals), tt) answer (plan .answer) (tt, (tt, (tt, (tt, (rows i, tt)))))
-        (tt, (tt, (tt, (tt, (l, tt)))))) $
-        says ! (row-shown kind settings (now room) (now key) ys i e) $
+        (((κ₀, (κ₁, (κ₂, tt))), (q₀, (q₁, (q₂, tt))), tt, a, vals), tt) answer (plan .answer) (tt, (tt, (tt, (tt, (tt, (rows i, tt))))))
+        (tt, (tt, (tt, (tt, (tt, (l, tt))))))) $
+        says ! (row-shown kind settings (now room) ask ys i e) $
         nothing ! $ move ! (3 ∷ 0 ∷ []) $ join ! $ move ! (2 ∷ 0 ∷ []) $ join ! $ move ! (1 ∷ 0 ∷ []) $ join ! $ frame ! $
         -- [obs; the borrow]
         fjoin ! $ pureI ! (at-slice R (x (rows i)) (s ∷ [])) (tt, (tt, tt)) (
           ap (λ (n : ℕ). sliceVal (b, o) n ∷ []) (sym l),
           subst (Room R) (sym l) spaces,
         ) $ fjoin ! $
-        nothing ! $ move ! (1 ∷ 0 ∷ []) $ fjoin ! $ nothing ! $ fjoin ! $ nothing ! $ fjoin ! $ nothing ! $ fjoin ! $ nothing ! $ fjoin ! $ frame ! $
+        nothing ! $ move ! (1 ∷ 0 ∷ []) $ fjoin ! $ nothing ! $ fjoin ! $ nothing ! $ fjoin ! $ nothing ! $ fjoin ! $ nothing ! $ fjoin ! $ nothing ! $
+        fjoin ! $ frame ! $
         owned ! N.the-row (Is N.the-row) (EL.makes N.the-type N′.the-plain 𝓤 H A) (plan .answer) _ answer-is $ done !
 
   abbrev passed : List Val
-  passed = EL.val K.the-type K′.the-laws kind ∷ LL.val S.the-type S′.the-laws settings ∷ sliceVal (room .ptr) (length (now room)) ∷ sliceVal (key .ptr)
-      (length (now key)) ∷ s ∷ []
+  passed = EL.val K.the-type K′.the-laws kind ∷ LL.val S.the-type S′.the-laws settings ∷ sliceVal (room .ptr) (length (now room)) ∷ vint w64 party ∷
+      sliceVal (key .ptr) (length (now key)) ∷ s ∷ []
 
   -- what is passed is taken apart: what `decide` asks, and what the loop wants
   abbrev Opened : List (Item 𝓤)
@@ -247,8 +263,8 @@ module _ {M : Type 1} (𝓤 : URA M) (H : Heap 𝓤) (A : Atoms 𝓤) (W : Given
       (⋆ 𝓤 H A Opened)
   opened =
       qed W ((‵ (flft κ₀ q₀) ⊛ (‵ (flft κ₁ q₁) ⊛ (‵ (flft κ₂ q₂) ⊛ ‵ ftrue))) ∷ ‵
-      (owns (K.the-row ∷ S.the-row ∷ ShrSlice (named 0) κ₀ u64 ∷ ShrSlice (named 1) κ₁ u8 ∷ MutSlice (named 2) κ₂ R ∷ []) a vals) ∷ []) ∵
-      move ! (1 ∷ []) $ fsplit ! $ drop ! $ fsplit ! $ drop ! $ fsplit ! $ move ! (1 ∷ []) $ fsplit ! $ move !
+      (owns (K.the-row ∷ S.the-row ∷ ShrSlice (named 0) κ₀ u64 ∷ u64 ∷ ShrSlice (named 1) κ₁ u8 ∷ MutSlice (named 2) κ₂ R ∷ []) a vals) ∷ []) ∵
+      move ! (1 ∷ []) $ fsplit ! $ drop ! $ fsplit ! $ drop ! $ fsplit ! $ move ! (1 ∷ []) $ fsplit ! $ drop ! $ fsplit ! $ move !
       (1 ∷ []) $ fsplit ! $ fsplit ! $ drop ! $ fsplit ! $ move ! (2 ∷ []) $ drop ! $
       -- [obs; the borrow; the key; the words; the tokens]
       move ! (3 ∷ []) $ use1 W (‵ Words ⊛ ‵ Words) (shr-slice-copy 𝓤 H A W (named 0) κ₀ u64 .twice room (slice-vals room)) $ split ! $ move !
@@ -258,7 +274,7 @@ module _ {M : Type 1} (𝓤 : URA M) (H : Heap 𝓤) (A : Atoms 𝓤) (W : Given
       keep ! (0 ∷ 4 ∷ 5 ∷ 1 ∷ 3 ∷ []) $ done !
 
   module _ (𝓣 : Tables 𝓤 H) (known-decide : Triple 𝓤 (𝓣 .C #readout·decide) (Decide 𝓤 H A mem run))
-      (known-at : Triple 𝓤 (𝓣 .C #finding·bucket-at) (BucketAt 𝓤 H A mem run)) (l₀ l₁ l₂ l₃ l₄ l₅ l₆ l₇ l₈ l₉ l₁₀ l₁₁ l₁₂ l₁₃ l₁₄ : ℕ) where
+      (known-at : Triple 𝓤 (𝓣 .C #finding·bucket-at) (BucketAt 𝓤 H A mem run)) (l₀ l₁ l₂ l₃ l₄ l₅ l₆ l₇ l₈ l₉ l₁₀ l₁₁ l₁₂ l₁₃ l₁₄ l₁₅ : ℕ) where
     abbrev word : Ty
     word = tyInt w64
 
@@ -272,29 +288,29 @@ module _ {M : Type 1} (𝓤 : URA M) (H : Heap 𝓤) (A : Atoms 𝓤) (W : Given
     rowTy = sliceTy (tyRef (named 2) mut (pointee (R .written)))
 
     abbrev En : Env 𝓤 H
-    En = (N′.mir, l₀) ∷ (K′.mir, l₁) ∷ (S′.mir, l₂) ∷ (words, l₃) ∷ (bytes, l₄) ∷ (rowTy, l₅) ∷ (P′.mir, l₆) ∷ (word, l₇) ∷ (word, l₈) ∷ (word, l₉) ∷
-        (word, l₁₀) ∷ (tyBool, l₁₁) ∷ (T′.mir, l₁₂) ∷ (word, l₁₃) ∷ (tyPtr, l₁₄) ∷ []
+    En = (N′.mir, l₀) ∷ (K′.mir, l₁) ∷ (S′.mir, l₂) ∷ (words, l₃) ∷ (word, l₄) ∷ (bytes, l₅) ∷ (rowTy, l₆) ∷ (P′.mir, l₇) ∷ (word, l₈) ∷ (word, l₉) ∷
+        (word, l₁₀) ∷ (word, l₁₁) ∷ (tyBool, l₁₂) ∷ (T′.mir, l₁₃) ∷ (word, l₁₄) ∷ (tyPtr, l₁₅) ∷ []
 
-    -- the locals that no turn writes, with _6, _7 and _8 as c₆, c₇ and c₈; and that each local dies
+    -- the locals that no turn writes, with _7, _8 and _9 as c₇, c₈ and c₉; and that each local dies
     abbrev Cells : Item 𝓤 → Item 𝓤 → Item 𝓤 → List (Item 𝓤) → List (Item 𝓤)
-    Cells c₆ c₇ c₈ rest = ‵ (fat fullShare words l₃ 0 (sliceVal (room .ptr) (length (now room)))) ∷ ‵ (fat fullShare rowTy l₅ 0 s) ∷ c₆ ∷ c₇ ∷ c₈
+    Cells c₇ c₈ c₉ rest = ‵ (fat fullShare words l₃ 0 (sliceVal (room .ptr) (length (now room)))) ∷ ‵ (fat fullShare rowTy l₆ 0 s) ∷ c₇ ∷ c₈ ∷ c₉
         ∷ ‵ (froom N′.mir l₀ 0) ∷ ‵ (fat fullShare K′.mir l₁ 0 (EL.val K.the-type K′.the-laws kind)) ∷ ‵
-        (fat fullShare S′.mir l₂ 0 (LL.val S.the-type S′.the-laws settings)) ∷ ‵ (fat fullShare bytes l₄ 0 (sliceVal (key .ptr) (length (now key)))) ∷ ‵
-        (fat fullShare word l₁₀ 0 (vint w64 (length ys))) ∷ rest
+        (fat fullShare S′.mir l₂ 0 (LL.val S.the-type S′.the-laws settings)) ∷ ‵ (fat fullShare bytes l₅ 0 (sliceVal (key .ptr) (length (now key)))) ∷ ‵
+        (fat fullShare word l₁₁ 0 (vint w64 (length ys))) ∷ ‵ (fat fullShare word l₄ 0 (vint w64 party)) ∷ rest
 
     abbrev Dies : List (Item 𝓤)
-    Dies = ‵ (fdies N′.mir l₀) ∷ ‵ (fdies K′.mir l₁) ∷ ‵ (fdies S′.mir l₂) ∷ ‵ (fdies words l₃) ∷ ‵ (fdies bytes l₄) ∷ ‵ (fdies rowTy l₅) ∷ ‵
-        (fdies P′.mir l₆) ∷ ‵ (fdies word l₇) ∷ ‵ (fdies word l₈) ∷ ‵ (fdies word l₉) ∷ ‵ (fdies word l₁₀) ∷ ‵ (fdies tyBool l₁₁) ∷ ‵ (fdies T′.mir l₁₂) ∷ ‵
-        (fdies word l₁₃) ∷ ‵ (fdies tyPtr l₁₄) ∷ []
+    Dies = ‵ (fdies N′.mir l₀) ∷ ‵ (fdies K′.mir l₁) ∷ ‵ (fdies S′.mir l₂) ∷ ‵ (fdies words l₃) ∷ ‵ (fdies word l₄) ∷ ‵ (fdies bytes l₅) ∷ ‵
+        (fdies rowTy l₆) ∷ ‵ (fdies P′.mir l₇) ∷ ‵ (fdies word l₈) ∷ ‵ (fdies word l₉) ∷ ‵ (fdies word l₁₀) ∷ ‵ (fdies word l₁₁) ∷ ‵ (fdies tyBool l₁₂) ∷ ‵
+        (fdies T′.mir l₁₃) ∷ ‵ (fdies word l₁₄) ∷ ‵ (fdies tyPtr l₁₅) ∷ []
 
     abbrev planned : Item 𝓤
-    planned = ‵ (fat fullShare P′.mir l₆ 0 (LL.val P.the-type P′.the-laws plan))
+    planned = ‵ (fat fullShare P′.mir l₇ 0 (LL.val P.the-type P′.the-laws plan))
 
     -- i buckets are written
     abbrev At : ℕ → List (Item 𝓤)
     At i = ‵ (fobs γ (codedHoleys R .code (heres R (rows i)))) ∷ ‵ (fbor κ₂ (Held R (length (rows i)) b o γ)) ∷ ‵ (flft κ₂ q₂) ∷ ‵ (flft κ₀ q₀) ∷ ‵ Words
-        ∷ ‵ (fat fullShare word l₉ 0 (vint w64 i)) ∷ ‵ (froom tyBool l₁₁ 0) ∷ ‵ (froom T′.mir l₁₂ 0) ∷ ‵ (froom word l₁₃ 0) ∷ ‵
-        (froom tyPtr l₁₄ 0) ∷ Cells planned (‵ (fat fullShare word l₇ 0 (vint w64 (plan .slot)))) (‵ (fat fullShare word l₈ 0 (vint w64 m)))
+        ∷ ‵ (fat fullShare word l₁₀ 0 (vint w64 i)) ∷ ‵ (froom tyBool l₁₂ 0) ∷ ‵ (froom T′.mir l₁₃ 0) ∷ ‵ (froom word l₁₄ 0) ∷ ‵
+        (froom tyPtr l₁₅ 0) ∷ Cells planned (‵ (fat fullShare word l₈ 0 (vint w64 (plan .slot)))) (‵ (fat fullShare word l₉ 0 (vint w64 m)))
         (‵ (flft κ₁ q₁) ∷ Dies)
 
     -- the invariant, where t are left
@@ -315,7 +331,7 @@ module _ {M : Type 1} (𝓤 : URA M) (H : Heap 𝓤) (A : Atoms 𝓤) (W : Given
           qed W (Inv t) ∵ exec ! (𝓣 .C) (𝓣 .Λ) En body.turn-1 (anyQ (afterTurn 𝓤 H (Below 𝓤 H A _<_ Inv t) Left)) $
           assigns ! (bin ! (load ! (from ! (stop !)) (look ! 5 refl)) (load ! (from ! (stop !)) (look ! 14 refl)) tt) (from ! (stop !))
           (init ! 6 refl (tt, tt)) $
-          rewrite ! 6 (λ (y : Bool). ‵ (fat fullShare tyBool l₁₁ 0 (vbool y))) test refl $ stays ! (load ! (from ! (stop !)) (look ! 6 refl)) $
+          rewrite ! 6 (λ (y : Bool). ‵ (fat fullShare tyBool l₁₂ 0 (vbool y))) test refl $ stays ! (load ! (from ! (stop !)) (look ! 6 refl)) $
           -- the bucket
           move ! (4 ∷ []) $ use1 W (‵ Words ⊛ ‵ Words) (shr-slice-copy 𝓤 H A W (named 0) κ₀ u64 .twice room (slice-vals room)) $ split ! $ move !
           (5 ∷ 0 ∷ []) $ use2 W (raw (BucketAt 𝓤 H A mem run .pre (to-at i))) (goes-at plan-is i h) $
@@ -328,28 +344,29 @@ module _ {M : Type 1} (𝓤 : URA M) (H : Heap 𝓤) (A : Atoms 𝓤) (W : Given
           split ! $ move ! (1 ∷ []) $ use1 W (raw (fact 𝓤 (Told i y))) (at-said i y) $ heard ! (Told i y) (λ told. split ! $ split ! $ move ! (2 ∷ []) $
           peeks ! R (Is R) (shows 𝓤 H A R) y (v ∷ [])
           (λ is. land ! (from ! (stop !)) (init ! 9 refl (LL.lawful T.the-type T′.the-laws 𝓤 H A W .typed y _ is .0)) $
-          -- [what the bucket owns; a token; true; the words; obs; the borrow; its token; _9; _11; _12; _13; _14; _3; _5; …]
+          -- [what the bucket owns; a token; true; the words; obs; the borrow; its token; _10; _12; _13; _14; _15; _3; _6; …]
           assigns ! (bin ! (load ! (from ! (stop !)) (look ! 7 refl)) (lit ! tt) (record { fits = scaled })) (from ! (stop !))
           (init ! 10 refl (tt, record { fits = scaled })) $
           assigns ! (bin ! (load ! (from ! (fld ! refl (stop !))) (look-in ! 13 (sub ! 0 refl (whole !)))) (load ! (from ! (stop !)) (look ! 10 refl)) tt)
           (from ! (stop !)) (init ! 11 refl (tt, tt)) $
-          rewrite ! 11 (λ (z : ℕ). ‵ (fat fullShare tyPtr l₁₄ 0 (vptr b z))) (sym (place-is 24 o i)) refl $
+          rewrite ! 11 (λ (z : ℕ). ‵ (fat fullShare tyPtr l₁₅ 0 (vptr b z))) (sym (place-is 24 o i)) refl $
           move ! (4 ∷ 5 ∷ 6 ∷ []) $ opens-slice ! tt R (rows i) b o $ elem-out ! R (Is R) (shows 𝓤 H A R) (LL.vals T.the-type T′.the-laws)
           (LL.tells T.the-type T′.the-laws) fullShare (rows i) i y b o within (λ _.
-          -- [row[i]; what it owns; the others; the open borrow; obs; auth; what the bucket owns; a token; true; the words; _9; _11; _12; _13; _14; …]
-          use1 W (‵ (fat fullShare T′.mir b p (mach (getD (rows i) i y)))) (retype 𝓤 H A W fullShare (bare T′.mir) T′.mir refl b p (mach (getD (rows i) i y))) $
+          -- [row[i]; what it owns; the others; the open borrow; obs; auth; what the bucket owns; a token; true; the words; _10; _12; _13; _14; _15; …]
+          use1 W (‵ (fat fullShare T′.mir b p (mach (getD (rows i) i y))))
+          (retype 𝓤 H A W fullShare (bare T′.mir) T′.mir refl b p (mach (getD (rows i) i y))) $
           assigns ! (of-opd ! (load ! (from ! (stop !)) (look ! 12 refl))) (from ! (hop ! (look ! 14 refl) (stop !)))
           (store ! 0 refl (LL.lawful T.the-type T′.the-laws 𝓤 H A W .typed y _ is .0)) $
           use1 W (‵ (cellAt fullShare (R .mir) (v ∷ []) b p)) (retype 𝓤 H A W fullShare T′.mir (bare T′.mir) refl b p v) $
           move ! (1 ∷ []) $ drop ! $ move ! (0 ∷ 5 ∷ []) $ elem-put ! R fullShare (rows i) i y (v ∷ []) b o within $ closes-slice ! tt R (rows i)
           (set (rows i) i y) (length-set (rows i) i y) b o $
-          -- [obs; the borrow; its token; a token; true; the words; _9; _11; …]
+          -- [obs; the borrow; its token; a token; true; the words; _10; _12; …]
           assigns-last ! (bin ! (load ! (from ! (stop !)) (look ! 6 refl)) (lit ! tt) (record { fits = next })) (from ! (stop !))
           (store ! 6 refl (tt, record { fits = next })) $
           forget ! 7 refl $ forget ! 8 refl $ forget ! 9 refl $ forget ! 10 refl $ move ! (4 ∷ []) $ drop ! $
           rewrite ! 0 (λ (rs : List Bucket). ‵ (fobs γ (codedHoleys R .code (heres R rs)))) (grown y told) refl $ rewrite ! 1
           (λ (rs : List Bucket). ‵ (fbor κ₂ (Held R (length rs) b o γ))) (grown y told) refl $ rewrite ! 5
-          (λ (j : ℕ). ‵ (fat fullShare word l₉ 0 (vint w64 j))) after refl $
+          (λ (j : ℕ). ‵ (fat fullShare word l₁₀ 0 (vint w64 j))) after refl $
           again ! _<_ Inv t (m - (i + 1)) less)))))
         where
           i : ℕ
@@ -362,7 +379,7 @@ module _ {M : Type 1} (𝓤 : URA M) (H : Heap 𝓤) (A : Atoms 𝓤) (W : Given
           p = place 24 o i
 
           l : length (rows i) ≡ length ys
-          l = row-length kind settings (now room) (now key) ys i (omega arith)
+          l = row-length kind settings (now room) ask ys i (omega arith)
 
           within : i < length (rows i)
           within = omega (arith, l, h)
@@ -380,7 +397,7 @@ module _ {M : Type 1} (𝓤 : URA M) (H : Heap 𝓤) (A : Atoms 𝓤) (W : Given
           after = omega (arith, h)
 
           grown : (y : Bucket) → Told i y → set (rows i) i y ≡ rows (m - (m - (i + 1)))
-          grown y told = row-more kind settings (now room) (now key) ys i y h told ∙ ap rows after
+          grown y told = row-more kind settings (now room) ask ys i y h told ∙ ap rows after
 
       -- the turn that leaves the loop, and the answer
       ends : (t : ℕ) → ltb (m - t) m ≡ false → Turns t
@@ -389,16 +406,16 @@ module _ {M : Type 1} (𝓤 : URA M) (H : Heap 𝓤) (A : Atoms 𝓤) (W : Given
           qed W (Inv t) ∵ exec ! (𝓣 .C) (𝓣 .Λ) En body.turn-1 (anyQ (afterTurn 𝓤 H (Below 𝓤 H A _<_ Inv t) Left)) $
           assigns ! (bin ! (load ! (from ! (stop !)) (look ! 5 refl)) (load ! (from ! (stop !)) (look ! 14 refl)) tt) (from ! (stop !))
           (init ! 6 refl (tt, tt)) $
-          rewrite ! 6 (λ (y : Bool). ‵ (fat fullShare tyBool l₁₁ 0 (vbool y))) test refl $ leaves-loop ! (load ! (from ! (stop !)) (look ! 6 refl)) $ exec !
+          rewrite ! 6 (λ (y : Bool). ‵ (fat fullShare tyBool l₁₂ 0 (vbool y))) test refl $ leaves-loop ! (load ! (from ! (stop !)) (look ! 6 refl)) $ exec !
           (𝓣 .C) (𝓣 .Λ) En body.t-7 (atRet En Post) $
           assigns ! (of-opd ! (load ! (from ! (fld ! refl (stop !))) (look-in ! 12 (sub ! 0 refl (whole !))))) (from ! (stop !))
           (init ! 15 refl (EL.lawful N.the-type N′.the-laws 𝓤 H A W tt .typed (plan .answer) _ (answer-is plan-is) .0)) $
           returns ! (look ! 15 refl) $ forget ! 5 refl $ forget ! 6 refl $ forget ! 10 refl $ forget ! 11 refl $ forget ! 12 refl $ forget ! 13 refl $ forget
-          ! 14 refl $ forget ! 15 refl $ forget ! 16 refl $ forget ! 17 refl $ forget ! 18 refl $ forget ! 19 refl $
-          move ! (15 ∷ 21 ∷ []) $ free1 ! $ move ! (15 ∷ 20 ∷ []) $ free1 ! $ move ! (15 ∷ 19 ∷ []) $ free1 ! $ move ! (10 ∷ 18 ∷ []) $ free1 ! $ move !
-          (14 ∷ 17 ∷ []) $ free1 ! $ move ! (10 ∷ 16 ∷ []) $ free1 ! $ move ! (10 ∷ 15 ∷ []) $ free1 ! $ move ! (10 ∷ 14 ∷ []) $ free1 ! $ move !
-          (10 ∷ 13 ∷ []) $ free1 ! $ move ! (5 ∷ 12 ∷ []) $ free1 ! $ move ! (9 ∷ 11 ∷ []) $ free1 ! $ move ! (5 ∷ 10 ∷ []) $ free1 ! $ move !
-          (5 ∷ 9 ∷ []) $ free1 ! $ move ! (5 ∷ 8 ∷ []) $ free1 ! $ move ! (5 ∷ 7 ∷ []) $ free1 ! $ free0 ! $
+          ! 14 refl $ forget ! 15 refl $ forget ! 16 refl $ forget ! 17 refl $ forget ! 18 refl $ forget ! 19 refl $ forget ! 20 refl $
+          move ! (15 ∷ 22 ∷ []) $ free1 ! $ move ! (15 ∷ 21 ∷ []) $ free1 ! $ move ! (15 ∷ 20 ∷ []) $ free1 ! $ move ! (10 ∷ 19 ∷ []) $ free1 ! $
+          move ! (16 ∷ 18 ∷ []) $ free1 ! $ move ! (14 ∷ 17 ∷ []) $ free1 ! $ move ! (10 ∷ 16 ∷ []) $ free1 ! $ move ! (10 ∷ 15 ∷ []) $ free1 ! $
+          move ! (10 ∷ 14 ∷ []) $ free1 ! $ move ! (10 ∷ 13 ∷ []) $ free1 ! $ move ! (5 ∷ 12 ∷ []) $ free1 ! $ move ! (9 ∷ 11 ∷ []) $ free1 ! $
+          move ! (5 ∷ 10 ∷ []) $ free1 ! $ move ! (5 ∷ 9 ∷ []) $ free1 ! $ move ! (5 ∷ 8 ∷ []) $ free1 ! $ move ! (5 ∷ 7 ∷ []) $ free1 ! $ free0 ! $
           keep ! (3 ∷ 5 ∷ 2 ∷ 0 ∷ 1 ∷ []) $ by ! (exits plan-is (m - t) all)
         where
           all : m - t ≡ m
@@ -423,8 +440,8 @@ module _ {M : Type 1} (𝓤 : URA M) (H : Heap 𝓤) (A : Atoms 𝓤) (W : Given
       -- once `decide` has returned: nothing is written yet
       abbrev Begun : List (Item 𝓤)
       Begun = ‵ (fobs γ (codedHoleys R .code (heres R ys))) ∷ ‵ (fbor κ₂ (Held R (length ys) b o γ)) ∷ ‵ (flft κ₂ q₂) ∷ ‵ (flft κ₀ q₀) ∷ ‵ Words
-          ∷ ‵ (froom word l₉ 0) ∷ ‵ (froom tyBool l₁₁ 0) ∷ ‵ (froom T′.mir l₁₂ 0) ∷ ‵ (froom word l₁₃ 0) ∷ ‵ (froom tyPtr l₁₄ 0) ∷ Cells planned
-          (‵ (froom word l₇ 0)) (‵ (froom word l₈ 0)) (‵ (flft κ₁ q₁) ∷ Dies)
+          ∷ ‵ (froom word l₁₀ 0) ∷ ‵ (froom tyBool l₁₂ 0) ∷ ‵ (froom T′.mir l₁₃ 0) ∷ ‵ (froom word l₁₄ 0) ∷ ‵ (froom tyPtr l₁₅ 0) ∷ Cells planned
+          (‵ (froom word l₈ 0)) (‵ (froom word l₉ 0)) (‵ (flft κ₁ q₁) ∷ Dies)
 
       begins : ent 𝓤 (⋆ 𝓤 H A Begun) (Wp 𝓤 H (𝓣 .C) (𝓣 .Λ) En body.t-3 (atReturn 𝓤 H En Post))
       begins =
@@ -436,15 +453,15 @@ module _ {M : Type 1} (𝓤 : URA M) (H : Heap 𝓤) (A : Atoms 𝓤) (W : Given
           assigns ! (of-opd ! (lit ! tt)) (from ! (stop !)) (init ! 5 refl (tt, record { fits = lit< tt })) $
           rewrite ! 0 (λ (rs : List Bucket). ‵ (fobs γ (codedHoleys R .code (heres R rs)))) start refl $ rewrite ! 1
           (λ (rs : List Bucket). ‵ (fbor κ₂ (Held R (length rs) b o γ))) start refl $ rewrite ! 5
-          (λ (j : ℕ). ‵ (fat fullShare word l₉ 0 (vint w64 j))) zeroth refl $
+          (λ (j : ℕ). ‵ (fat fullShare word l₁₀ 0 (vint w64 j))) zeroth refl $
           by ! goes-round
 
     -- the call of `decide`, and the rest
     abbrev Asked : List (Item 𝓤)
     Asked = raw (Decide 𝓤 H A mem run .pre to-decide) ∷ ‵ (fobs γ (codedHoleys R .code (heres R ys))) ∷ ‵ (fbor κ₂ (Held R (length ys) b o γ)) ∷ ‵
         (flft κ₂ q₂) ∷ ‵ Words
-        ∷ ‵ (froom word l₉ 0) ∷ ‵ (froom tyBool l₁₁ 0) ∷ ‵ (froom T′.mir l₁₂ 0) ∷ ‵ (froom word l₁₃ 0) ∷ ‵ (froom tyPtr l₁₄ 0) ∷ Cells (‵ (froom P′.mir l₆ 0))
-        (‵ (froom word l₇ 0)) (‵ (froom word l₈ 0)) Dies
+        ∷ ‵ (froom word l₁₀ 0) ∷ ‵ (froom tyBool l₁₂ 0) ∷ ‵ (froom T′.mir l₁₃ 0) ∷ ‵ (froom word l₁₄ 0) ∷ ‵ (froom tyPtr l₁₅ 0) ∷ Cells (‵ (froom P′.mir l₇ 0))
+        (‵ (froom word l₈ 0)) (‵ (froom word l₉ 0)) Dies
 
     asks : ent 𝓤 (⋆ 𝓤 H A Asked) (Wp 𝓤 H (𝓣 .C) (𝓣 .Λ) En body.t-2 (atReturn 𝓤 H En Post))
     asks =
@@ -453,41 +470,44 @@ module _ {M : Type 1} (𝓤 : URA M) (H : Heap 𝓤) (A : Atoms 𝓤) (W : Given
         (and-then ! (load ! (from ! (stop !)) (look ! 16 refl))
         (and-then ! (load ! (from ! (stop !)) (look ! 17 refl))
         (and-then ! (load ! (from ! (stop !)) (look ! 10 refl))
-        (and-then ! (load ! (from ! (stop !)) (look ! 18 refl)) (and-then ! (load ! (from ! (stop !)) (look ! 19 refl)) (no-more !)))))) (λ v.
+        (and-then ! (load ! (from ! (stop !)) (look ! 20 refl))
+        (and-then ! (load ! (from ! (stop !)) (look ! 18 refl)) (and-then ! (load ! (from ! (stop !)) (look ! 19 refl)) (no-more !))))))) (λ v.
         use1 W (later (some (λ (r : Plan). ((‵ (flft κ₀ q₀) ⊛ (‵ (flft κ₁ q₁) ⊛ ‵ ftrue)) ⊛ ‵ (P.the-row .own r (v ∷ []))) ⊛ raw
-        (ensured 𝓤 H A decide.ended (decide.clauses 𝓤 H A mem run) (κ₀, (κ₁, tt)) (kind, (settings, (room, (key, (length ys, tt))))) tt r))))
+        (ensured 𝓤 H A decide.ended (decide.clauses 𝓤 H A mem run) (κ₀, (κ₁, tt)) (kind, (settings, (room, (party, (key, (length ys, tt)))))) tt r))))
         (id⊢ 𝓤 _) $ await ! tt $ pick ! (λ r.
         split ! $ move ! (1 ∷ []) $ use1 W (raw (fact 𝓤 (r ≡ plan))) (decide-said r) $ heard ! (r ≡ plan)
         (λ e. split ! $ rewrite ! 1 (λ (z : Plan). ‵ (P.the-row .own z (v ∷ []))) e refl $ move ! (1 ∷ []) $
         peeks ! P.the-row (Is P.the-row) (shows 𝓤 H A P.the-row) plan (v ∷ [])
         (λ is. land ! (from ! (stop !)) (init ! 13 refl (LL.lawful P.the-type P′.the-laws 𝓤 H A W .typed plan _ is .0)) $
-        rewrite ! 13 (λ (z : Val). ‵ (fat fullShare P′.mir l₆ 0 z)) (ap only (LL.tells P.the-type P′.the-laws plan _ is)) refl $
+        rewrite ! 13 (λ (z : Val). ‵ (fat fullShare P′.mir l₇ 0 z)) (ap only (LL.tells P.the-type P′.the-laws plan _ is)) refl $
         drop ! $ split ! $ move ! (1 ∷ []) $ split ! $
-        -- [the key's token; true; the words'; obs; the borrow; its token; the words; _9; …]
-        keep ! (3 ∷ 4 ∷ 5 ∷ 2 ∷ 6 ∷ 7 ∷ 8 ∷ 9 ∷ 10 ∷ 11 ∷ 12 ∷ 13 ∷ 14 ∷ 15 ∷ 16 ∷ 17 ∷ 18 ∷ 19 ∷ 20 ∷ 21 ∷ 0 ∷ 22 ∷ 23 ∷ 24 ∷ 25 ∷ 26 ∷ 27 ∷ 28 ∷ 29 ∷ 30 ∷
-        31 ∷ 32 ∷ 33 ∷ 34 ∷ 35 ∷ 36 ∷ []) $
+        -- [the key's token; true; the words'; obs; the borrow; its token; the words; _10; …]
+        keep ! (3 ∷ 4 ∷ 5 ∷ 2 ∷ 6 ∷ 7 ∷ 8 ∷ 9 ∷ 10 ∷ 11 ∷ 12 ∷ 13 ∷ 14 ∷ 15 ∷ 16 ∷ 17 ∷ 18 ∷ 19 ∷ 20 ∷ 21 ∷ 22 ∷ 0 ∷ 23 ∷ 24 ∷ 25 ∷ 26 ∷ 27 ∷ 28 ∷ 29 ∷ 30 ∷
+        31 ∷ 32 ∷ 33 ∷ 34 ∷ 35 ∷ 36 ∷ 37 ∷ 38 ∷ []) $
         by ! (begins (subst (Is P.the-row plan) (LL.tells P.the-type P′.the-laws plan _ is) is))))))
 
     -- the arguments are stored, and the row's length
     abbrev Allocated : List (Item 𝓤)
-    Allocated = ‵ (froom tyPtr l₁₄ 0) ∷ ‵ (fdies tyPtr l₁₄) ∷ ‵ (froom word l₁₃ 0) ∷ ‵ (fdies word l₁₃) ∷ ‵ (froom T′.mir l₁₂ 0) ∷ ‵ (fdies T′.mir l₁₂) ∷ ‵
-        (froom tyBool l₁₁ 0) ∷ ‵ (fdies tyBool l₁₁) ∷ ‵ (froom word l₁₀ 0) ∷ ‵ (fdies word l₁₀) ∷ ‵ (froom word l₉ 0) ∷ ‵ (fdies word l₉) ∷ ‵
-        (froom word l₈ 0) ∷ ‵ (fdies word l₈) ∷ ‵ (froom word l₇ 0) ∷ ‵ (fdies word l₇) ∷ ‵ (froom P′.mir l₆ 0) ∷ ‵ (fdies P′.mir l₆) ∷ ‵
-        (froom rowTy l₅ 0) ∷ ‵ (fdies rowTy l₅) ∷ ‵ (froom bytes l₄ 0) ∷ ‵ (fdies bytes l₄) ∷ ‵ (froom words l₃ 0) ∷ ‵ (fdies words l₃) ∷ ‵
+    Allocated = ‵ (froom tyPtr l₁₅ 0) ∷ ‵ (fdies tyPtr l₁₅) ∷ ‵ (froom word l₁₄ 0) ∷ ‵ (fdies word l₁₄) ∷ ‵ (froom T′.mir l₁₃ 0) ∷ ‵ (fdies T′.mir l₁₃) ∷ ‵
+        (froom tyBool l₁₂ 0) ∷ ‵ (fdies tyBool l₁₂) ∷ ‵ (froom word l₁₁ 0) ∷ ‵ (fdies word l₁₁) ∷ ‵ (froom word l₁₀ 0) ∷ ‵ (fdies word l₁₀) ∷ ‵
+        (froom word l₉ 0) ∷ ‵ (fdies word l₉) ∷ ‵ (froom word l₈ 0) ∷ ‵ (fdies word l₈) ∷ ‵ (froom P′.mir l₇ 0) ∷ ‵ (fdies P′.mir l₇) ∷ ‵
+        (froom rowTy l₆ 0) ∷ ‵ (fdies rowTy l₆) ∷ ‵ (froom bytes l₅ 0) ∷ ‵ (fdies bytes l₅) ∷ ‵ (froom word l₄ 0) ∷ ‵ (fdies word l₄) ∷ ‵
+        (froom words l₃ 0) ∷ ‵ (fdies words l₃) ∷ ‵
         (froom S′.mir l₂ 0) ∷ ‵ (fdies S′.mir l₂) ∷ ‵ (froom K′.mir l₁ 0) ∷ ‵ (fdies K′.mir l₁) ∷ ‵ (froom N′.mir l₀ 0) ∷ ‵ (fdies N′.mir l₀) ∷ Opened
 
     stores : Seq (Go {0}) W Allocated (params′ En passed (runs (𝓣 .C) (𝓣 .Λ) En body.t-1 (atRet En Post)))
     stores =
         params1 ! $
-        pass1 ! (init ! 26 refl (EL.lawful K.the-type K′.the-laws 𝓤 H A W tt .typed kind _ kind-is .0)) $ pass1 !
-        (init ! 24 refl (LL.lawful S.the-type S′.the-laws 𝓤 H A W .typed settings _ settings-is .0)) $
-        pass1 ! (init ! 22 refl (shr-slice-lawful 𝓤 H A W (named 0) κ₀ u64 .typed room _ room-is .0)) $ pass1 !
+        pass1 ! (init ! 28 refl (EL.lawful K.the-type K′.the-laws 𝓤 H A W tt .typed kind _ kind-is .0)) $ pass1 !
+        (init ! 26 refl (LL.lawful S.the-type S′.the-laws 𝓤 H A W .typed settings _ settings-is .0)) $
+        pass1 ! (init ! 24 refl (shr-slice-lawful 𝓤 H A W (named 0) κ₀ u64 .typed room _ room-is .0)) $ pass1 !
+        (init ! 22 refl (tt, record { fits = party-fits })) $ pass1 !
         (init ! 20 refl (shr-slice-lawful 𝓤 H A W (named 1) κ₁ u8 .typed key _ key-is .0)) $ pass1 !
         (init ! 18 refl (tt, (tt, (record { fits = spaces .0 }, tt)))) $ pass0 ! $
         assigns ! (of-opd ! (load ! (from ! (fld ! refl (stop !))) (look-in ! 18 (sub ! 1 refl (whole !))))) (from ! (stop !))
         (init ! 8 refl (tt, record { fits = spaces .0 })) $
-        keep ! (30 ∷ 31 ∷ 32 ∷ 33 ∷ 34 ∷ 10 ∷ 6 ∷ 4 ∷ 2 ∷ 0 ∷ 22 ∷ 18 ∷ 16 ∷ 14 ∷ 12 ∷ 28 ∷ 26 ∷ 24 ∷ 20 ∷ 8 ∷ 29 ∷ 27 ∷ 25 ∷ 23 ∷ 21 ∷ 19 ∷ 17 ∷ 15 ∷ 13 ∷ 11
-        ∷ 9 ∷ 7 ∷ 5 ∷ 3 ∷ 1 ∷ []) $
+        keep ! (32 ∷ 33 ∷ 34 ∷ 35 ∷ 36 ∷ 10 ∷ 6 ∷ 4 ∷ 2 ∷ 0 ∷ 24 ∷ 18 ∷ 16 ∷ 14 ∷ 12 ∷ 30 ∷ 28 ∷ 26 ∷ 20 ∷ 8 ∷ 22 ∷ 31 ∷ 29 ∷ 27 ∷ 25 ∷ 23 ∷ 21 ∷ 19 ∷ 17 ∷
+        15 ∷ 13 ∷ 11 ∷ 9 ∷ 7 ∷ 5 ∷ 3 ∷ 1 ∷ []) $
         by ! asks
 
   module _ (𝓣 : Tables 𝓤 H) (known-decide : Triple 𝓤 (𝓣 .C #readout·decide) (Decide 𝓤 H A mem run))
@@ -502,24 +522,27 @@ module _ {M : Type 1} (𝓤 : URA M) (H : Heap 𝓤) (A : Atoms 𝓤) (W : Given
         (λ l₈. alloc1 ! (λ l₉. alloc1 !
         (λ l₁₀. alloc1 ! (λ l₁₁. alloc1 !
         (λ l₁₂. alloc1 ! (λ l₁₃. alloc1 !
-        (λ l₁₄. alloc0 ! $ stores 𝓣 known-decide known-at l₀ l₁ l₂ l₃ l₄ l₅ l₆ l₇ l₈ l₉ l₁₀ l₁₁ l₁₂ l₁₃ l₁₄))))))))))))))))
+        (λ l₁₄. alloc1 ! (λ l₁₅. alloc0 ! $ stores 𝓣 known-decide known-at l₀ l₁ l₂ l₃ l₄ l₅ l₆ l₇ l₈ l₉ l₁₀ l₁₁ l₁₂ l₁₃ l₁₄ l₁₅)))))))))))))))))
 
 module _ {M : Type 1} (𝓤 : URA M) (H : Heap 𝓤) (A : Atoms 𝓤) (W : Given 𝓤 H A) (mem : Memory → SProp 𝓤) (run : Routine → Fun 𝓤) (𝓣 : Tables 𝓤 H)
     (known-decide : Triple 𝓤 (𝓣 .C #readout·decide) (Decide 𝓤 H A mem run)) (known-at : Triple 𝓤 (𝓣 .C #finding·bucket-at) (BucketAt 𝓤 H A mem run)) where
   read-out-walks : Walks 𝓤 H A read-out.ended stayed (WpFn 𝓤 H (𝓣 .C) (𝓣 .Λ) code.function) (read-out.clauses 𝓤 H A mem run)
   read-out-walks = walked 𝓤 H A read-out.ended stayed (read-out.clauses 𝓤 H A mem run) (WpFn 𝓤 H (𝓣 .C) (𝓣 .Λ) code.function)
-      (λ κs. (EL.vals K.the-type K′.the-laws, (LL.vals S.the-type S′.the-laws, (slice-vals, (slice-vals, (slice-vals, tt))))))
+      (λ κs. (EL.vals K.the-type K′.the-laws, (LL.vals S.the-type S′.the-laws, (slice-vals, (uint-vals w64, (slice-vals, (slice-vals, tt)))))))
       (λ κs. (
         EL.tells K.the-type K′.the-laws,
         (
           LL.tells S.the-type S′.the-laws,
-          (shr-slice-tells (named 0) (κs .0) u64, (shr-slice-tells (named 1) (κs .1 .0) u8, (mut-slice-tells (named 2) (κs .1 .1 .0) R, tt))),
+          (
+            shr-slice-tells (named 0) (κs .0) u64,
+            (uint-tells w64, (shr-slice-tells (named 1) (κs .1 .0) u8, (mut-slice-tells (named 2) (κs .1 .1 .0) R, tt))),
+          ),
         ),
       ))
       (λ κs qs bounds a g are. via 𝓤 _ (fst∗ 𝓤 _ (emp 𝓤))
       (walk 𝓤 H A W mem run (κs .0) (κs .1 .0) (κs .1 .1 .0) (qs .0) (qs .1 .0) (qs .1 .1 .0) (a .0) (a .1 .0) (a .1 .1 .0) (a .1 .1 .1 .0)
-      (a .1 .1 .1 .1 .0 .ptr .0) (a .1 .1 .1 .1 .0 .ptr .1) (a .1 .1 .1 .1 .0 .name) (a .1 .1 .1 .1 .0 .now)
-      (are .0) (are .1 .0) (are .1 .1 .0) (are .1 .1 .1 .0) (are .1 .1 .1 .1 .0 .0 .1) 𝓣 known-decide known-at))
+      (a .1 .1 .1 .1 .0) (a .1 .1 .1 .1 .1 .0 .ptr .0) (a .1 .1 .1 .1 .1 .0 .ptr .1) (a .1 .1 .1 .1 .1 .0 .name) (a .1 .1 .1 .1 .1 .0 .now)
+      (are .0) (are .1 .0) (are .1 .1 .0) (are .1 .1 .1 .0 .1) (are .1 .1 .1 .1 .0) (are .1 .1 .1 .1 .1 .0 .0 .1) 𝓣 known-decide known-at))
 
   read-out-meets : Meets 𝓤 H A read-out.signature (WpFn 𝓤 H (𝓣 .C) (𝓣 .Λ) code.function) (read-out.spec 𝓤 H A mem run)
   read-out-meets =
@@ -529,7 +552,10 @@ module _ {M : Type 1} (𝓤 : URA M) (H : Heap 𝓤) (A : Atoms 𝓤) (W : Given
           goes-dropped 𝓤 H A W 3 (plain (λ _. S.the-row)) yes (λ κs x f. refl),
           (
             goes-dropped 𝓤 H A W 3 (shrSliceOf (0 ∷ []) tt (plain (λ _. u64))) yes (λ κs x f. refl),
-            (goes-dropped 𝓤 H A W 3 (shrSliceOf (1 ∷ []) tt (plain (λ _. u8))) yes (λ κs x f. refl), (goes-slice 𝓤 H A W 3 2 tt (plain (λ _. R)), tt)),
+            (
+              goes-dropped 𝓤 H A W 3 (plain (λ _. u64)) yes (λ κs x f. refl),
+              (goes-dropped 𝓤 H A W 3 (shrSliceOf (1 ∷ []) tt (plain (λ _. u8))) yes (λ κs x f. refl), (goes-slice 𝓤 H A W 3 2 tt (plain (λ _. R)), tt)),
+            ),
           ),
         ),
       )

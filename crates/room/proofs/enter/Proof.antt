@@ -1,4 +1,4 @@
--- Six stores, in the order of the definition.
+-- Seven stores, in the order of the definition.
 -- Assumes nothing.
 use mathlib.Core.Path.{refl}
 use native.Mathlib.Omega.{arith}
@@ -13,14 +13,14 @@ mul-e c = omega arith
 add-e : tie.Need-add-e
 add-e c = omega arith
 
+add-w : tie.Need-add-w
+add-w c = omega arith
+
 mul-w : tie.Need-mul-w
 mul-w c = omega arith
 
 slice-write-w : tie.Need-slice-write-w
 slice-write-w c = omega arith
-
-add-w : tie.Need-add-w
-add-w c = omega arith
 
 mul-w-2 : tie.Need-mul-w-2
 mul-w-2 c = omega arith
@@ -64,6 +64,15 @@ mul-w-6 c = omega arith
 slice-write-w-6 : tie.Need-slice-write-w-6
 slice-write-w-6 c = simp length-set (omega arith)
 
+add-w-6 : tie.Need-add-w-6
+add-w-6 c = omega arith
+
+mul-w-7 : tie.Need-mul-w-7
+mul-w-7 c = omega arith
+
+slice-write-w-7 : tie.Need-slice-write-w-7
+slice-write-w-7 c = simp length-set (omega arith)
+
 same-length : tie.Need-same-length
 same-length c = simp length-set
 
@@ -77,9 +86,9 @@ enter-spec =
     (tie.spec
     mul-e
     add-e
+    add-w
     mul-w
     slice-write-w
-    add-w
     mul-w-2
     slice-write-w-2
     add-w-2
@@ -94,5 +103,8 @@ enter-spec =
     add-w-5
     mul-w-6
     slice-write-w-6
+    add-w-6
+    mul-w-7
+    slice-write-w-7
     same-length
     returns)

@@ -25,17 +25,17 @@ returns c =
     sym (has-other (a .w .now) (a .k) (a .s) (ap (λ (x : Key). sameKey x (a .k)) (sym (b .key-at .ensures)) ∙ sym (c .before .same-key .ensures) ∙ not-true _
     (c .if1 .taken)))
 
-use-of-requires : tie.Need-use-of-requires
-use-of-requires c κs = search needs
+holder-of-requires : tie.Need-holder-of-requires
+holder-of-requires c κs = search needs
 
 returns-2 : tie.Need-returns-2
 returns-2 c =
     let a = c .before .before .before .before .before .args in
     let b = c .before .before in
-    ap (λ (u : ℕ). not (eqb u 0)) (c .use-of .ensures) ∙
+    ap (λ (u : ℕ). not (eqb u 0)) (c .holder-of .ensures) ∙
     sym (has-same (a .w .now) (a .k) (a .s)
     (ap (λ (x : Key). sameKey x (a .k)) (sym (b .before .key-at .ensures)) ∙ sym (b .same-key .ensures) ∙ not-false _ (c .before .if1 .left)))
 
 pub holds-spec : {M : Type 1} → statement M
 holds-spec =
-    tie.close (tie.spec key-at-requires same-key-requires returns use-of-requires returns-2)
+    tie.close (tie.spec key-at-requires same-key-requires returns holder-of-requires returns-2)

@@ -1,4 +1,4 @@
--- The five words behind the use.
+-- Who holds it, and the five words behind the use.
 -- Assumes nothing.
 use mathlib.Core.Path.{refl}
 use native.Mathlib.Omega.{arith}
@@ -57,6 +57,15 @@ mul-t21 c = omega arith
 shared-slice-read-t23 : tie.Need-shared-slice-read-t23
 shared-slice-read-t23 c = omega arith
 
+add-t24 : tie.Need-add-t24
+add-t24 c = omega arith
+
+mul-t25 : tie.Need-mul-t25
+mul-t25 c = omega arith
+
+shared-slice-read-t27 : tie.Need-shared-slice-read-t27
+shared-slice-read-t27 c = omega arith
+
 returns : tie.Need-returns
 unfolding keyAt
 returns c = refl
@@ -82,4 +91,7 @@ key-at-spec =
     add-t20
     mul-t21
     shared-slice-read-t23
+    add-t24
+    mul-t25
+    shared-slice-read-t27
     returns)

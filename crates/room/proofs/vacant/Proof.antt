@@ -22,12 +22,12 @@ shared-slice-read-n c = omega arith
 loop-holds : tie.Need-loop-holds Inv-loop μ-loop
 loop-holds c = (omega arith, seek-start _ _)
 
-use-of-requires : tie.Need-use-of-requires Inv-loop μ-loop
-use-of-requires c κs = search needs
+holder-of-requires : tie.Need-holder-of-requires Inv-loop μ-loop
+holder-of-requires c κs = search needs
 
 returns : tie.Need-returns Inv-loop μ-loop
 returns c = let l = c .before .before .before in sym
-    (l .loop .inv .1 ∙ seek-here _ _ _ (c .before .before .loop-test .taken) (free-yes _ _ (sym (c .before .use-of .ensures) ∙ c .if1 .taken)))
+    (l .loop .inv .1 ∙ seek-here _ _ _ (c .before .before .loop-test .taken) (free-yes _ _ (sym (c .before .holder-of .ensures) ∙ c .if1 .taken)))
 
 add-spare : tie.Need-add-spare Inv-loop μ-loop
 add-spare c = omega arith
@@ -37,7 +37,7 @@ loop-less c = omega arith
 
 loop-again : tie.Need-loop-again Inv-loop μ-loop
 loop-again c = let l = c .before .before .before in
-    (omega arith, l .loop .inv .1 ∙ seek-on _ _ _ (c .before .before .loop-test .taken) (free-no _ _ (λ e. c .if1 .left (c .before .use-of .ensures ∙ e))))
+    (omega arith, l .loop .inv .1 ∙ seek-on _ _ _ (c .before .before .loop-test .taken) (free-no _ _ (λ e. c .if1 .left (c .before .holder-of .ensures ∙ e))))
 
 returns-2 : tie.Need-returns-2 Inv-loop μ-loop
 returns-2 c = sym (c .before .loop .inv .1 ∙ seek-end _ _ _ (c .loop-test .left))
@@ -50,7 +50,7 @@ vacant-spec =
     μ-loop
     shared-slice-read-n
     loop-holds
-    use-of-requires
+    holder-of-requires
     returns
     add-spare
     loop-less

@@ -1,12 +1,16 @@
 -- The line is that of the answer and of what the room then holds.
 -- Assumes nothing.
 use Rattle.gateway.specs.Gateway.{shot}
-use Rattle.desk_lines.specs.Lines.{perMinute}
+use Rattle.parties.specs.Parties.{sent}
+use Rattle.desk_lines.specs.Lines.{alone, perMinute}
 use Rattle.shots_step.specs.Shots.{shotOf}
 use Rattle.shots_step.specs.Laws.{line-told}
 use borrow.Author.Needs.{needs}
 use Rattle.shots_step.proofs.take.Statement.{statement}
 use Rattle.shots_step.proofs.take.Tie as tie
+
+alone-requires : tie.Need-alone-requires
+alone-requires c κs = search needs
 
 per-minute-requires : tie.Need-per-minute-requires
 per-minute-requires c κs = search needs
@@ -29,17 +33,20 @@ same-length-2 c = search needs
 returns : tie.Need-returns
 unfolding shotOf
 returns c =
-    let a = c .before .before .before .before .before .before .before .before .before .before .before .before .before .before .args in
-    let g = c .before .before .before .before .before .before .before .shot in
-    let told = rw (c .before .before .before .before .before .before .before .before .per-minute .ensures) at (g .ensures) in
-    line-told (a .t) (a .key .now) (shot (a .settings) (a .table .now) (a .room .now) (a .t) (a .key .now) (a .number) (perMinute (a .rate)) (a .draw))
-    (g .result) (g .last .1 .0) (g .last .1 .1 .0) (c .before .stored-of .result) (c .shot-line .result)
+    let g = c .before .before .before .before .before .before .before in
+    let one = g .before .before .before .before in
+    let a = one .before .before .before .before .before .args in
+    let key = sent (alone (a .room .now)) (a .key .now) in
+    let told = rw (one .alone .ensures, g .before .per-minute .ensures) at (g .shot .ensures) in
+    line-told (a .t) (a .key .now) (shot (a .settings) (a .table .now) (a .room .now) (a .t) key (a .number) (perMinute (a .rate)) (a .draw))
+    (g .shot .result) (g .shot .last .1 .0) (g .shot .last .1 .1 .0) (c .before .stored-of .result) (c .shot-line .result)
     told (c .before .stored-of .ensures) (c .shot-line .ensures)
 
 pub take-spec : {M : Type 1} → statement M
 take-spec =
     tie.close
     (tie.spec
+    alone-requires
     per-minute-requires
     shot-requires
     stored-of-requires

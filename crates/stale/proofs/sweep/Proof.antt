@@ -1,7 +1,7 @@
 -- After `at` turns the words are those with the first `at` slots swept.
 use Rattle.room.specs.Laws.{room-directory}
 use mathlib.Core.Path.{_≡_, refl, ap, _∙_}
-use Prim.Native.Nat.{_-_, _≤_}
+use Prim.Native.Nat.{_-_, _≤_, _<_}
 use lib.ListN.{length}
 use Rattle.room.specs.Room.{slotsOf}
 use Rattle.stale.specs.Uses.{swept}
@@ -33,8 +33,8 @@ use-next-requires c κs =
       s .pre .1,
     )
 
-set-use-requires : tie.Need-set-use-requires Inv-loop μ-loop
-set-use-requires c κs =
+settle-requires : tie.Need-settle-requires Inv-loop μ-loop
+settle-requires c κs =
     let l = c .before .before .before .before in
     let s = l .before .before .before in
     let r = swept-readable (s .args .w .now) (s .args .reading) (s .args .ticks) (s .args .stale) (l .loop .w) (l .loop .at) (l .loop .inv .1) (s .pre .0)
@@ -53,10 +53,12 @@ loop-again c =
     let n = u .before .before in
     let l = n .before .before .before in
     let a = l .before .before .before .args in
-    let t : l .loop .at ≤ slotsOf (a .w .now) = omega (arith, n .before .before .loop-test .taken) in (
+    let t : l .loop .at < slotsOf (a .w .now) = n .before .before .loop-test .taken in (
       omega arith,
-      swept-turn (a .w .now) (a .reading) (a .ticks) (a .stale) (l .loop .w) (u .set-use .last .0) (l .loop .at) (n .use-next .result) t (l .loop .inv .1)
-          (n .use-next .ensures) (u .set-use .ensures),
+      swept-turn (a .w .now) (a .reading) (a .ticks) (a .stale) (l .loop .w) (u .settle .last .0) (l .loop .at) (n .use-next .result) t
+          (l .before .before .before .pre .0 .room .few)
+          (l .loop .inv .1)
+          (n .use-next .ensures) (u .settle .ensures),
     )
 
 same-length : tie.Need-same-length Inv-loop μ-loop
@@ -81,7 +83,7 @@ sweep-spec =
     slice-read-n
     loop-holds
     use-next-requires
-    set-use-requires
+    settle-requires
     add-at
     loop-less
     loop-again

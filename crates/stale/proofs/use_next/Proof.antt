@@ -15,8 +15,8 @@ use Rattle.stale.proofs.use_next.Tie as tie
 shared-slice-read-r : tie.Need-shared-slice-read-r
 shared-slice-read-r c = search needs
 
-use-of-requires : tie.Need-use-of-requires
-use-of-requires c κs = search needs
+used-at-requires : tie.Need-used-at-requires
+used-at-requires c κs = search needs
 
 start-requires : tie.Need-start-requires
 start-requires c κs = search needs
@@ -51,7 +51,7 @@ use-after-requires c κs =
     let e = part-body w (k .start .result) i (k .start .ensures .at) in (
       record {
         long = omega (arith, part-length w (k .start .result) i (k .start .ensures .at) (s .pre .0 .room) (s .pre .0 .inside));
-        shape = λ p. subst (λ (b : List ℕ). Shape (ringOf w) b) (sym e) (s .pre .0 .shape (ap hasSeries (sym (k .before .use-of .ensures)) ∙ p));
+        shape = λ p. subst (λ (b : List ℕ). Shape (ringOf w) b) (sym e) (s .pre .0 .shape (ap hasSeries (sym (k .before .used-at .ensures)) ∙ p));
       },
       s .pre .1,
     )
@@ -62,7 +62,7 @@ returns c =
     let a = k .before .before .before .before .args in
     let w = a .w .now in
     c .use-after .ensures ∙
-    ap₂ (λ (u : ℕ) (b : List ℕ). useAfter (ringOf w) u b (a .reading) (a .ticks) (a .stale)) (k .before .use-of .ensures)
+    ap₂ (λ (u : ℕ) (b : List ℕ). useAfter (ringOf w) u b (a .reading) (a .ticks) (a .stale)) (k .before .used-at .ensures)
     (part-body w (k .start .result) (a .i) (k .start .ensures .at))
 
 pub use-next-spec : {M : Type 1} → statement M
@@ -70,7 +70,7 @@ use-next-spec =
     tie.close
     (tie.spec
     shared-slice-read-r
-    use-of-requires
+    used-at-requires
     start-requires
     mul-e
     add-e

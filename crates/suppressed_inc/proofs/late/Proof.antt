@@ -1,4 +1,4 @@
--- The ring's length and whether a slot is lacking are the room's.
+-- The ring's length is the room's; a slot is lacking where the key has none and none is left.
 -- Assumes nothing.
 use borrow.Author.Needs.{needs}
 use Rattle.suppressed_inc.proofs.late.Statement.{statement}

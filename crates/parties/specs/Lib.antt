@@ -1,0 +1,3 @@
+pub mod Parties
+pub mod Census
+pub mod Laws
