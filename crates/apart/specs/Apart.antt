@@ -23,7 +23,8 @@ use Rattle.room.specs.Room.{slotsOf, ringOf, lastOf, holderOf, fits, empty}
 use Rattle.frame.specs.Keys.{Bytes}
 use Rattle.frame.specs.Whole.{empty-free, empty-word}
 use Rattle.parties.specs.declared.Caller.{Caller}
-use Rattle.parties.specs.Parties.{markOf, isParty, many, slotsHeld}
+use Rattle.parties.specs.Parties.{Sent, markOf, isParty, many, slotsHeld}
+use Rattle.judge.specs.Held.{heldIn}
 use Rattle.stale.specs.Uses as Uses
 use Rattle.cleanup.specs.Cleanup as Cleanup
 use Rattle.provider.specs.Provider as Provider
@@ -33,7 +34,7 @@ use Rattle.steps.specs.History.{Sane, empty-sane}
 use Rattle.apart.specs.One.{keyIn}
 use Rattle.apart.specs.Step.{sane-after, last-after}
 use Rattle.apart.specs.Promised.{callerIn, Gives, Kept, kept-after}
-use Rattle.apart.specs.Like.{Like, Fine, Alike, mine, number-like, same-row, like-after, like-beside}
+use Rattle.apart.specs.Like.{Like, Fine, Alike, mine, held-like, number-like, same-row, like-after, like-beside}
 
 -- ---- histories, newest first
 
@@ -239,6 +240,26 @@ apart k s p a b slots ring l y e cs ds by by′ u r r′ g g′ q =
     let one = told-by k s p w cs ∙ beside-own k s p a b w y u cs f by r g .alone in
     let other = told-by k s p w ds ∙ beside-own k s p a b w y u ds f by′ r′ g′ .alone in
     one ∙ same-words k s w (picked p cs) (picked p ds) q .0 ∙ sym other
+
+-- ---- and what its keys hold then is the same: whatever is told of them alone, as by the read-out, is
+
+pub held-apart : (k : RoomKind) (s : Settings) (p a b slots ring l : ℕ) → isParty p ≡ true → fits slots ring l ≡ true →
+    (cs ds : List (Call k)) → AllBytes cs → AllBytes ds → (u : ℕ) → Rising u cs → Rising u ds → AllGive a b cs → AllGive a b ds →
+    SameCalls k s (picked p cs) (picked p ds) → (key : Sent) → key .caller .party ≡ p →
+    heldIn (words k s (empty slots ring) cs) key ≡ heldIn (words k s (empty slots ring) ds) key
+held-apart k s p a b slots ring l y e cs ds by by′ u r r′ g g′ q key m =
+    let w = empty slots ring in
+    let f = empty-fine k s slots ring l a b e in
+    let one = beside-own k s p a b w y u cs f by r g .alike in
+    let other = beside-own k s p a b w y u ds f by′ r′ g′ .alike in
+    held-like k s u p a b (words k s w cs) (words k s w (picked p cs)) one key m ∙
+    ap (λ (v : List ℕ). heldIn v key) (same-words k s w (picked p cs) (picked p ds) q .1) ∙
+    sym (held-like k s u p a b (words k s w ds) (words k s w (picked p ds)) other key m)
+
+pub sane-apart : (k : RoomKind) (s : Settings) (p a b slots ring l : ℕ) → isParty p ≡ true → fits slots ring l ≡ true →
+    (cs : List (Call k)) → AllBytes cs → (u : ℕ) → Rising u cs → AllGive a b cs → Sane k s (words k s (empty slots ring) cs)
+sane-apart k s p a b slots ring l y e cs by u r g =
+    beside-own k s p a b (empty slots ring) y u cs (empty-fine k s slots ring l a b e) by r g .alike .one .sane
 
 -- ---- the provider's cleanup: a room that calls with the same promises have made turns it away with the same number, whatever the parties did there
 

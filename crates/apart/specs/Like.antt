@@ -158,7 +158,7 @@ module _ (k : RoomKind) (s : Settings) (t p a b : ℕ) (w v : List ℕ) (x : Ali
 
   -- ---- what its own keys hold
 
-  held-like : (key : Sent) → key .caller .party ≡ p → heldIn w key ≡ heldIn v key
+  pub held-like : (key : Sent) → key .caller .party ≡ p → heldIn w key ≡ heldIn v key
   held-like key e = go (decLt 32 (length (key .bytes)))
     where
       go : Dec (32 < length (key .bytes)) → heldIn w key ≡ heldIn v key

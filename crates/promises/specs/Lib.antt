@@ -7,3 +7,4 @@ pub mod Rules
 pub mod Cases
 pub mod Boundary
 pub mod Sound
+pub mod Apart
