@@ -2,7 +2,7 @@
 -- (`alone-answer`). The tables below are those of document 01: 5 judges lengths and the slot addressed alone, there are no 15 and 16, and 11 is given where
 -- no slot is free.
 -- Assumes nothing.
-use mathlib.Core.Path.{_≡_, refl, sym, ap, ap₂, subst, _∙_}
+use mathlib.Core.Path.{_≡_, refl, sym, ap, _∙_}
 use mathlib.Core.Bool.{Bool, true, false, not, _&&_, _||_, cond}
 use mathlib.Core.List.{List, [], _∷_, _++_}
 use mathlib.Core.Logic.{_≢_}
@@ -11,10 +11,8 @@ use native.Mathlib.Decide.{ℕ-discrete, decLt}
 use native.Mathlib.Omega.{arith}
 use lib.Dec.{eqb, ltb, leb}
 use lib.ListN.{length}
-use borrow.Author.Tests.{eq-eqb, ne-eqb, le-ltb, le-leb, lt-leb, leb-true, leb-false}
+use borrow.Author.Tests.{ne-eqb, le-ltb, le-leb, lt-leb}
 use Rattle.common.specs.Refusals.{first}
-use Rattle.common.specs.declared.comparator.RateLimitComparator.{RateLimitComparator}
-use Rattle.common.specs.declared.units.RateLimit.{RateLimit}
 use Rattle.answers.specs.Rows.{refusedRow}
 use Rattle.settings.specs.Settings.{faults}
 use Rattle.settings.specs.declared.Settings.{Settings}

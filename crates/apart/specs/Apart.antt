@@ -2,28 +2,27 @@
 -- total or a refusal 11. This compares histories with the same cleanups, and the shared rising clock is still assumed." Said of the answers given (`Apart`,
 -- `apart`), of histories of any length, on any keys, refused calls too.
 -- Assumes nothing.
-use mathlib.Core.Path.{_≡_, refl, sym, ap, ap₂, subst, _∙_}
+use mathlib.Core.Path.{_≡_, refl, sym, ap, ap₂, _∙_}
 use mathlib.Core.Bool.{Bool, true, false, cond}
 use mathlib.Core.List.{List, [], _∷_}
 use mathlib.Core.Logic.{_≢_}
-use Prim.Native.Nat.{ℕ, zero, suc, _≤_, _<_}
+use Prim.Native.Nat.{ℕ, zero, suc, _≤_}
 use native.Mathlib.Omega.{arith}
 use lib.Dec.{eqb}
 use borrow.Author.Tests.{ne-eqb}
 use Rattle.common.specs.Refusals.{first}
 use Rattle.answers.specs.Rows.{doneRow}
 use Rattle.answers.specs.declared.DoneAnswer.the-variants as done
-use Rattle.settings.specs.Settings.{faults}
 use Rattle.settings.specs.Clock.{ticksIn}
 use Rattle.settings.specs.declared.Settings.{Settings}
 use Rattle.layout.specs.Layout.{firstMark, secondMark}
 use Rattle.rules.specs.declared.RoomKind.{RoomKind}
 use Rattle.rules.specs.declared.RoomKind.the-variants as kind
-use Rattle.room.specs.Room.{slotsOf, ringOf, lastOf, holderOf, fits, empty}
+use Rattle.room.specs.Room.{slotsOf, holderOf, fits, empty}
 use Rattle.frame.specs.Keys.{Bytes}
 use Rattle.frame.specs.Whole.{empty-free, empty-word}
 use Rattle.parties.specs.declared.Caller.{Caller}
-use Rattle.parties.specs.Parties.{Sent, markOf, isParty, many, slotsHeld}
+use Rattle.parties.specs.Parties.{Sent, isParty, many, slotsHeld}
 use Rattle.judge.specs.Held.{heldIn}
 use Rattle.stale.specs.Uses as Uses
 use Rattle.cleanup.specs.Cleanup as Cleanup
@@ -33,8 +32,8 @@ use Rattle.steps.specs.Ops.{Op, Call, Answer, cleanup, cleanupBoth, rowOf, verd
 use Rattle.steps.specs.History.{Sane, empty-sane}
 use Rattle.apart.specs.One.{keyIn}
 use Rattle.apart.specs.Step.{sane-after, last-after}
-use Rattle.apart.specs.Promised.{callerIn, Gives, Kept, kept-after}
-use Rattle.apart.specs.Like.{Like, Fine, Alike, mine, held-like, number-like, same-row, like-after, like-beside}
+use Rattle.apart.specs.Promised.{Gives, kept-after}
+use Rattle.apart.specs.Like.{Fine, Alike, mine, held-like, number-like, same-row, like-after, like-beside}
 
 -- ---- histories, newest first
 

@@ -1,13 +1,13 @@
 -- Each call with a key leaves of its key what the limiter of one key says (`left-is`), where it is not turned away.
 -- Assumes nothing.
 use mathlib.Core.Path.{_≡_, refl, sym, ap, ap₂, subst, _∙_}
-use mathlib.Core.Bool.{Bool, true, false, cond, not, _&&_, _||_, false≢true}
+use mathlib.Core.Bool.{Bool, true, false, cond, _&&_, _||_, false≢true}
 use mathlib.Core.List.{List, [], _∷_}
 use mathlib.Core.Logic.{_≢_}
-use Prim.Native.Nat.{ℕ, _≤_, _<_}
+use Prim.Native.Nat.{ℕ}
 use native.Mathlib.Omega.{arith}
 use lib.Dec.{eqb}
-use borrow.Author.Tests.{eqb-true, ne-eqb}
+use borrow.Author.Tests.{eqb-true}
 use Rattle.base.specs.Decides.{and-true}
 use Rattle.common.specs.Refusals.{first}
 use Rattle.common.specs.declared.comparator.RateLimitComparator.{RateLimitComparator}
@@ -32,13 +32,13 @@ use Rattle.keys.specs.declared.Key.{Key}
 use Rattle.room.specs.Room.{ringOf, holderOf, useOf, keyAt, withReading}
 use Rattle.frame.specs.Keys.{Bytes}
 use Rattle.frame.specs.Distinct.{Distinct}
-use Rattle.parties.specs.Parties.{Sent, keyFor, noneLeft}
+use Rattle.parties.specs.Parties.{Sent, keyFor}
 use Rattle.opened.specs.declared.Slot.{Slot}
 use Rattle.opened.specs.Slot.{hasSlot}
 use Rattle.opened.specs.Sound.{hasSeries, hasCached, rightUse}
 use Rattle.factor_opened.specs.Opened.{staysAt}
 use Rattle.judge.specs.Held.{heldBy, heldIn}
-use Rattle.judge.specs.Judge.{early, refusals, Passed, slotIn, lookedIn}
+use Rattle.judge.specs.Judge.{Passed, slotIn, lookedIn}
 use Rattle.judge.specs.Laws.{passed}
 use Rattle.plan.specs.Plan.{placeOf}
 use Rattle.plan.specs.Seen.{Seen, seen, has-is}
@@ -386,6 +386,6 @@ left-is k s w t o (getFactor key) n by d e = factor-left s w t key by d e
 left-is k s w t o (setRate key rate) n by d e = rate-left k s w t key o rate d e
 left-is k s w t o (set key rate comparator count mode) n by d e = set-left k s w t key o rate comparator count mode by d e
 left-is k s w t o (delete key) n by d e = delete-left k s w t key o e
-left-is k s w t o (cleanup who stale) n by d e = absurd n
-left-is k s w t o (cleanupBoth who other whose stale) n by d e = absurd n
-left-is k s w t o (clear who) n by d e = absurd n
+left-is k s w t o (cleanup who stale) n by d e = absurd (false≢true n)
+left-is k s w t o (cleanupBoth who other whose stale) n by d e = absurd (false≢true n)
+left-is k s w t o (clear who) n by d e = absurd (false≢true n)

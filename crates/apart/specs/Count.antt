@@ -1,6 +1,6 @@
 -- Two rooms in which the same keys of a party have a slot: the party holds as many slots in the one as in the other.
 -- Assumes nothing.
-use mathlib.Core.Path.{_≡_, refl, sym, ap, subst, _∙_}
+use mathlib.Core.Path.{_≡_, refl, sym, ap, _∙_}
 use mathlib.Core.Bool.{Bool, true, false, not, _&&_, _||_, cond, false≢true, true≢false}
 use mathlib.Core.List.{List}
 use mathlib.Core.Logic.{_≢_}
@@ -11,27 +11,26 @@ use lib.Dec.{eqb}
 use borrow.Author.Tests.{eq-eqb, ne-eqb, eqb-true}
 use Rattle.base.specs.Decides.{and-true}
 use Rattle.settings.specs.declared.Settings.{Settings}
-use Rattle.rules.specs.Held.{Held, nothing, hasAny}
+use Rattle.rules.specs.Held.{hasAny}
 use Rattle.rules.specs.declared.RoomKind.{RoomKind}
 use Rattle.rules.specs.declared.RoomKind.the-variants as kind
 use Rattle.keys.specs.declared.Key.{Key}
 use Rattle.room.specs.Room.{slotsOf, holderOf, useOf, keyAt, find}
-use Rattle.frame.specs.Distinct.{Distinct, find-held, find-key, find-where}
+use Rattle.frame.specs.Distinct.{find-key, find-where}
 use Rattle.frame.specs.Frame.{key-holder}
 use Rattle.parties.specs.Parties.{many, slotsHeld}
 use Rattle.opened.specs.Sound.{hasSeries, hasCached, rightUse}
 use Rattle.cleanup.specs.Laws.{sound-parts}
-use Rattle.places.specs.SoundRoom.{SoundRoom}
 use Rattle.steps.specs.History.{Sane}
-use Rattle.apart.specs.Holds.{heldAt, heldFor, for-here, for-at, for-none}
+use Rattle.apart.specs.Holds.{heldFor, for-at, for-none}
 
 -- ---- counting
 
 -- without j
-abbrev pub without : (ℕ → Bool) → ℕ → ℕ → Bool
+abbrev without : (ℕ → Bool) → ℕ → ℕ → Bool
 without q j i = q i && not (eqb i j)
 
-pub many-least : (q : ℕ → Bool) (m j : ℕ) → m ≤ j → many (without q j) m ≡ many q m
+many-least : (q : ℕ → Bool) (m j : ℕ) → m ≤ j → many (without q j) m ≡ many q m
 unfolding many
 many-least q zero j h = refl
 many-least q (suc m) j h =
@@ -44,7 +43,7 @@ many-least q (suc m) j h =
     go false r e = rw r
 
 -- j is one of them
-pub many-less : (q : ℕ → Bool) (m j : ℕ) → j < m → q j ≡ true → many q m ≡ suc (many (without q j) m)
+many-less : (q : ℕ → Bool) (m j : ℕ) → j < m → q j ≡ true → many q m ≡ suc (many (without q j) m)
 unfolding many
 many-less q zero j h e = absurd (omega arith)
 many-less q (suc m) j h e = go (ℕ-discrete j m) (many-less q m j)
@@ -73,7 +72,7 @@ Into p n m f q = (i : ℕ) → i < n → p i ≡ true → (f i < m) × (q (f i) 
 abbrev Once : (ℕ → Bool) → ℕ → (ℕ → ℕ) → Type 0
 Once p n f = (i j : ℕ) → i < n → j < n → p i ≡ true → p j ≡ true → f i ≡ f j → i ≡ j
 
-pub many-into : (p q : ℕ → Bool) (n m : ℕ) (f : ℕ → ℕ) → Into p n m f q → Once p n f → many p n ≤ many q m
+many-into : (p q : ℕ → Bool) (n m : ℕ) (f : ℕ → ℕ) → Into p n m f q → Once p n f → many p n ≤ many q m
 unfolding many
 many-into p q zero m f a b = omega arith
 many-into p q (suc n) m f a b = go (p n) refl (many-into p (without q (f n)) n m f) (many-into p q n m f)
@@ -124,26 +123,49 @@ any-slot w k e = go (decLt (find w k) (slotsOf w))
 
 -- ---- as many
 
--- each of the party's keys that has something in w has something in v
-pub held-into : {k : RoomKind} {s : Settings} {w v : List ℕ} (m : ℕ) → m ≢ 0 → Sane k s w → Sane k s v →
-    ((j : Key) → j .holder ≡ m → hasAny (heldFor w j) ≡ true → hasAny (heldFor v j) ≡ true) → slotsHeld w m ≤ slotsHeld v m
+-- of some of the party's slots, whose keys have something in v
+pub held-among : {k : RoomKind} {s : Settings} {w : List ℕ} (v : List ℕ) (m : ℕ) → m ≢ 0 → Sane k s w → (p : ℕ → Bool) → ((i : ℕ) → p i ≡ true → holderOf w i ≡ m) →
+    ((i : ℕ) → i < slotsOf w → p i ≡ true → hasAny (heldFor v (keyAt w i)) ≡ true) → many p (slotsOf w) ≤ slotsHeld v m
 unfolding slotsHeld
-held-into {k} {s} {w} {v} m z o c f =
-    many-into (λ i. eqb (holderOf w i) m) (λ i. eqb (holderOf v i) m) (slotsOf w) (slotsOf v) (λ i. find v (keyAt w i))
+held-among {k} {s} {w} v m z o p mine there =
+    many-into p (λ i. eqb (holderOf v i) m) (slotsOf w) (slotsOf v) (λ i. find v (keyAt w i))
     (λ i h e.
-    let q = there i h e in
-    let l = any-slot v (keyAt w i) q in
-    (l, eq-eqb _ m (sym (key-holder v (find v (keyAt w i))) ∙ ap (λ (j : Key). j .holder) (find-key v (keyAt w i) l) ∙ mine i e)))
+    let l = any-slot v (keyAt w i) (there i h e) in
+    (l, eq-eqb _ m (sym (key-holder v (find v (keyAt w i))) ∙ ap (λ (j : Key). j .holder) (find-key v (keyAt w i) l) ∙ key-holder w i ∙ mine i e)))
     (λ i j h g e d q.
     let li = any-slot v (keyAt w i) (there i h e) in
     let lj = any-slot v (keyAt w j) (there j g d) in
     o .distinct .once i j h g (used i e) (used j d) (sym (find-key v (keyAt w i) li) ∙ ap (keyAt v) q ∙ find-key v (keyAt w j) lj))
   where
-    mine : (i : ℕ) → eqb (holderOf w i) m ≡ true → keyAt w i .holder ≡ m
-    mine i e = key-holder w i ∙ eqb-true (holderOf w i) m e
+    used : (i : ℕ) → p i ≡ true → holderOf w i ≢ 0
+    used i e y = z (sym (mine i e) ∙ y)
 
-    used : (i : ℕ) → eqb (holderOf w i) m ≡ true → holderOf w i ≢ 0
-    used i e y = z (sym (eqb-true (holderOf w i) m e) ∙ y)
+-- each of the party's keys that has something in w has something in v
+pub held-into : {k : RoomKind} {s : Settings} {w : List ℕ} (v : List ℕ) (m : ℕ) → m ≢ 0 → Sane k s w →
+    ((j : Key) → j .holder ≡ m → hasAny (heldFor w j) ≡ true → hasAny (heldFor v j) ≡ true) → slotsHeld w m ≤ slotsHeld v m
+unfolding slotsHeld
+held-into {k} {s} {w} v m z o f =
+    held-among v m z o (λ i. eqb (holderOf w i) m) (λ i e. eqb-true (holderOf w i) m e)
+    (λ i h e.
+    let n = eqb-true (holderOf w i) m e in
+    f (keyAt w i) (key-holder w i ∙ n) (slot-any o i h (λ y. z (sym n ∙ y))))
 
-    there : (i : ℕ) → i < slotsOf w → eqb (holderOf w i) m ≡ true → hasAny (heldFor v (keyAt w i)) ≡ true
-    there i h e = f (keyAt w i) (mine i e) (slot-any o i h (used i e))
+-- and each but one: its slots in w come to one more at most
+pub held-but : {k : RoomKind} {s : Settings} {w : List ℕ} (v : List ℕ) (m : ℕ) → m ≢ 0 → Sane k s w → (key : Key) → find w key < slotsOf w → key .holder ≡ m →
+    ((j : Key) → j .holder ≡ m → key ≢ j → hasAny (heldFor w j) ≡ true → hasAny (heldFor v j) ≡ true) → slotsHeld w m ≤ suc (slotsHeld v m)
+unfolding slotsHeld
+held-but {k} {s} {w} v m z o key l n f =
+    let own = eq-eqb (holderOf w (find w key)) m (sym (key-holder w (find w key)) ∙ ap (λ (j : Key). j .holder) (find-key w key l) ∙ n) in
+    let a = many-less (λ i. eqb (holderOf w i) m) (slotsOf w) (find w key) l own in
+    let b = held-among v m z o (without (λ i. eqb (holderOf w i) m) (find w key)) (λ i e. parts i e .0)
+    (λ i h e.
+    let q = parts i e in
+    let used : holderOf w i ≢ 0 = λ y. z (sym (q .0) ∙ y) in
+    f (keyAt w i) (key-holder w i ∙ q .0) (λ r. q .1 (sym (find-where w (keyAt w i) i (o .distinct) h used refl) ∙ ap (find w) (sym r)))
+    (slot-any o i h used)) in
+    omega (arith, a, b)
+  where
+    parts : (i : ℕ) → without (λ j. eqb (holderOf w j) m) (find w key) i ≡ true → (holderOf w i ≡ m) × (i ≢ find w key)
+    parts i e =
+        let p = and-true (eqb (holderOf w i) m) (not (eqb i (find w key))) e in
+        (eqb-true _ _ (p .0), λ q. false≢true (ap not (sym (eq-eqb i (find w key) q)) ∙ p .1))

@@ -1,8 +1,8 @@
 -- What a key holds in a room, by its packed key: whichever slot it stands in. What becomes of it where its slot is changed, where it is freed, and where
 -- another slot is.
 -- Assumes nothing.
-use mathlib.Core.Path.{_≡_, refl, sym, ap, ap₂, _∙_}
-use mathlib.Core.Bool.{Bool, true, false, cond}
+use mathlib.Core.Path.{_≡_, refl, sym, ap, _∙_}
+use mathlib.Core.Bool.{Bool, cond}
 use mathlib.Core.List.{List}
 use mathlib.Core.Logic.{_≢_}
 use Prim.Native.Nat.{ℕ, _≤_, _<_}
@@ -10,10 +10,9 @@ use native.Mathlib.Decide.{ℕ-discrete, decLt}
 use native.Mathlib.Omega.{arith}
 use lib.Dec.{ltb}
 use lib.ListN.{length}
-use borrow.Author.Tests.{lt-ltb, le-ltb, ltb-true, ltb-false}
+use borrow.Author.Tests.{lt-ltb, le-ltb}
 use Rattle.settings.specs.declared.Settings.{Settings}
 use Rattle.ring.specs.declared.Bucket.{Bucket}
-use Rattle.ring.specs.Ring.{buckets}
 use Rattle.rules.specs.Held.{Held, nothing}
 use Rattle.rules.specs.declared.RoomKind.{RoomKind}
 use Rattle.keys.specs.declared.Key.{Key}
@@ -21,7 +20,7 @@ use Rattle.room.specs.Room.{Room, slotsOf, ringOf, holderOf, useOf, keyAt, find
 use Rattle.frame.specs.Distinct.{Distinct, changed-holder, find-held, find-key, find-where, find-still}
 use Rattle.frame.specs.Frame.{Changed, other-holder, other-key, read-run}
 use Rattle.parties.specs.Parties.{Sent, keyFor}
-use Rattle.opened.specs.Sound.{limitOf, factorOf, factorTimeOf, hasSeries, hasCached, addressed}
+use Rattle.opened.specs.Sound.{hasSeries, hasCached, addressed}
 use Rattle.judge.specs.Held.{heldBy, heldOf, heldIn, held-here, held-none}
 use Rattle.leaves.specs.Calls.{Stands}
 use Rattle.places.specs.Has.{Untouched}

@@ -10,7 +10,7 @@ use native.Mathlib.Decide.{ℕ-discrete, decLt}
 use native.Mathlib.Omega.{arith}
 use lib.Dec.{eqb, ltb, leb}
 use lib.ListN.{length}
-use borrow.Author.Tests.{eq-eqb, ne-eqb, eqb-true, le-ltb}
+use borrow.Author.Tests.{eq-eqb, eqb-true, le-ltb}
 use Rattle.base.specs.Decides.{true-and}
 use Rattle.base.specs.Every.{every}
 use Rattle.common.specs.Refusals.{first}
@@ -20,7 +20,7 @@ use Rattle.settings.specs.declared.Settings.{Settings}
 use Rattle.layout.specs.Layout.{nobody, firstMark, secondMark}
 use Rattle.keys.specs.declared.Key.{Key}
 use Rattle.keys.specs.Keys.{sameKey}
-use Rattle.rules.specs.Held.{Held, nothing}
+use Rattle.rules.specs.Held.{Held}
 use Rattle.rules.specs.Absolute as absolute
 use Rattle.rules.specs.Suppressed as suppressed
 use Rattle.rules.specs.Sets as sets
@@ -31,7 +31,7 @@ use Rattle.room.specs.Laws.{room-sized}
 use Rattle.frame.specs.Keys.{Bytes}
 use Rattle.frame.specs.Distinct.{same-key, key-same}
 use Rattle.parties.specs.declared.Caller.{Caller}
-use Rattle.parties.specs.Parties.{Sent, keyFor, markOf, isParty, ours, slotsHeld, promised, holding, overdrawn, noneLeft, turns}
+use Rattle.parties.specs.Parties.{Sent, keyFor, markOf, isParty, ours, slotsHeld, promised, overdrawn, noneLeft, turns}
 use Rattle.judge.specs.Held.{heldIn}
 use Rattle.judge.specs.Judge.{misfits}
 use Rattle.clearing.specs.Clear as Clear
@@ -47,7 +47,7 @@ use Rattle.apart.specs.Count.{held-into}
 use Rattle.apart.specs.One.{leftBy, cleanedTo, keyIn, Named}
 use Rattle.apart.specs.Step.{slots-after, ring-after, own-held, other-held, turned-held, cleaned-held, cleared-held, uncleared-held, both-held}
 use Rattle.apart.specs.Told.{rowFor, told-row}
-use Rattle.apart.specs.Promised.{callerIn, Gives, Kept, holding-is, party-or}
+use Rattle.apart.specs.Promised.{Gives, Kept, holding-is, party-or}
 
 -- the keys with mark m hold the same
 pub record Like (m : ℕ) (w v : List ℕ) : Type 0 where
@@ -169,8 +169,8 @@ module _ (k : RoomKind) (s : Settings) (t p a b : ℕ) (w v : List ℕ) (x : Ali
   count-like : slotsHeld w (markOf p) ≡ slotsHeld v (markOf p)
   count-like =
       let z = mark-some p (x .party) in
-      let c = held-into (markOf p) z (x .one .sane) (x .other .sane) (λ j h q. ap (λ (y : Held). y .known || y .cached) (sym (x .like .held j h)) ∙ q) in
-      let d = held-into (markOf p) z (x .other .sane) (x .one .sane) (λ j h q. ap (λ (y : Held). y .known || y .cached) (x .like .held j h) ∙ q) in
+      let c = held-into v (markOf p) z (x .one .sane) (λ j h q. ap (λ (y : Held). y .known || y .cached) (sym (x .like .held j h)) ∙ q) in
+      let d = held-into w (markOf p) z (x .other .sane) (λ j h q. ap (λ (y : Held). y .known || y .cached) (x .like .held j h) ∙ q) in
       omega (arith, c, d)
 
   none-like : (c : Caller) → c .party ≡ p → noneLeft w c ≡ noneLeft v c
@@ -298,21 +298,21 @@ module _ (k : RoomKind) (s : Settings) (t p a b : ℕ) (w v : List ℕ) (x : Ali
 done-like : (k : RoomKind) (s : Settings) (t p a b : ℕ) (w v : List ℕ) → Alike k s t p a b w v → (op : Op k) → Bytes (keyIn op .bytes) → mine p op ≡ true →
     first (tableOf k s w t op) ≡ 0 → first (tableOf k s v t op) ≡ 0 → (j : Key) → j .holder ≡ markOf p → heldFor (after k s w t op) j ≡
     heldFor (after k s v t op) j
-done-like k s t p a b w v x (inc key rate c) by q e f j h = named-like kind.Absolute s t p a b w v x (inc key rate c) tt by
+done-like k s t p a b w v x (inc key rate c) by q e f j h = named-like kind.Absolute s t p a b w v x (inc key rate c) refl by
     (eqb-true (key .caller .party) p q) e f j h
-done-like k s t p a b w v x (isAllowed key) by q e f j h = named-like kind.Absolute s t p a b w v x (isAllowed key) tt by (eqb-true (key .caller .party) p q)
+done-like k s t p a b w v x (isAllowed key) by q e f j h = named-like kind.Absolute s t p a b w v x (isAllowed key) refl by (eqb-true (key .caller .party) p q)
     e f j h
-done-like k s t p a b w v x (get key) by q e f j h = named-like kind.Absolute s t p a b w v x (get key) tt by (eqb-true (key .caller .party) p q) e f j h
-done-like k s t p a b w v x (draws key rate c draw) by q e f j h = named-like kind.Suppressed s t p a b w v x (draws key rate c draw) tt by
+done-like k s t p a b w v x (get key) by q e f j h = named-like kind.Absolute s t p a b w v x (get key) refl by (eqb-true (key .caller .party) p q) e f j h
+done-like k s t p a b w v x (draws key rate c draw) by q e f j h = named-like kind.Suppressed s t p a b w v x (draws key rate c draw) refl by
     (eqb-true (key .caller .party) p q) e f j h
-done-like k s t p a b w v x (snapshot key) by q e f j h = named-like kind.Suppressed s t p a b w v x (snapshot key) tt by (eqb-true (key .caller .party) p q)
+done-like k s t p a b w v x (snapshot key) by q e f j h = named-like kind.Suppressed s t p a b w v x (snapshot key) refl by (eqb-true (key .caller .party) p q)
     e f j h
-done-like k s t p a b w v x (getFactor key) by q e f j h = named-like kind.Suppressed s t p a b w v x (getFactor key) tt by
+done-like k s t p a b w v x (getFactor key) by q e f j h = named-like kind.Suppressed s t p a b w v x (getFactor key) refl by
     (eqb-true (key .caller .party) p q) e f j h
-done-like k s t p a b w v x (setRate key rate) by q e f j h = named-like k s t p a b w v x (setRate key rate) tt by (eqb-true (key .caller .party) p q) e f j h
-done-like k s t p a b w v x (set key rate comparator count mode) by q e f j h = named-like k s t p a b w v x (set key rate comparator count mode) tt by
+done-like k s t p a b w v x (setRate key rate) by q e f j h = named-like k s t p a b w v x (setRate key rate) refl by (eqb-true (key .caller .party) p q) e f j h
+done-like k s t p a b w v x (set key rate comparator count mode) by q e f j h = named-like k s t p a b w v x (set key rate comparator count mode) refl by
     (eqb-true (key .caller .party) p q) e f j h
-done-like k s t p a b w v x (delete key) by q e f j h = named-like k s t p a b w v x (delete key) tt by (eqb-true (key .caller .party) p q) e f j h
+done-like k s t p a b w v x (delete key) by q e f j h = named-like k s t p a b w v x (delete key) refl by (eqb-true (key .caller .party) p q) e f j h
 done-like k s t p a b w v x (cleanup who stale) by q e f j h =
     cleaned-held k s w t (x .one .sane) who stale e j ∙ ap (cleanedTo s t stale) (x .like .held j h) ∙ sym (cleaned-held k s v t (x .other .sane) who stale f j)
 done-like k s t p a b w v x (cleanupBoth who other whose stale) by q e f j h =
@@ -347,15 +347,15 @@ other-named k s w t p o y op n by q j h =
 
 pub held-beside : (k : RoomKind) (s : Settings) (w : List ℕ) (t p : ℕ) → Sane k s w → isParty p ≡ true → (op : Op k) → Bytes (keyIn op .bytes) →
     mine p op ≡ false → (j : Key) → j .holder ≡ markOf p → heldFor (after k s w t op) j ≡ heldFor w j
-held-beside k s w t p o y (inc key rate c) by q j h = other-named kind.Absolute s w t p o y (inc key rate c) tt by q j h
-held-beside k s w t p o y (isAllowed key) by q j h = other-named kind.Absolute s w t p o y (isAllowed key) tt by q j h
-held-beside k s w t p o y (get key) by q j h = other-named kind.Absolute s w t p o y (get key) tt by q j h
-held-beside k s w t p o y (draws key rate c draw) by q j h = other-named kind.Suppressed s w t p o y (draws key rate c draw) tt by q j h
-held-beside k s w t p o y (snapshot key) by q j h = other-named kind.Suppressed s w t p o y (snapshot key) tt by q j h
-held-beside k s w t p o y (getFactor key) by q j h = other-named kind.Suppressed s w t p o y (getFactor key) tt by q j h
-held-beside k s w t p o y (setRate key rate) by q j h = other-named k s w t p o y (setRate key rate) tt by q j h
-held-beside k s w t p o y (set key rate comparator count mode) by q j h = other-named k s w t p o y (set key rate comparator count mode) tt by q j h
-held-beside k s w t p o y (delete key) by q j h = other-named k s w t p o y (delete key) tt by q j h
+held-beside k s w t p o y (inc key rate c) by q j h = other-named kind.Absolute s w t p o y (inc key rate c) refl by q j h
+held-beside k s w t p o y (isAllowed key) by q j h = other-named kind.Absolute s w t p o y (isAllowed key) refl by q j h
+held-beside k s w t p o y (get key) by q j h = other-named kind.Absolute s w t p o y (get key) refl by q j h
+held-beside k s w t p o y (draws key rate c draw) by q j h = other-named kind.Suppressed s w t p o y (draws key rate c draw) refl by q j h
+held-beside k s w t p o y (snapshot key) by q j h = other-named kind.Suppressed s w t p o y (snapshot key) refl by q j h
+held-beside k s w t p o y (getFactor key) by q j h = other-named kind.Suppressed s w t p o y (getFactor key) refl by q j h
+held-beside k s w t p o y (setRate key rate) by q j h = other-named k s w t p o y (setRate key rate) refl by q j h
+held-beside k s w t p o y (set key rate comparator count mode) by q j h = other-named k s w t p o y (set key rate comparator count mode) refl by q j h
+held-beside k s w t p o y (delete key) by q j h = other-named k s w t p o y (delete key) refl by q j h
 held-beside k s w t p o y (cleanup who stale) by q j h = absurd (false≢true (sym q))
 held-beside k s w t p o y (cleanupBoth who other whose stale) by q j h = absurd (false≢true (sym q))
 held-beside k s w t p o y (clear who) by q j h = uncleared-held k s w t o who j (λ r. mark-other p (who .party) y q (sym r ∙ h))

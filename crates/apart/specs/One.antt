@@ -1,7 +1,8 @@
 -- A limiter of one key: what a call that is not turned away leaves of what its key holds, told of that alone. h is what the key held, r the ring, t the
 -- reading.
 -- Assumes nothing.
-use mathlib.Core.Bool.{Bool, true, false, cond, _&&_}
+use mathlib.Core.Path.{_≡_, refl}
+use mathlib.Core.Bool.{Bool, true, false, cond, _&&_, false≢true}
 use mathlib.Core.List.{List, [], _∷_}
 use Prim.Native.Nat.{ℕ}
 use lib.Dec.{eqb}
@@ -23,10 +24,11 @@ use Rattle.rules.specs.declared.Caching.{Caching}
 use Rattle.rules.specs.declared.Caching.the-variants.{Left, Cached}
 use Rattle.parties.specs.Parties.{Sent}
 use Rattle.rules.specs.declared.RoomKind.{RoomKind}
-use Rattle.rules.specs.declared.RoomKind.the-variants.{Absolute, Suppressed}
+use Rattle.rules.specs.declared.RoomKind.the-variants.{Absolute}
 use Rattle.judge.specs.Held.{heldBy}
 use Rattle.suppressed_edits.specs.Edits.{factorAfter, timeAfter}
 use Rattle.steps.specs.Ops.{Op, inc, isAllowed, get, draws, snapshot, getFactor, setRate, set, delete, cleanup, cleanupBoth, clear}
+use Rattle.steps.specs.Ops.{Touch, slotOf, staleBy, whole, touches}
 
 -- a series, and no cached factor
 abbrev pub plainly : ℕ → List Bucket → Held
@@ -100,30 +102,26 @@ leftBy kind s r t (clear who) h = h
 abbrev pub noKey : Sent
 noKey = record { caller = record { party = 0; first = 0; second = 0 }; bytes = [] }
 
+abbrev pub namedBy : Touch → Sent
+namedBy (slotOf key) = key
+namedBy (staleBy stale) = noKey
+namedBy (whole m) = noKey
+
+abbrev pub isNamed : Touch → Bool
+isNamed (slotOf key) = true
+isNamed (staleBy stale) = false
+isNamed (whole m) = false
+
 abbrev pub keyIn : {kind : RoomKind} → Op kind → Sent
-keyIn (inc key rate c) = key
-keyIn (isAllowed key) = key
-keyIn (get key) = key
-keyIn (draws key rate c draw) = key
-keyIn (snapshot key) = key
-keyIn (getFactor key) = key
-keyIn (setRate key rate) = key
-keyIn (set key rate comparator count mode) = key
-keyIn (delete key) = key
-keyIn (cleanup who stale) = noKey
-keyIn (cleanupBoth who other whose stale) = noKey
-keyIn (clear who) = noKey
+keyIn op = namedBy (touches op)
 
 abbrev pub Named : {kind : RoomKind} → Op kind → Type 0
-Named (inc key rate c) = Unit {0}
-Named (isAllowed key) = Unit {0}
-Named (get key) = Unit {0}
-Named (draws key rate c draw) = Unit {0}
-Named (snapshot key) = Unit {0}
-Named (getFactor key) = Unit {0}
-Named (setRate key rate) = Unit {0}
-Named (set key rate comparator count mode) = Unit {0}
-Named (delete key) = Unit {0}
-Named (cleanup who stale) = ⊥
-Named (cleanupBoth who other whose stale) = ⊥
-Named (clear who) = ⊥
+Named op = isNamed (touches op) ≡ true
+
+pub named-touches : {kind : RoomKind} (op : Op kind) → Named op → touches op ≡ slotOf (keyIn op)
+named-touches op = go (touches op)
+  where
+    go : (x : Touch) → isNamed x ≡ true → x ≡ slotOf (namedBy x)
+    go (slotOf key) e = refl
+    go (staleBy stale) e = absurd (false≢true e)
+    go (whole m) e = absurd (false≢true e)

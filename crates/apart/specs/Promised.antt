@@ -4,12 +4,11 @@ use mathlib.Core.Path.{_≡_, refl, sym, ap, ap₂, subst, _∙_}
 use mathlib.Core.Bool.{Bool, true, false, not, _&&_, _||_, cond, false≢true, true≢false}
 use mathlib.Core.List.{List, [], _∷_}
 use mathlib.Core.Logic.{_≢_}
-use Prim.Native.Nat.{ℕ, suc, _≤_, _<_}
-use native.Mathlib.Decide.{ℕ-discrete, decLt}
+use Prim.Native.Nat.{ℕ, _≤_, _<_}
+use native.Mathlib.Decide.{ℕ-discrete}
 use native.Mathlib.Omega.{arith}
-use lib.Dec.{eqb, leb, ltb}
-use borrow.Author.Tests.{eq-eqb, ne-eqb, eqb-true, eqb-false, leb-false}
-use Rattle.base.specs.Decides.{and-true}
+use lib.Dec.{eqb}
+use borrow.Author.Tests.{eqb-true, leb-false}
 use Rattle.common.specs.Refusals.{first, all-false}
 use Rattle.settings.specs.Clock.{ticksIn, windowTicks}
 use Rattle.settings.specs.declared.Settings.{Settings}
@@ -25,22 +24,21 @@ use Rattle.rules.specs.Suppressed as suppressed
 use Rattle.rules.specs.Sets as sets
 use Rattle.rules.specs.declared.RoomKind.{RoomKind}
 use Rattle.rules.specs.declared.RoomKind.the-variants as kind
-use Rattle.room.specs.Room.{slotsOf, ringOf, holderOf, keyAt, find}
+use Rattle.room.specs.Room.{ringOf}
 use Rattle.frame.specs.Keys.{Bytes}
-use Rattle.frame.specs.Distinct.{same-key, key-same, find-held, find-key, find-where}
-use Rattle.frame.specs.Frame.{key-holder}
+use Rattle.frame.specs.Distinct.{same-key, key-same}
 use Rattle.parties.specs.declared.Caller.{Caller}
-use Rattle.parties.specs.Parties.{Sent, keyFor, markOf, isParty, many, slotsHeld, promised, holding, noneLeft}
+use Rattle.parties.specs.Parties.{keyFor, markOf, isParty, slotsHeld, promised, holding, noneLeft}
 use Rattle.judge.specs.Held.{heldIn}
-use Rattle.judge.specs.Judge.{refusals, Passed}
+use Rattle.judge.specs.Judge.{Passed}
 use Rattle.judge.specs.Laws.{passed}
 use Rattle.leaves.specs.Follows.{unrefused-early, unrefused-own}
-use Rattle.steps.specs.Leaves.{sent-holder, mark-some}
+use Rattle.steps.specs.Leaves.{sent-holder}
 use Rattle.steps.specs.Ops.{Op, inc, isAllowed, get, draws, snapshot, getFactor, setRate, set, delete, cleanup, cleanupBoth, clear, after}
-use Rattle.steps.specs.Table.{tableOf, plain}
+use Rattle.steps.specs.Table.{tableOf}
 use Rattle.steps.specs.History.{Sane}
 use Rattle.apart.specs.Holds.{heldFor, held-short}
-use Rattle.apart.specs.Count.{slot-any, any-slot, many-into, many-less, many-least, without, held-into}
+use Rattle.apart.specs.Count.{any-slot, held-into, held-but}
 use Rattle.apart.specs.One.{plainly, leftBy, cleanedTo, keyIn, Named}
 use Rattle.apart.specs.Step.{sane-after, own-held, other-held, cleaned-held, cleared-held, uncleared-held, both-held}
 use Rattle.apart.specs.Told.{turned-words}
@@ -85,48 +83,6 @@ holding-is w c e =
     party-or (c .party) e
     (λ z. ap (λ (p : ℕ). cond (eqb p 1) (slotsHeld w firstMark) (slotsHeld w secondMark)) z ∙ ap (λ (p : ℕ). slotsHeld w (markOf p)) (sym z))
     (λ z. ap (λ (p : ℕ). cond (eqb p 1) (slotsHeld w firstMark) (slotsHeld w secondMark)) z ∙ ap (λ (p : ℕ). slotsHeld w (markOf p)) (sym z))
-
--- ---- one more at most
-
--- all keys but one of those in v are in w
-pub held-but : {k : RoomKind} {s : Settings} {w v : List ℕ} (m : ℕ) → m ≢ 0 → Sane k s w → Sane k s v → (key : Key) → find v key < slotsOf v → key .holder ≡ m →
-    ((j : Key) → j .holder ≡ m → key ≢ j → hasAny (heldFor v j) ≡ true → hasAny (heldFor w j) ≡ true) → slotsHeld v m ≤ suc (slotsHeld w m)
-unfolding slotsHeld
-held-but {k} {s} {w} {v} m z o c key l n f =
-    let mine = eq-eqb (holderOf v (find v key)) m (sym (key-holder v (find v key)) ∙ ap (λ (j : Key). j .holder) (find-key v key l) ∙ n) in
-    let a = many-less (λ i. eqb (holderOf v i) m) (slotsOf v) (find v key) l mine in
-    let b = many-into (without (λ i. eqb (holderOf v i) m) (find v key)) (λ i. eqb (holderOf w i) m) (slotsOf v) (slotsOf w) (λ i. find w (keyAt v i)) into
-    once in
-    omega (arith, a, b)
-  where
-    parts : (i : ℕ) → without (λ j. eqb (holderOf v j) m) (find v key) i ≡ true → (holderOf v i ≡ m) × (i ≢ find v key)
-    parts i e =
-        let p = and-true (eqb (holderOf v i) m) (not (eqb i (find v key))) e in
-        (eqb-true _ _ (p .0), λ q. false≢true (ap not (sym (eq-eqb i (find v key) q)) ∙ p .1))
-
-    used : (i : ℕ) → holderOf v i ≡ m → holderOf v i ≢ 0
-    used i e y = z (sym e ∙ y)
-
-    there : (i : ℕ) → i < slotsOf v → without (λ j. eqb (holderOf v j) m) (find v key) i ≡ true → hasAny (heldFor w (keyAt v i)) ≡ true
-    there i h e =
-        let p = parts i e in
-        f (keyAt v i) (key-holder v i ∙ p .0)
-        (λ q. p .1 (sym (find-where v (keyAt v i) i (c .distinct) h (used i (p .0)) refl) ∙ ap (find v) (sym q)))
-        (slot-any c i h (used i (p .0)))
-
-    into : (i : ℕ) → i < slotsOf v → without (λ j. eqb (holderOf v j) m) (find v key) i ≡ true →
-        (find w (keyAt v i) < slotsOf w) × (eqb (holderOf w (find w (keyAt v i))) m ≡ true)
-    into i h e =
-        let q = any-slot w (keyAt v i) (there i h e) in
-        (q, eq-eqb _ m (sym (key-holder w (find w (keyAt v i))) ∙ ap (λ (j : Key). j .holder) (find-key w (keyAt v i) q) ∙ key-holder v i ∙ parts i e .0))
-
-    once : (i j : ℕ) → i < slotsOf v → j < slotsOf v → without (λ y. eqb (holderOf v y) m) (find v key) i ≡ true →
-        without (λ y. eqb (holderOf v y) m) (find v key) j ≡ true → find w (keyAt v i) ≡ find w (keyAt v j) → i ≡ j
-    once i j h g e d q =
-        let li = any-slot w (keyAt v i) (there i h e) in
-        let lj = any-slot w (keyAt v j) (there j g d) in
-        c .distinct .once i j h g (used i (parts i e .0)) (used j (parts j d .0))
-        (sym (find-key w (keyAt v i) li) ∙ ap (keyAt w) q ∙ find-key w (keyAt v j) lj)
 
 -- ---- a slot is needed
 
@@ -189,9 +145,9 @@ module _ (s : Settings) (w : List ℕ) (t : ℕ) where
           (sym (ap (λ (y : Bool). not y && lacksSlot (noneLeft w (key .caller)) (heldIn w key)) z) ∙ q)
   slot-left k (delete key) n e h f =
       nothing-taken (heldIn w key) _ h (ap (λ (y : Bool). cond y nothing (heldIn w key)) h) f
-  slot-left k (cleanup who stale) n e h f = absurd n
-  slot-left k (cleanupBoth who other whose stale) n e h f = absurd n
-  slot-left k (clear who) n e h f = absurd n
+  slot-left k (cleanup who stale) n e h f = absurd (false≢true n)
+  slot-left k (cleanupBoth who other whose stale) n e h f = absurd (false≢true n)
+  slot-left k (clear who) n e h f = absurd (false≢true n)
 
 -- a call with a key that is not turned away has passed
 pub named-passed : (k : RoomKind) (s : Settings) (w : List ℕ) (t : ℕ) (op : Op k) → Named op → first (tableOf k s w t op) ≡ 0 → Passed k s w t (keyIn op)
@@ -204,9 +160,9 @@ named-passed k s w t (getFactor key) n e = passed kind.Suppressed s w t key (unr
 named-passed k s w t (setRate key rate) n e = passed k s w t key (unrefused-early k s w t key _ e)
 named-passed k s w t (set key rate comparator count mode) n e = passed k s w t key (unrefused-early k s w t key _ e)
 named-passed k s w t (delete key) n e = passed k s w t key (unrefused-early k s w t key _ e)
-named-passed k s w t (cleanup who stale) n e = absurd n
-named-passed k s w t (cleanupBoth who other whose stale) n e = absurd n
-named-passed k s w t (clear who) n e = absurd n
+named-passed k s w t (cleanup who stale) n e = absurd (false≢true n)
+named-passed k s w t (cleanupBoth who other whose stale) n e = absurd (false≢true n)
+named-passed k s w t (clear who) n e = absurd (false≢true n)
 
 -- ---- the law
 
@@ -240,7 +196,7 @@ module _ (k : RoomKind) (s : Settings) (w : List ℕ) (t : ℕ) (o : Sane k s w)
     -- of another party, or of a key that has something, or has nothing then
     same-count : ((j : Key) → j .holder ≡ m → keyFor (keyIn op) ≡ j → hasAny (heldFor (after k s w t op) j) ≡ true → hasAny (heldFor w j) ≡ true) →
         slotsHeld (after k s w t op) m ≤ slotsHeld w m
-    same-count f = held-into m z safe o (λ j h a. go j h a (sameKey (keyFor (keyIn op)) j) refl)
+    same-count f = held-into w m z safe (λ j h a. go j h a (sameKey (keyFor (keyIn op)) j) refl)
       where
         go : (j : Key) → j .holder ≡ m → hasAny (heldFor (after k s w t op) j) ≡ true → (y : Bool) → sameKey (keyFor (keyIn op)) j ≡ y →
             hasAny (heldFor w j) ≡ true
@@ -268,7 +224,7 @@ module _ (k : RoomKind) (s : Settings) (w : List ℕ) (t : ℕ) (o : Sane k s w)
             let d = holding-is w (keyIn op .caller) (passing .party) in
             let r : slotsHeld w (markOf (keyIn op .caller .party)) < promised (keyIn op .caller) =
             subst (λ (x : ℕ). x < promised (keyIn op .caller)) d (left-under w (keyIn op .caller) c) in
-            let u = held-but m z o safe (keyFor (keyIn op)) (any-slot _ _ b) (mark ∙ sym q)
+            let u = held-but w m z safe (keyFor (keyIn op)) (any-slot _ _ b) (mark ∙ sym q)
             (λ j h y a′. ap hasAny (sym (other-held k s w t o op by n j y)) ∙ a′) in
             omega (arith, u, r, f q, ap (slotsHeld w) q)
 
@@ -286,7 +242,7 @@ module _ (k : RoomKind) (s : Settings) (w : List ℕ) (t : ℕ) (o : Sane k s w)
   -- of a cleanup or a clear, what is there was there
   into-bound : (op : Op k) → Bytes (keyIn op .bytes) → ((j : Key) → hasAny (heldFor (after k s w t op) j) ≡ true → hasAny (heldFor w j) ≡ true) →
       slotsHeld (after k s w t op) m ≤ slotsHeld w m
-  into-bound op by f = held-into m z (sane-after k s w t o op by) o (λ j h a. f j a)
+  into-bound op by f = held-into w m z (sane-after k s w t o op by) (λ j h a. f j a)
 
 -- whoever calls
 module _ (k : RoomKind) (s : Settings) (w : List ℕ) (t : ℕ) (o : Sane k s w) (m : ℕ) (z : m ≢ 0) where
@@ -307,15 +263,15 @@ Promise m p c = m ≡ markOf (c .party) → promised c ≡ p
 
 undone : (k : RoomKind) (s : Settings) (w : List ℕ) (t m p : ℕ) → Sane k s w → m ≢ 0 → (op : Op k) → Bytes (keyIn op .bytes) → Promise m p (callerIn op) →
     first (tableOf k s w t op) ≡ 0 → Bounded w (after k s w t op) m p
-undone k s w t m p o z (inc key rate c) by f e l = named-bound k s w t o m z (inc key rate c) by tt e p f l
-undone k s w t m p o z (isAllowed key) by f e l = named-bound k s w t o m z (isAllowed key) by tt e p f l
-undone k s w t m p o z (get key) by f e l = named-bound k s w t o m z (get key) by tt e p f l
-undone k s w t m p o z (draws key rate c draw) by f e l = named-bound k s w t o m z (draws key rate c draw) by tt e p f l
-undone k s w t m p o z (snapshot key) by f e l = named-bound k s w t o m z (snapshot key) by tt e p f l
-undone k s w t m p o z (getFactor key) by f e l = named-bound k s w t o m z (getFactor key) by tt e p f l
-undone k s w t m p o z (setRate key rate) by f e l = named-bound k s w t o m z (setRate key rate) by tt e p f l
-undone k s w t m p o z (set key rate comparator count mode) by f e l = named-bound k s w t o m z (set key rate comparator count mode) by tt e p f l
-undone k s w t m p o z (delete key) by f e l = named-bound k s w t o m z (delete key) by tt e p f l
+undone k s w t m p o z (inc key rate c) by f e l = named-bound k s w t o m z (inc key rate c) by refl e p f l
+undone k s w t m p o z (isAllowed key) by f e l = named-bound k s w t o m z (isAllowed key) by refl e p f l
+undone k s w t m p o z (get key) by f e l = named-bound k s w t o m z (get key) by refl e p f l
+undone k s w t m p o z (draws key rate c draw) by f e l = named-bound k s w t o m z (draws key rate c draw) by refl e p f l
+undone k s w t m p o z (snapshot key) by f e l = named-bound k s w t o m z (snapshot key) by refl e p f l
+undone k s w t m p o z (getFactor key) by f e l = named-bound k s w t o m z (getFactor key) by refl e p f l
+undone k s w t m p o z (setRate key rate) by f e l = named-bound k s w t o m z (setRate key rate) by refl e p f l
+undone k s w t m p o z (set key rate comparator count mode) by f e l = named-bound k s w t o m z (set key rate comparator count mode) by refl e p f l
+undone k s w t m p o z (delete key) by f e l = named-bound k s w t o m z (delete key) by refl e p f l
 undone k s w t m p o z (cleanup who stale) by f e l = omega (arith, l, cleaning k s w t o m z (cleanup who stale) stale by (cleaned-held k s w t o who stale e))
 undone k s w t m p o z (cleanupBoth who other whose stale) by f e l =
     omega (arith, l, cleaning k s w t o m z (cleanupBoth who other whose stale) stale by (both-held s w t who other whose stale k o e))

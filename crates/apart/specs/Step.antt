@@ -1,22 +1,21 @@
 -- What a call leaves of what any key holds: its own key's as the limiter of one key says, another key's as it was; and the room's slots, ring and last reading.
 -- Assumes nothing.
-use mathlib.Core.Path.{_≡_, refl, sym, ap, ap₂, subst, _∙_}
-use mathlib.Core.Bool.{Bool, true, false, cond, false≢true}
-use mathlib.Core.List.{List, []}
+use mathlib.Core.Path.{_≡_, sym, ap, subst, _∙_}
+use mathlib.Core.Bool.{true, false, false≢true}
+use mathlib.Core.List.{List}
 use mathlib.Core.Logic.{_≢_}
-use Prim.Native.Nat.{ℕ, _≤_, _<_}
+use Prim.Native.Nat.{ℕ, _≤_}
 use native.Mathlib.Decide.{ℕ-discrete}
 use native.Mathlib.Omega.{arith}
-use lib.Dec.{eqb}
 use borrow.Author.Tests.{eq-eqb}
 use Rattle.common.specs.Refusals.{first}
 use Rattle.settings.specs.Clock.{ticksIn, joinTicks}
 use Rattle.settings.specs.declared.Settings.{Settings}
 use Rattle.keys.specs.declared.Key.{Key}
-use Rattle.rules.specs.Held.{Held, nothing}
+use Rattle.rules.specs.Held.{nothing}
 use Rattle.rules.specs.declared.RoomKind.{RoomKind}
 use Rattle.rules.specs.declared.RoomKind.the-variants as kind
-use Rattle.room.specs.Room.{Room, slotsOf, ringOf, lastOf, withReading, cleared}
+use Rattle.room.specs.Room.{slotsOf, ringOf, lastOf, withReading, cleared}
 use Rattle.frame.specs.Keys.{Bytes}
 use Rattle.frame.specs.Whole.{clear-read-run}
 use Rattle.parties.specs.declared.Caller.{Caller}
@@ -30,7 +29,7 @@ use Rattle.cleanup.specs.Cleanup as Cleanup
 use Rattle.cleanup.specs.Laws as Cleaning
 use Rattle.clearing.specs.Clear as Clear
 use Rattle.provider.specs.Provider as Provider
-use Rattle.provider.specs.Laws.{both-by-table, both-passed}
+use Rattle.provider.specs.Laws.{both-by-table}
 use Rattle.leaves.specs.Cleanup.{clean-run}
 use Rattle.steps.specs.Ops.{
   Op,
@@ -48,10 +47,7 @@ use Rattle.steps.specs.Ops.{
   clear,
   after,
   Keyed,
-  Touch,
   slotOf,
-  staleBy,
-  whole,
   touches,
 }
 use Rattle.steps.specs.Each.{step}
@@ -61,8 +57,8 @@ use Rattle.steps.specs.Leaves.{around, step-leaves}
 use Rattle.steps.specs.Keys.{stands, finds}
 use Rattle.steps.specs.Table.{tableOf}
 use Rattle.steps.specs.History.{Sane, step-sane}
-use Rattle.apart.specs.Holds.{heldFor, beside-held, read-held}
-use Rattle.apart.specs.One.{leftBy, cleanedTo, noKey, keyIn, Named}
+use Rattle.apart.specs.Holds.{heldFor, beside-held}
+use Rattle.apart.specs.One.{leftBy, cleanedTo, namedBy, isNamed, keyIn, Named, named-touches}
 use Rattle.apart.specs.Calls.{left-is}
 use Rattle.apart.specs.Whole.{clean-held, clear-held, clear-beside}
 use Rattle.apart.specs.Told.{turned-words}
@@ -91,17 +87,6 @@ change-beside k s w t key at change d j n =
     let a = around k s w t key at change d in
     beside-held w (applied w at key (joinTicks s) t change) j (a .slots) (a .ring) (finds k s w t key at j n change d) (stands k s w t key at j n change d)
 
--- the key of what is touched, and whether there is one
-abbrev namedBy : Touch → Sent
-namedBy (slotOf key) = key
-namedBy (staleBy stale) = noKey
-namedBy (whole m) = noKey
-
-abbrev isNamed : Touch → Bool
-isNamed (slotOf key) = true
-isNamed (staleBy stale) = false
-isNamed (whole m) = false
-
 step-beside : (k : RoomKind) (s : Settings) (w : List ℕ) (t : ℕ) (op : Op k) (key : Sent) → touches op ≡ slotOf key → (v : List ℕ) → Step k s w t op v →
     (j : Key) → keyFor key ≢ j → heldFor v j ≡ heldFor w j
 step-beside k s w t op key z v (refused e) j n = ap (λ (y : List ℕ). heldFor y j) e
@@ -110,20 +95,6 @@ step-beside k s w t op key z v (changed other q at change d e) j n =
     ap (λ (y : List ℕ). heldFor y j) e ∙ change-beside k s w t other at change d j p
 step-beside k s w t op key z v (cleaned stale who q p e) j n = absurd (false≢true (ap isNamed (sym q ∙ z)))
 step-beside k s w t op key z v (clearedBy m q r l e) j n = absurd (false≢true (ap isNamed (sym q ∙ z)))
-
-pub named-touches : {k : RoomKind} (op : Op k) → Named op → touches op ≡ slotOf (keyIn op)
-named-touches (inc key rate c) n = refl
-named-touches (isAllowed key) n = refl
-named-touches (get key) n = refl
-named-touches (draws key rate c draw) n = refl
-named-touches (snapshot key) n = refl
-named-touches (getFactor key) n = refl
-named-touches (setRate key rate) n = refl
-named-touches (set key rate comparator count mode) n = refl
-named-touches (delete key) n = refl
-named-touches (cleanup who stale) n = absurd n
-named-touches (cleanupBoth who other whose stale) n = absurd n
-named-touches (clear who) n = absurd n
 
 -- ---- each call
 

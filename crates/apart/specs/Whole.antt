@@ -11,19 +11,18 @@ use Rattle.settings.specs.Clock.{ticksIn}
 use Rattle.settings.specs.declared.Settings.{Settings}
 use Rattle.ring.specs.declared.Bucket.{Bucket}
 use Rattle.ring.specs.Ring.{buckets}
-use Rattle.rules.specs.Held.{Held, nothing}
+use Rattle.rules.specs.Held.{nothing}
 use Rattle.rules.specs.Stale.{seriesStays, factorStays}
 use Rattle.keys.specs.declared.Key.{Key}
-use Rattle.room.specs.Room.{slotsOf, ringOf, holderOf, useOf, keyAt, has, find, bodyOf}
+use Rattle.room.specs.Room.{slotsOf, ringOf, holderOf, useOf, has, find, bodyOf}
 use Rattle.room.specs.Entries.{used-held, has-free}
-use Rattle.frame.specs.Distinct.{Distinct, find-held, find-key, find-where, find-none, find-ext, has-ext, has-not}
+use Rattle.frame.specs.Distinct.{Distinct, find-held, find-key, find-where, find-ext, has-ext, has-not}
 use Rattle.frame.specs.Frame.{key-holder}
 use Rattle.frame.specs.Whole.{Cleared, cleared-others}
 use Rattle.opened.specs.Sound.{limitOf, factorOf, factorTimeOf, hasSeries, hasCached}
 use Rattle.judge.specs.Held.{heldBy}
 use Rattle.stale.specs.Uses.{uses, useAfter, useNext}
-use Rattle.leaves.specs.Cleanup.{Cleaned, was-held, same-key, same-holder, some-stays, clean-distinct, uses-series, uses-cached}
-use Rattle.places.specs.Has.{Untouched}
+use Rattle.leaves.specs.Cleanup.{Cleaned, was-held, same-key, clean-distinct, uses-series, uses-cached}
 use Rattle.apart.specs.Holds.{heldAt, heldFor, for-at, for-here, for-none, beside-held}
 use Rattle.apart.specs.One.{cleanedTo}
 

@@ -1,6 +1,6 @@
 -- Non-interference reaches the read-out: after two histories as `Apart` speaks of them, each of the party's keys is read out the same.
 -- Assumes nothing.
-use mathlib.Core.Path.{_≡_, refl, sym, ap, ap₂, _∙_}
+use mathlib.Core.Path.{_≡_, refl, sym, ap, _∙_}
 use mathlib.Core.Bool.{Bool, true, false, not, _&&_, cond}
 use mathlib.Core.List.{List, [], _∷_, _++_}
 use Prim.Native.Nat.{ℕ}
@@ -19,7 +19,7 @@ use Rattle.opened.specs.Sound.{hasSeries, addressed}
 use Rattle.judge.specs.Held.{heldIn}
 use Rattle.finding.specs.Finding.{refusal, bucketsOf}
 use Rattle.readout.specs.Row.{laid}
-use Rattle.readout.specs.ReadOut.{Filled, readOut}
+use Rattle.readout.specs.ReadOut.{readOut}
 use Rattle.places.specs.SoundRoom.{SoundRoom, five-unmet}
 use Rattle.steps.specs.Ops.{Call, words}
 use Rattle.apart.specs.Apart.{picked, Rising, AllGive, AllBytes, SameCalls, held-apart, sane-apart}

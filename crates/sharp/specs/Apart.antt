@@ -1,7 +1,7 @@
 -- Non-interference fails where it should: if the promises given change (`promises-stay`), and for a limiter that gives 11 by free slots alone
 -- (`by-free-slots`).
 -- Assumes nothing.
-use mathlib.Core.Path.{_≡_, refl, sym, ap, _∙_}
+use mathlib.Core.Path.{refl, sym, ap, _∙_}
 use mathlib.Core.List.{List, [], _∷_}
 use Prim.Native.Nat.{ℕ, zero, suc}
 use native.Mathlib.Omega.{arith}
@@ -9,8 +9,8 @@ use Rattle.settings.specs.Settings.{defaults}
 use Rattle.rules.specs.declared.RoomKind.the-variants as kind
 use Rattle.frame.specs.Keys.{Bytes}
 use Rattle.steps.specs.Ops.{Call, verdictOf}
-use Rattle.apart.specs.Apart.{ApartBy, AllGive, Twin, itself}
-use Rattle.sharp.specs.Histories.{quiet, overrun, twice, twiceAmong, byFree, numbers, Computed, computed}
+use Rattle.apart.specs.Apart.{ApartBy, AllGive, itself}
+use Rattle.sharp.specs.Histories.{quiet, overrun, twice, twiceAmong, byFree, numbers, computed}
 
 -- the number that was told last
 abbrev newest : List ℕ → ℕ
