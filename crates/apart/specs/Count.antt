@@ -124,7 +124,8 @@ any-slot w k e = go (decLt (find w k) (slotsOf w))
 -- ---- as many
 
 -- of some of the party's slots, whose keys have something in v
-pub held-among : {k : RoomKind} {s : Settings} {w : List ℕ} (v : List ℕ) (m : ℕ) → m ≢ 0 → Sane k s w → (p : ℕ → Bool) → ((i : ℕ) → p i ≡ true → holderOf w i ≡ m) →
+pub held-among : {k : RoomKind} {s : Settings} {w : List ℕ} (v : List ℕ) (m : ℕ) → m ≢ 0 → Sane k s w → (p : ℕ → Bool) →
+    ((i : ℕ) → p i ≡ true → holderOf w i ≡ m) →
     ((i : ℕ) → i < slotsOf w → p i ≡ true → hasAny (heldFor v (keyAt w i)) ≡ true) → many p (slotsOf w) ≤ slotsHeld v m
 unfolding slotsHeld
 held-among {k} {s} {w} v m z o p mine there =

@@ -309,7 +309,8 @@ done-like k s t p a b w v x (snapshot key) by q e f j h = named-like kind.Suppre
     e f j h
 done-like k s t p a b w v x (getFactor key) by q e f j h = named-like kind.Suppressed s t p a b w v x (getFactor key) refl by
     (eqb-true (key .caller .party) p q) e f j h
-done-like k s t p a b w v x (setRate key rate) by q e f j h = named-like k s t p a b w v x (setRate key rate) refl by (eqb-true (key .caller .party) p q) e f j h
+done-like k s t p a b w v x (setRate key rate) by q e f j h =
+    named-like k s t p a b w v x (setRate key rate) refl by (eqb-true (key .caller .party) p q) e f j h
 done-like k s t p a b w v x (set key rate comparator count mode) by q e f j h = named-like k s t p a b w v x (set key rate comparator count mode) refl by
     (eqb-true (key .caller .party) p q) e f j h
 done-like k s t p a b w v x (delete key) by q e f j h = named-like k s t p a b w v x (delete key) refl by (eqb-true (key .caller .party) p q) e f j h
