@@ -22,7 +22,7 @@
  * a suppressed one. It has `slots` slots (1 to 64), one to a key, each with a ring of `ring` buckets (1 to 512). Its
  * length in words is exactly
  *
- *     67 + slots * (6 + 7 + 3 * ring)
+ *     5 + slots * (6 + 7 + 3 * ring)
  *
  * which FROSTAXLE_ROOM_WORDS and frostaxle_room_words() work out. frostaxle_make() makes an empty room of it. The words
  * are plain numbers without pointers: you may copy a room, write it to a file, map it from one, or keep it in shared
@@ -62,7 +62,7 @@
  * THE GATEWAY'S TABLE
  *
  * A table is an array of FROSTAXLE_TABLE_WORDS uint64_t that holds the last admitted shot number of up to 64
- * controllers. frostaxle_gateway_make_table() makes an empty one, which is 451 zeros. No table is a room. It may be
+ * controllers. frostaxle_gateway_make_table() makes an empty one, which is 389 zeros. No table is a room. It may be
  * copied and stored as a room may, and damage is found by the call that meets it (refusal 5).
  *
  * Only frostaxle_gateway_shot() writes numbers into it, and only frostaxle_gateway_new_season() takes them out: no
@@ -86,7 +86,7 @@
  *   cache     milliseconds, 1 to 4294967296              how long a suppressed key's factor is used again
  *   factor    finite, at least 1                         hard limit = factor * soft limit (suppressed limiter)
  *   clock     0 is milliseconds, any other nanoseconds   what a tick of the reading is, see below
- *   table, table_len                                     a gateway's table, and 451
+ *   table, table_len                                     a gateway's table, and 389
  *   room, room_len                                       the lent words and how many they are
  *   reading   ticks of the clock, any start you like     your clock; in one room it may stand still but not go back
  *   party     1 or 2                                     whose call it is, see PARTIES
@@ -241,10 +241,10 @@ enum {
 #define FROSTAXLE_ROW_WORDS 5
 
 /* The length of a gateway's table. */
-#define FROSTAXLE_TABLE_WORDS 451
+#define FROSTAXLE_TABLE_WORDS 389
 
 /* The length of a room, for an array's size. slots and ring in range are yours to see to; frostaxle_make() judges them. */
-#define FROSTAXLE_ROOM_WORDS(slots, ring) (67 + (slots) * (6 + 7 + 3 * (ring)))
+#define FROSTAXLE_ROOM_WORDS(slots, ring) (5 + (slots) * (6 + 7 + 3 * (ring)))
 
 /* The double whose bits a word of the row holds. */
 static inline double frostaxle_double(uint64_t bits) {
@@ -396,7 +396,7 @@ uint64_t frostaxle_provider_cleanup(uint64_t window, uint64_t bucket, uint64_t c
 
 /* ---- the gateway: shots by their number, in front of a suppressed limiter */
 
-/* Makes an empty table, whatever the words held. 0; or 5 if the length is not 451, and the words stay. */
+/* Makes an empty table, whatever the words held. 0; or 5 if the length is not 389, and the words stay. */
 uint64_t frostaxle_gateway_make_table(uint64_t *table, size_t table_len);
 
 /*

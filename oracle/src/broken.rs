@@ -8,8 +8,8 @@ use twin::set::Wanted;
 
 use crate::callers::{NO_PARTIES, Promise};
 use crate::compare::{Comparison, Shared};
-use crate::expected::{ENTRY, HEADER, HOLDERS, is_sized, is_sound, kind};
-use crate::loaded::HOLDER_WORDS;
+use crate::expected::{ENTRY, HEADER, HOLDERS, holder, is_sized, is_sound, kind, set_holder};
+use crate::loaded::holder_words;
 use crate::long::{self, Falls};
 use crate::random::{Dice, bad_rate, bad_settings, key_pool, nameless, rate, rooms_left};
 use crate::state::Key;
@@ -157,12 +157,12 @@ impl Scene<'_> {
     /// Every call once, each on the room as it is, or now and then one after another. The key is of a slot.
     fn try_all(&mut self, trials: &mut Trials, room: &[u64], own: &[u8], slot: usize) {
         trials.count_room(self.kind, room);
-        // Whose the slot is, as far as its word tells.
-        let party = match room.get(HOLDERS + slot) {
-            Some(1) => 1,
-            Some(128) => 2,
-            _ => 1 + self.dice.below(2),
+        // Whose the slot is, as far as its bits tell.
+        let party = match room.len() {
+            HEADER.. => Some(holder(room, slot)).filter(|holder| [1, 2].contains(holder)),
+            _ => None,
         };
+        let party = party.unwrap_or_else(|| 1 + self.dice.below(2));
         let in_a_row = self.dice.once_in(8);
         let last = self.last;
         if is_room(room) && self.dice.once_in(2) {
@@ -188,13 +188,12 @@ impl Scene<'_> {
     }
 }
 
-/// Where a place lies: the slot it belongs to.
+/// Where a place behind the header lies: the slot it belongs to.
 fn slot_of(room: &[u64], at: usize) -> usize {
     let (slots, size) = (room[0] as usize, FIXED + 3 * room[1] as usize);
-    match at.checked_sub(HEADER) {
-        None => at.checked_sub(HOLDERS).filter(|at| *at < slots).unwrap_or(0),
-        Some(at) if at < ENTRY * slots => at / ENTRY,
-        Some(at) => (at - ENTRY * slots) / size,
+    match at - HEADER {
+        at if at < ENTRY * slots => at / ENTRY,
+        at => (at - ENTRY * slots) / size,
     }
 }
 
@@ -205,12 +204,12 @@ fn key_at(room: &[u64], slot: usize) -> Vec<u8> {
     bytes.take(entry[1].min(32) as usize).collect()
 }
 
-/// What a word is changed to: 0 and 1, its neighbours, ends of ranges, doubles, and the room's own lengths and reading; a holder's to those
-/// of nobody, of a party and of neither.
+/// What a word is changed to: 0 and 1, its neighbours, ends of ranges, doubles, and the room's own lengths and reading; one of holders' bits
+/// to other bits.
 fn values(room: &[u64], at: usize) -> Vec<u64> {
     let (old, one) = (room[at], 1f64.to_bits());
     if (HOLDERS..HEADER).contains(&at) {
-        return HOLDER_WORDS.into_iter().filter(|value| *value != old).collect();
+        return holder_words(room, at, room[0] as usize);
     }
     let mut values = vec![
         0,
@@ -237,25 +236,42 @@ fn values(room: &[u64], at: usize) -> Vec<u64> {
     values
 }
 
-/// The places of the words that a room looks at, and of some holders' words of slots that it does not have.
-fn places(dice: &mut Dice, room: &[u64]) -> Vec<usize> {
-    let end = HOLDERS + room[0] as usize;
-    let past = (0..2).map(|_| end + dice.below((HEADER - end) as u64) as usize);
-    let mut places: Vec<usize> = if end < HEADER { past.chain([end]).collect() } else { vec![] };
-    places.extend((0..end).chain(HEADER..room.len()));
-    places
+/// A slot that a change of this word concerns: of holders' bits one whose bit is other, if the room has it.
+fn concerned(dice: &mut Dice, good: &[u64], at: usize, value: u64) -> usize {
+    let any = dice.below(good[0]) as usize;
+    match at {
+        0..HOLDERS => any,
+        HOLDERS..HEADER => {
+            let others = (good[at] ^ value).rotate_right(any as u32);
+            let slot = (any + others.trailing_zeros() as usize) % 64;
+            if slot < good[0] as usize { slot } else { any }
+        }
+        _ => slot_of(good, at),
+    }
+}
+
+/// One holder changed, to each other, and to neither party: of every slot that the room has, and of some that it does not have.
+fn one_holder(scene: &mut Scene, trials: &mut Trials, good: &[u64]) {
+    let slots = good[0] as usize;
+    let past = (0..2).map(|_| slots + scene.dice.below(64) as usize).chain([slots]);
+    let past: Vec<usize> = past.filter(|at| *at < 64).collect();
+    for at in (0..slots).chain(past) {
+        for other in (0..4).filter(|other| *other != holder(good, at)) {
+            let mut room = good.to_vec();
+            set_holder(&mut room, at, other);
+            let slot = if at < slots { at } else { scene.dice.below(good[0]) as usize };
+            scene.try_all(trials, &room, &key_at(good, slot), slot);
+        }
+    }
 }
 
 /// One word changed, in each place, to each value.
 fn one_word(scene: &mut Scene, trials: &mut Trials, good: &[u64]) {
     let mut room = good.to_vec();
-    for at in places(scene.dice, good) {
-        let slot = match at {
-            0..HOLDERS => scene.dice.below(good[0]) as usize,
-            _ => slot_of(good, at),
-        };
+    for at in 0..good.len() {
         for value in values(good, at) {
             room[at] = value;
+            let slot = concerned(scene.dice, good, at, value);
             // A changed key is asked for as it was and as it shows now.
             let shown = if scene.dice.once_in(2) && at >= HEADER { &room } else { good };
             let own = key_at(shown, slot);
@@ -265,20 +281,22 @@ fn one_word(scene: &mut Scene, trials: &mut Trials, good: &[u64]) {
     }
 }
 
-/// Two words changed, mostly in one slot.
+/// Two words changed, or a holder and a word, mostly in one slot.
 fn two_words(scene: &mut Scene, trials: &mut Trials, good: &[u64], times: u64) {
     for _ in 0..times {
         let mut room = good.to_vec();
         let slot = scene.dice.below(good[0]) as usize;
-        // The holder's word three times, so that it is changed now and then.
-        let mine: Vec<usize> = [HOLDERS + slot; 3]
-            .into_iter()
-            .chain((HEADER..good.len()).filter(|at| slot_of(good, *at) == slot))
-            .collect();
+        let mine: Vec<usize> =
+            (HEADER..good.len()).filter(|at| slot_of(good, *at) == slot).collect();
         for _ in 0..2 {
-            let at = match scene.dice.once_in(5) {
-                true => scene.dice.below(good.len() as u64) as usize,
-                false => scene.dice.pick(&mine),
+            let at = match scene.dice.below(10) {
+                0 => {
+                    set_holder(&mut room, slot, scene.dice.below(4));
+                    continue;
+                }
+                1 => HOLDERS + scene.dice.below(2) as usize,
+                2 | 3 => scene.dice.below(good.len() as u64) as usize,
+                _ => scene.dice.pick(&mine),
             };
             room[at] = scene.dice.pick(&values(good, at));
         }
@@ -290,10 +308,10 @@ fn two_words(scene: &mut Scene, trials: &mut Trials, good: &[u64], times: u64) {
 fn lengths(scene: &mut Scene, trials: &mut Trials, good: &[u64]) {
     let own = key_at(good, 0);
     let (slots, ring, all) = (good[0], good[1], good.len());
-    for length in [0, 1, 2, 3, 4, 9, HEADER - 1, HEADER, HEADER + 1, all - 64, all - 1, all - 3] {
+    for length in [0, 1, 2, 3, HEADER - 1, HEADER, HEADER + 1, 9, 12, all - 3, all - 2, all - 1] {
         scene.try_all(trials, &good[..length.min(all)], &own, 0);
     }
-    for more in 1..4 {
+    for more in [1, 2, 3, 62] {
         let longer: Vec<u64> = good.iter().copied().chain((0..more).map(|_| 0)).collect();
         scene.try_all(trials, &longer, &own, 0);
     }
@@ -326,15 +344,15 @@ fn wild(dice: &mut Dice) -> Vec<u64> {
         room[..2].copy_from_slice(&[slots, ring]);
         for at in 0..slots as usize {
             room[HEADER + ENTRY * at] = dice.below(5);
-            room[HOLDERS + at] = holder(dice);
+            set_holder(&mut room, at, any_holder(dice));
         }
     }
     room
 }
 
-/// Mostly a party's word, or nobody's.
-fn holder(dice: &mut Dice) -> u64 {
-    if dice.once_in(12) { dice.pick(&HOLDER_WORDS) } else { dice.pick(&[0, 1, 1, 128, 128]) }
+/// Mostly a party, or nobody.
+fn any_holder(dice: &mut Dice) -> u64 {
+    if dice.once_in(12) { dice.below(4) } else { dice.pick(&[0, 1, 1, 2, 2]) }
 }
 
 /// Each word drawn for its place, so that a slot is sound now and then.
@@ -343,8 +361,11 @@ fn likely(dice: &mut Dice, settings: &Settings, keys: &[Key]) -> Vec<u64> {
     let mut room = vec![0; words_of(slots, ring)];
     let last = dice.pick(&[0, 1, 5, 5000, u64::MAX]);
     room[..HOLDERS].copy_from_slice(&[slots as u64, ring as u64, last]);
+    if dice.once_in(2) {
+        room[HOLDERS..HEADER].fill_with(|| dice.any());
+    }
     for slot in 0..slots {
-        room[HOLDERS + slot] = holder(dice);
+        set_holder(&mut room, slot, any_holder(dice));
         let entry = HEADER + ENTRY * slot;
         let key = &keys[dice.below(3) as usize].bytes;
         room[entry] = dice.pick(&[0, 1, 1, 1, 2, 3, 3, 4]);
@@ -403,20 +424,22 @@ fn ends(scene: &mut Scene, trials: &mut Trials) {
         let mut room = vec![0; words_of(slots, ring)];
         room[..2].copy_from_slice(&[slots as u64, ring as u64]);
         scene.try_all(trials, &room, b"a", 0);
-        // Every slot in use, by words that come to the most that there can be.
-        for mark in [1, 128] {
-            room[HOLDERS..HEADER].fill(mark);
+        // Every slot in use, of one party or of both, or all but the last one; and the last one of neither.
+        let (all, last, even) = (u64::MAX, 1 << 63, u64::MAX / 3);
+        let bits = [(all, 0), (0, all), (!last, last), (last, !last), (even, !even), (all, last)];
+        for (first, second) in bits.into_iter().chain([(!last, 0), (0, !last), (all, all)]) {
+            room[HOLDERS..HEADER].copy_from_slice(&[first, second]);
             scene.try_all(trials, &room, b"a", 0);
         }
     }
 }
 
-/// A word of the slot: of its holder, of its entry, of its body before the cells, or of these.
+/// A word of holders' bits, or one of the slot: of its entry, of its body before the cells, or of these.
 fn word_of_slot(dice: &mut Dice, room: &[u64], slot: usize) -> usize {
     let (slots, cells) = (room[0] as usize, 3 * room[1] as usize);
     let body = HEADER + ENTRY * slots + slot * (FIXED + cells);
     match dice.below(3) {
-        0 if dice.once_in(4) => HOLDERS + slot,
+        0 if dice.once_in(4) => HOLDERS + dice.below(2) as usize,
         0 => HEADER + ENTRY * slot + dice.below(ENTRY as u64) as usize,
         1 => body + dice.below(FIXED as u64) as usize,
         _ => body + FIXED + dice.below(cells as u64) as usize,
@@ -424,7 +447,7 @@ fn word_of_slot(dice: &mut Dice, room: &[u64], slot: usize) -> usize {
 }
 
 /// How many long rings go with each room that a history leaves: with falling times, and others.
-const FALLING: u64 = 24;
+const FALLING: u64 = 56;
 const OTHER: u64 = 22;
 
 /// Long rings with falling times and with other damage; of the sound ones, some with one word changed.
@@ -461,6 +484,7 @@ fn around(
         let (good, beside) = (rooms.of(kind), rooms.of(other).to_vec());
         let last = good[2];
         let mut scene = Scene { dice, settings, kind, beside, last, keys };
+        one_holder(&mut scene, trials, good);
         one_word(&mut scene, trials, good);
         two_words(&mut scene, trials, good, 200);
         lengths(&mut scene, trials, good);

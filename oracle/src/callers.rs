@@ -4,7 +4,7 @@ use twin::calls::{Op, Rooms};
 use twin::parties::Caller;
 use twin::rules::Kind;
 
-use crate::expected::{held, holders, is_sized, kind};
+use crate::expected::{held, is_sized, kind};
 use crate::random::Dice;
 use crate::state::Key;
 
@@ -35,7 +35,7 @@ impl Promise {
     /// At least what the parties hold, and at most the room's slots together: all of them, or some left over. Mostly both get some.
     pub fn kept(dice: &mut Dice, room: &[u64]) -> Self {
         let (first, second) = held(room);
-        let spare = holders(room).len() as u64 - first - second;
+        let spare = room[0] - first - second;
         let given = if dice.once_in(3) { dice.below(spare + 1) } else { spare };
         let more = match given {
             2.. if !dice.once_in(4) => 1 + dice.below(given - 1),
@@ -46,7 +46,7 @@ impl Promise {
 
     /// One that mostly is broken: together over the room's slots, also by a sum past 2^64, or less than a party holds; or any.
     pub fn other(dice: &mut Dice, room: &[u64]) -> Self {
-        let ((first, second), slots) = (held(room), holders(room).len() as u64);
+        let ((first, second), slots) = (held(room), room[0]);
         let any = dice.below(slots + 1);
         let choices = [
             (any, slots + 1 - any),

@@ -80,7 +80,7 @@ impl Shared {
         match answer {
             Answer::Refused(11) => {
                 self.full += 1;
-                self.full_beside_free += u64::from(holders(room).contains(&0));
+                self.full_beside_free += u64::from(holders(room).any(|holder| holder == 0));
             }
             Answer::Refused(15) => self.no_party += 1,
             Answer::Refused(16) => self.broken_promise += 1,

@@ -236,9 +236,9 @@ fn is_bad_rate(rate: f64) -> bool {
     rate.is_nan() || rate.is_infinite() || rate < 2f64.powi(-900)
 }
 
-/// Where the holders' words and the directory entries begin.
+/// Where the two words of holders' bits and the directory entries begin.
 pub const HOLDERS: usize = 3;
-pub const HEADER: usize = HOLDERS + 64;
+pub const HEADER: usize = HOLDERS + 2;
 pub const ENTRY: usize = 6;
 
 /// Whether the lengths are right.
@@ -247,31 +247,36 @@ pub fn is_sized(room: &[u64]) -> bool {
         return false;
     };
     let is_small = (1..=64).contains(slots) && (1..=512).contains(ring);
-    is_small && room.len() as u64 == 67 + slots * (6 + 7 + 3 * ring)
+    is_small && room.len() as u64 == 5 + slots * (6 + 7 + 3 * ring)
+}
+
+/// Who holds a slot of a room or an entry of a table, by its two bits: 0 nobody, 1 and 2 a party, 3 neither.
+pub fn holder(words: &[u64], at: usize) -> u64 {
+    let bit = |word: u64| word / 2u64.pow(at as u32) % 2;
+    bit(words[HOLDERS]) + 2 * bit(words[HOLDERS + 1])
+}
+
+/// The slot, or the entry, gets this holder; the other bits stay.
+pub fn set_holder(words: &mut [u64], at: usize, holder: u64) {
+    for (word, bit) in [(HOLDERS, holder % 2), (HOLDERS + 1, holder / 2)] {
+        let others = words[word] & !(1 << at);
+        words[word] = others + (bit << at);
+    }
 }
 
 /// Who holds each slot of a room.
-pub fn holders(room: &[u64]) -> &[u64] {
-    &room[HOLDERS..][..room[0] as usize]
+pub fn holders(room: &[u64]) -> impl Iterator<Item = u64> {
+    (0..room[0] as usize).map(|at| holder(room, at))
 }
 
 /// The slots of a room that are in use.
 pub fn used(room: &[u64]) -> impl Iterator<Item = usize> {
-    (0..holders(room).len()).filter(|at| holders(room)[*at] != 0)
-}
-
-/// The word of the slots that a party holds.
-pub fn mark(party: u64) -> u64 {
-    match party {
-        1 => 1,
-        2 => 128,
-        party => unreachable!("{party} holds no slot"),
-    }
+    (0..room[0] as usize).filter(|at| holder(room, *at) != 0)
 }
 
 /// How many slots the first party holds, and the second.
 pub fn held(room: &[u64]) -> (u64, u64) {
-    let of = |party| holders(room).iter().filter(|word| **word == mark(party)).count() as u64;
+    let of = |party| holders(room).filter(|holder| *holder == party).count() as u64;
     (of(1), of(2))
 }
 
@@ -287,7 +292,7 @@ pub fn find(room: &[u64], party: u64, key: &[u8]) -> Option<usize> {
         entry[1] == key.len() as u64 && own == key && rest.iter().all(|byte| *byte == 0)
     };
     let slots = 0..room[0] as usize;
-    slots.filter(|at| holders(room)[*at] == mark(party)).find(has_key)
+    slots.filter(|at| holder(room, *at) == party).find(has_key)
 }
 
 /// Whether promises together pass the room's slots, or a party holds more than its own.
@@ -358,7 +363,7 @@ fn is_unsound(settings: &Settings, kind: Kind, room: &[u64], call: Call) -> bool
         return true;
     }
     // A slot in use that is neither party's.
-    if holders(room).iter().any(|word| ![0, mark(1), mark(2)].contains(word)) {
+    if holders(room).any(|holder| holder == 3) {
         return true;
     }
     let sound = |at: usize| is_sound(kind, settings, room, at);

@@ -4,7 +4,7 @@ use twin::calls::Rooms;
 use twin::room::words_of;
 use twin::rules::{Kind, Settings};
 
-use crate::expected::{ENTRY, HEADER, HOLDERS, mark};
+use crate::expected::{ENTRY, HEADER, HOLDERS, set_holder};
 use crate::random::{Dice, rate};
 use crate::state::Key;
 
@@ -149,7 +149,7 @@ fn sound_room(
         };
         // A free slot may show any use.
         room[entry] = if uses == 0 { dice.below(5) } else { uses };
-        room[HOLDERS + at] = if uses == 0 { 0 } else { mark(key.party) };
+        set_holder(&mut room, at, if uses == 0 { 0 } else { key.party });
         room[entry + 1..entry + 6].copy_from_slice(&packed(&key.bytes));
         let body = places.body(at);
         let body = &mut room[body..][..places.size()];
@@ -228,16 +228,53 @@ fn changed(dice: &mut Dice, room: &[u64], at: usize) -> u64 {
     }
 }
 
-/// Words that a holder's may be: of nobody, of a party, of neither.
-pub const HOLDER_WORDS: [u64; 14] =
-    [0, 1, 128, 2, 3, 64, 127, 129, 130, 255, 256, 1 << 63, (1 << 63) + 1, u64::MAX];
+/// What a word of holders' bits, party 1's or party 2's, is changed to: one bit other, of each slot that there is and of some that there are
+/// not; no bit or all, of the slots that there are, of the others, of both; the other party's word, or what it leaves; the bits moved; or
+/// numbers that other words may be.
+pub fn holder_words(words: &[u64], at: usize, slots: usize) -> Vec<u64> {
+    let (old, other) = (words[at], words[2 * HOLDERS + 1 - at]);
+    let all = u64::MAX >> (64 - slots);
+    let mut values = vec![
+        0,
+        all,
+        !all,
+        u64::MAX,
+        other,
+        !other,
+        old & other,
+        old | other,
+        old ^ other,
+        !old,
+        old ^ all,
+        old ^ !all,
+        old << 1,
+        old >> 1,
+        old.rotate_left(32),
+        old.wrapping_add(1),
+        old.wrapping_sub(1),
+        1,
+        2,
+        128,
+        TOP,
+        1f64.to_bits(),
+    ];
+    values.extend((0..slots).chain([slots, 31, 32, 62, 63]).map(|at| old ^ 1 << at.min(63)));
+    values.retain(|value| *value != old);
+    values.sort_unstable();
+    values.dedup();
+    values
+}
 
-/// The holder's word of a slot that the room has, or has not, becomes another.
+/// A slot that the room has, or has not, gets another holder, or neither party; or of one of the two words one bit is other, or all are.
 fn damage_holder(dice: &mut Dice, room: &mut [u64]) {
     let slots = if dice.once_in(4) { 64 } else { room[0] };
-    let at = HOLDERS + dice.below(slots) as usize;
-    let (likely, any) = (dice.pick(&HOLDER_WORDS), dice.any());
-    room[at] = dice.pick(&[likely, likely, room[at] ^ (1 << (any % 64)), any]);
+    let (slot, at) = (dice.below(slots) as usize, HOLDERS + dice.below(2) as usize);
+    match dice.below(6) {
+        0..=2 => set_holder(room, slot, dice.pick(&[0, 1, 2, 3, 3, 3])),
+        3 => room[at] ^= 1 << slot,
+        4 => room[at] = dice.pick(&holder_words(room, at, room[0] as usize)),
+        _ => room[at] = dice.any(),
+    }
 }
 
 /// One word changed to a value at some boundary, a time that falls, or one word more or less.

@@ -4,7 +4,7 @@
 use twin::room::{Bucket, words_of};
 use twin::rules::{Kind, Settings};
 
-use crate::expected::{ENTRY, HEADER, HOLDERS, mark, ticks};
+use crate::expected::{ENTRY, HEADER, HOLDERS, set_holder, ticks};
 use crate::loaded::limit;
 use crate::random::Dice;
 
@@ -276,7 +276,7 @@ impl Long {
         let mut words: Vec<u64> = (0..words_of(slots, self.ring)).map(|_| dice.any()).collect();
         words[..HOLDERS].copy_from_slice(&[slots as u64, self.ring as u64, self.last]);
         for slot in 0..slots {
-            words[HOLDERS + slot] = mark(1 + dice.below(2));
+            set_holder(&mut words, slot, 1 + dice.below(2));
             let key = if slot == own { KEY[0] } else { b'b' };
             let uses = if kind == Kind::Suppressed && dice.once_in(3) { 3 } else { 1 };
             words[HEADER + ENTRY * slot..][..ENTRY].copy_from_slice(&[

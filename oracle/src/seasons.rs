@@ -11,7 +11,7 @@ use twin::set::Wanted;
 
 use crate::callers::Callers;
 use crate::compare::clock_word;
-use crate::expected::{ENTRY, HEADER, HOLDERS};
+use crate::expected::{ENTRY, HEADER, set_holder};
 use crate::loaded::{damage, packed, sound_rooms};
 use crate::random::{
     Dice, LONG_KEY, Source, bad_settings, first_reading, key_pool, rate, settings, slow_rate,
@@ -109,9 +109,11 @@ fn loaded(dice: &mut Dice, controllers: &[Key]) -> Vec<u64> {
     let many = controllers.len() as u64;
     let any = dice.below(many + 1);
     let known = dice.pick(&[any, many, many - 1]).min(MOST as u64) as usize;
+    table[..3].copy_from_slice(&[known as u64, 0, 0]);
     // Nobody holds an entry that is in use.
-    table[..HOLDERS + known].fill(0);
-    table[0] = known as u64;
+    for at in 0..known {
+        set_holder(&mut table, at, 0);
+    }
     let mut unused: Vec<&Key> = controllers.iter().collect();
     for (at, entry) in table[HEADER..].chunks_mut(ENTRY).enumerate() {
         // A free entry may show a controller that another one has.

@@ -6,14 +6,14 @@ use twin::gateway::Shot;
 use twin::parties::Caller;
 use twin::rules::Settings;
 
-use crate::expected::{expected, settings_fault};
+use crate::expected::{HEADER, expected, holder, set_holder, settings_fault};
 use crate::loaded::packed;
 use crate::rate_zero;
 use crate::shots::Memory;
 
 const ENTRY: usize = 6;
 const MOST: u64 = 64;
-const WORDS: usize = 3 + 64 + 64 * ENTRY;
+const WORDS: usize = 5 + 64 * ENTRY;
 const NUMBERS: u64 = 1 << 32;
 
 /// What a table says of a controller.
@@ -23,13 +23,12 @@ enum Says {
     New { at: usize },
 }
 
-/// The entries of a table that are in use, each with its holder's word, if it has the length and the header of one.
+/// The entries of a table that are in use, each with its holder, if it has the length and the header of one.
 fn entries(table: &[u64]) -> Option<impl Iterator<Item = (u64, &[u64])>> {
     match table {
         [known @ 0..=MOST, 0, 0, ..] if table.len() == WORDS => {
-            let (holders, entries) = table[3..].split_at(MOST as usize);
-            let all = holders.iter().copied().zip(entries.chunks(ENTRY));
-            Some(all.take(*known as usize))
+            let all = table[HEADER..].chunks(ENTRY).enumerate();
+            Some(all.map(|(at, entry)| (holder(table, at), entry)).take(*known as usize))
         }
         _ => None,
     }
@@ -118,11 +117,11 @@ fn shot(
     };
     let foreseen = limiter(settings, memory, reading, caller, shot);
     if is_admitted(foreseen.answer) {
-        let (header, entries) = memory.table.split_at_mut(3 + MOST as usize);
-        entries[ENTRY * at] = number;
-        entries[ENTRY * at + 1..][..5].copy_from_slice(&packed(controller));
-        header[3 + at] = 0;
-        header[0] = header[0].max(at as u64 + 1);
+        let table = &mut memory.table;
+        set_holder(table, at, 0);
+        table[HEADER + ENTRY * at] = number;
+        table[HEADER + ENTRY * at + 1..][..5].copy_from_slice(&packed(controller));
+        table[0] = table[0].max(at as u64 + 1);
     }
     foreseen
 }

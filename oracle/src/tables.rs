@@ -5,8 +5,8 @@ use twin::calls::Asked;
 use twin::gateway::Shot;
 use twin::rules::{Kind, Settings};
 
-use crate::expected::{ENTRY, HEADER, HOLDERS};
-use crate::loaded::{HOLDER_WORDS, damage};
+use crate::expected::{ENTRY, HEADER, HOLDERS, holder, set_holder};
+use crate::loaded::{damage, holder_words};
 use crate::random::{Dice, bad_rate, bad_settings, rate};
 use crate::seasons::{Season, extreme_number, played};
 use crate::shots::{ALLOWED, DONE, HELD, Memory, NO, Shots, YES};
@@ -136,8 +136,12 @@ impl Scene<'_> {
     }
 }
 
-/// What a word of a table is changed to.
-fn values(old: u64) -> Vec<u64> {
+/// What a word of a table is changed to; one of holders' bits to other bits.
+fn values(table: &[u64], at: usize) -> Vec<u64> {
+    if (HOLDERS..HEADER).contains(&at) {
+        return holder_words(table, at, table[0].clamp(1, 64) as usize);
+    }
+    let old = table[at];
     let mut values = vec![
         0,
         1,
@@ -172,27 +176,36 @@ fn entries(dice: &mut Dice, table: &[u64]) -> Vec<usize> {
     }
 }
 
-/// One word changed, in the header and in entries, to each value; and that of an entry's holder.
+/// One word changed, in the header and in entries, to each value.
 fn one_word(scene: &mut Scene, good: &[u64]) {
     let entries = entries(scene.dice, good);
     let words = |entry: &usize| {
         let start = HEADER + ENTRY * entry;
-        [HOLDERS + entry].into_iter().chain(start..start + ENTRY)
+        start..start + ENTRY
     };
     let mut table = good.to_vec();
-    for at in (0..HOLDERS).chain(entries.iter().flat_map(words)) {
-        let values =
-            if (HOLDERS..HEADER).contains(&at) { HOLDER_WORDS.into() } else { values(good[at]) };
-        for value in values {
+    for at in (0..HEADER).chain(entries.iter().flat_map(words)) {
+        for value in values(good, at) {
             table[at] = value;
             let entry = match at {
-                0..HOLDERS => scene.dice.pick(&entries),
-                HOLDERS..HEADER => at - HOLDERS,
+                0..HEADER => scene.dice.pick(&entries),
                 _ => (at - HEADER) / ENTRY,
             };
             scene.try_entry(good, &table, entry);
         }
         table[at] = good[at];
+    }
+}
+
+/// One entry's holder changed, to each other; some four times.
+fn one_holder(scene: &mut Scene, good: &[u64]) {
+    for entry in entries(scene.dice, good) {
+        let others = (0..4).filter(|other| *other != holder(good, entry));
+        for other in others.cycle().take(12) {
+            let mut table = good.to_vec();
+            set_holder(&mut table, entry, other);
+            scene.try_entry(good, &table, entry);
+        }
     }
 }
 
@@ -205,11 +218,14 @@ fn more_words(scene: &mut Scene, good: &[u64]) {
         for _ in 0..2 + scene.dice.below(2) {
             let entry = if scene.dice.once_in(2) { own } else { scene.dice.below(known) as usize };
             let at = match scene.dice.below(8) {
-                0 | 1 => scene.dice.below(HOLDERS as u64) as usize,
-                2 => HOLDERS + entry,
+                0 | 1 => scene.dice.below(HEADER as u64) as usize,
+                2 => {
+                    set_holder(&mut table, entry, scene.dice.below(4));
+                    continue;
+                }
                 _ => HEADER + ENTRY * entry + scene.dice.below(ENTRY as u64) as usize,
             };
-            table[at] = scene.dice.pick(&values(good[at]));
+            table[at] = scene.dice.pick(&values(good, at));
         }
         scene.try_entry(good, &table, own);
     }
@@ -230,7 +246,7 @@ fn twice(scene: &mut Scene, good: &[u64]) {
         // Of the two one that is held has no controller's key.
         if scene.dice.once_in(4) {
             let entry = scene.dice.pick(&[own, other]);
-            table[HOLDERS + entry] = scene.dice.pick(&HOLDER_WORDS);
+            set_holder(&mut table, entry, scene.dice.below(4));
         }
         scene.try_entry(good, &table, own);
     }
@@ -239,9 +255,9 @@ fn twice(scene: &mut Scene, good: &[u64]) {
 /// Other lengths under the same words, a room's words, and others.
 fn lengths(scene: &mut Scene, good: &[u64]) {
     let room = scene.season.memory.rooms.suppressed.clone();
-    let longer: Vec<u64> = good.iter().copied().chain([0; 6]).collect();
+    let longer: Vec<u64> = good.iter().copied().chain([0; 62]).collect();
     let own = shown(&good[HEADER..][..ENTRY]);
-    for length in [0, 1, 2, 3, 9, 67, 387, 445, 450, 452, 457] {
+    for length in [0, 1, 2, 3, 4, 5, 9, 67, 383, 387, 388, 390, 395, 451] {
         scene.try_all(&longer[..length], &own, good[HEADER]);
     }
     scene.try_all(&room, &own, good[HEADER]);
@@ -279,6 +295,7 @@ pub fn run(shots: &mut Shots, tables: u64, seed: u64) {
         let mut scene = Scene { dice: &mut dice, shots, season: &season };
         let good = &season.memory.table;
         one_word(&mut scene, good);
+        one_holder(&mut scene, good);
         more_words(&mut scene, good);
         twice(&mut scene, good);
         lengths(&mut scene, good);

@@ -9,7 +9,7 @@ use twin::rules::{ClockMode, Comparator, Kind, Mode, Settings};
 use twin::set::Wanted;
 
 use crate::callers::{NO_PARTIES, Promise};
-use crate::expected::{ENTRY, HEADER, HOLDERS, has_key, kind, mark, ticks};
+use crate::expected::{ENTRY, HEADER, HOLDERS, has_key, kind, set_holder, ticks};
 use crate::random::{Dice, bad_rate, nameless};
 use crate::rate_zero;
 use crate::trial::Trials;
@@ -21,9 +21,6 @@ const TIMES: u64 = 3;
 
 /// The order in which refusals are judged.
 pub const ORDER: [u64; 14] = [1, 2, 3, 4, 5, 6, 7, 15, 16, 8, 9, 10, 11, 12];
-
-/// Words that are no holder's.
-const STRANGE: [u64; 8] = [2, 3, 127, 129, 130, 256, 1 << 63, u64::MAX];
 
 /// S is 0 and H over 2^53, so that one count can meet 10 and ask for a factor.
 const SETTINGS: Settings = Settings {
@@ -172,7 +169,7 @@ pub fn room(clock: ClockMode, kind: Kind, faults: Faults, shares: Shares) -> Vec
     let buckets = if faults.has(12) { 2 } else { 1 };
     let slots = [(b'a', shares.party), (b'b', shares.second)];
     for (slot, (name, party)) in slots.into_iter().enumerate() {
-        room[HOLDERS + slot] = mark(party);
+        set_holder(&mut room, slot, party);
         room[HEADER + ENTRY * slot..][..3].copy_from_slice(&[1, 1, u64::from(name)]);
         let start = body_start(&room, slot);
         let body = &mut room[start..][..13];
@@ -250,9 +247,12 @@ pub fn spoil(dice: &mut Dice, room: &mut Vec<u64>, unfit: Unfit) {
         (Unfit::Slot, 1) => room[start] = 0,
         (Unfit::Slot, 2) => room[start + 1] += 1,
         (Unfit::Slot, _) => room[start + 3] = 2,
-        (Unfit::Holder, _) => {
-            room[HOLDERS + dice.below(slots) as usize] = dice.pick(&STRANGE);
+        (Unfit::Holder, 0) => room[HOLDERS..HEADER].fill(u64::MAX),
+        (Unfit::Holder, 1) => {
+            let either = room[HOLDERS] | room[HOLDERS + 1];
+            room[HOLDERS..HEADER].fill(either);
         }
+        (Unfit::Holder, _) => set_holder(room, dice.below(slots) as usize, 3),
     }
 }
 

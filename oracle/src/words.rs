@@ -3,7 +3,7 @@
 use twin::calls::{Call, Op, Rooms};
 use twin::rules::Kind;
 
-use crate::expected::{ENTRY, HEADER, HOLDERS, find, kind, mark};
+use crate::expected::{ENTRY, HEADER, find, holder, kind, set_holder};
 
 const FIXED: usize = 7;
 
@@ -18,7 +18,7 @@ pub fn are_right(before: &Rooms, after: &Rooms, reading: u64, call: Call) -> boo
         let is_header = before.len() == after.len() && before[..2] == after[..2];
         let is_rest = is_beside(before, after)
             && match call.op {
-                Op::Clear { .. } => is_cleared(before, after, mark(call.caller.party)),
+                Op::Clear { .. } => is_cleared(before, after, call.caller.party),
                 Op::Cleanup { .. } | Op::CleanupBoth { .. } => is_cleaned(before, after),
                 _ => is_framed(before, after, call, reading),
             };
@@ -39,16 +39,15 @@ fn slot(room: &[u64], at: usize) -> Slot<'_> {
     let size = FIXED + 3 * ring;
     let start = HEADER + ENTRY * slots + size * at;
     Slot {
-        holder: room[HOLDERS + at],
+        holder: holder(room, at),
         entry: &room[HEADER + ENTRY * at..][..ENTRY],
         body: &room[start..start + size],
     }
 }
 
-/// The holders' words of slots that the room does not have stay.
+/// The holders' bits of slots that the room does not have stay.
 fn is_beside(before: &[u64], after: &[u64]) -> bool {
-    let end = HOLDERS + before[0] as usize;
-    before[end..HEADER] == after[end..HEADER]
+    (before[0] as usize..64).all(|at| holder(before, at) == holder(after, at))
 }
 
 /// Other slots keep their words; a new slot is the lowest free one.
@@ -59,12 +58,12 @@ fn is_framed(before: &[u64], after: &[u64], call: Call, reading: u64) -> bool {
     let own = find(before, party, call.key).or(lowest_free);
     (0..slots).all(|at| {
         let (old, new) = (slot(before, at), slot(after, at));
-        old == new || (Some(at) == own && is_own_change(old, new, reading, mark(party)))
+        old == new || (Some(at) == own && is_own_change(old, new, reading, party))
     })
 }
 
 /// What the words of the key's own slot may do, by what the slot held before and holds after.
-fn is_own_change(old: Slot, new: Slot, reading: u64, mark: u64) -> bool {
+fn is_own_change(old: Slot, new: Slot, reading: u64, party: u64) -> bool {
     if new.holder == 0 {
         return old.entry == new.entry && old.body == new.body;
     }
@@ -87,7 +86,7 @@ fn is_own_change(old: Slot, new: Slot, reading: u64, mark: u64) -> bool {
         _ if old.body[5..7] != new.body[5..7] => is_blank,
         _ => is_blank || old.body[..5] == new.body[..5],
     };
-    new.holder == mark
+    new.holder == party
         && changed <= 1
         && (!is_new_series || head == 0)
         && (keeps_factor || is_cached_now)
@@ -96,10 +95,10 @@ fn is_own_change(old: Slot, new: Slot, reading: u64, mark: u64) -> bool {
 }
 
 /// A clear takes the caller's slots from it, and no word else changes.
-fn is_cleared(before: &[u64], after: &[u64], mark: u64) -> bool {
+fn is_cleared(before: &[u64], after: &[u64], party: u64) -> bool {
     let (slots, mut due) = (before[0] as usize, before.to_vec());
-    for holder in due[HOLDERS..][..slots].iter_mut().filter(|holder| **holder == mark) {
-        *holder = 0;
+    for at in (0..slots).filter(|at| holder(before, *at) == party) {
+        set_holder(&mut due, at, 0);
     }
     due[2] = after[2];
     due == after

@@ -1,8 +1,8 @@
 //! The gateway: a shot is known by its controller and its number. Its table has a room's header and directory, with nothing behind: word 0 says
 //! how many controllers it knows, nobody holds an entry, and an entry has the last admitted number where a room's has its use.
 
-use crate::parties::{Caller, NOBODY};
-use crate::room::{ENTRY, HEADER, HOLDERS, LENGTH, MOST_SLOTS, entry_start, packed};
+use crate::parties::Caller;
+use crate::room::{ENTRY, HEADER, LENGTH, MOST_SLOTS, entry_start, free, is_free, packed};
 use crate::rules::{Decision, Refusal, Settings, refuse_if};
 use crate::suppressed;
 
@@ -41,7 +41,7 @@ pub fn empty_table() -> Vec<u64> {
 
 /// Whether the words have a table's length and the first words of its header.
 fn is_table(table: &[u64]) -> bool {
-    table.len() == TABLE && table[0] <= MOST as u64 && table[1..HOLDERS] == [0, 0]
+    table.len() == TABLE && table[0] <= MOST as u64 && table[1..=2] == [0, 0]
 }
 
 fn is_number(number: u64) -> bool {
@@ -65,9 +65,8 @@ fn place(table: &[u64], controller: &[u8]) -> Option<Place> {
         return Some(new);
     }
     let wanted = packed(controller);
-    let mut own = (0..known).filter(|at| {
-        table[entry_start(*at)..][LENGTH..ENTRY] == wanted && table[HOLDERS + at] == NOBODY
-    });
+    let mut own = (0..known)
+        .filter(|at| table[entry_start(*at)..][LENGTH..ENTRY] == wanted && is_free(table, *at));
     let Some(at) = own.next() else {
         return Some(new);
     };
@@ -78,7 +77,7 @@ fn place(table: &[u64], controller: &[u8]) -> Option<Place> {
 
 /// The entry gets the number, a new one behind the others, where any words may stand.
 fn remember(table: &mut [u64], at: usize, controller: &[u8], number: u64) {
-    table[HOLDERS + at] = NOBODY;
+    free(table, at);
     let entry = &mut table[entry_start(at)..][..ENTRY];
     entry[NUMBER] = number;
     entry[LENGTH..].copy_from_slice(&packed(controller));

@@ -4,11 +4,6 @@ use crate::rules::{Refusal, refuse_if};
 #[cfg(trusting)]
 pub use crate::trusting::held;
 
-/// A holder's word: nobody's, party 1's, party 2's. Any other word is neither party's.
-pub const NOBODY: u64 = 0;
-const FIRST: u64 = 1;
-const SECOND: u64 = 128;
-
 /// The party that has a room to itself.
 pub const SOLE: u64 = 1;
 
@@ -21,15 +16,6 @@ pub struct Caller {
     pub first: u64,
     /// What party 2 is promised.
     pub second: u64,
-}
-
-/// The word of the slots that a party holds; none for a party other than 1 and 2.
-pub fn mark(party: u64) -> Option<u64> {
-    match party {
-        1 => Some(FIRST),
-        2 => Some(SECOND),
-        _ => None,
-    }
 }
 
 impl Caller {
@@ -57,7 +43,7 @@ impl Caller {
 
 /// Refusal 15.
 pub fn judge_party(party: u64) -> Result<(), Refusal> {
-    refuse_if(mark(party).is_none(), 15)
+    refuse_if(!matches!(party, 1 | 2), 15)
 }
 
 /// How many slots each party holds.
@@ -67,23 +53,58 @@ pub struct Held {
     second: u64,
 }
 
-impl Held {
-    /// From the sum of the marks: party 1 holds at most 64 slots, which is less than party 2's mark.
-    pub fn of_sum(sum: u64) -> Self {
-        Held { first: sum % SECOND, second: sum / SECOND }
+/// Who holds which of a room's slots: of each party a word, whose bit s is set where it holds slot s. A slot with both bits is neither
+/// party's, one with none is free.
+#[derive(Clone, Copy, Debug)]
+pub struct Holders {
+    /// All slots that the room has; no other bit is set here or below.
+    pub all: u64,
+    pub first: u64,
+    pub second: u64,
+}
+
+impl Holders {
+    /// The slots that a party holds; none for a party other than 1 and 2.
+    pub fn of(self, party: u64) -> u64 {
+        match party {
+            1 => self.first & !self.second,
+            2 => self.second & !self.first,
+            _ => 0,
+        }
+    }
+
+    pub fn used(self) -> u64 {
+        self.first | self.second
+    }
+
+    pub fn free(self) -> u64 {
+        self.all & !self.used()
+    }
+
+    pub fn count(self) -> Held {
+        let Holders { first, second, .. } = self;
+        Held { first: first.count_ones().into(), second: second.count_ones().into() }
     }
 }
 
-/// What the parties hold, by one look at every holder's word; none where a slot in use is neither party's.
+/// What the parties hold; none where a slot in use is neither party's.
 #[cfg(not(trusting))]
-pub fn held(holders: &[u64]) -> Option<Held> {
-    let (mut sum, mut bits, mut twice) = (0u64, 0, 0);
-    for word in holders {
-        sum = sum.wrapping_add(*word);
-        bits |= word;
-        // A mark has one of two bits; a word may not have both.
-        twice |= word & (word >> 7);
+pub fn held(holders: Holders) -> Option<Held> {
+    (holders.first & holders.second == 0).then(|| holders.count())
+}
+
+/// The slots whose bits are set, the lowest first.
+pub struct Slots(pub u64);
+
+impl Iterator for Slots {
+    type Item = usize;
+
+    fn next(&mut self) -> Option<usize> {
+        let Slots(bits) = *self;
+        if bits == 0 {
+            return None;
+        }
+        self.0 = bits & (bits - 1);
+        Some(bits.trailing_zeros() as usize)
     }
-    let is_marks = bits & !(FIRST | SECOND) == 0 && twice & FIRST == 0;
-    is_marks.then(|| Held::of_sum(sum))
 }

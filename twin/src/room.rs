@@ -1,15 +1,17 @@
 //! The lent room: where its words lie, how a slot is found and judged, and the changes of docs/WORDS.md.
 
-use crate::parties::{Caller, Held, NOBODY, held, mark};
+use crate::parties::{Caller, Held, Holders, Slots, held};
 use crate::rules::{Kind, Refusal, Settings, TOP, cut, refuse_if};
 #[cfg(trusting)]
 pub use crate::trusting::scan_slot;
 
 const LAST: usize = 2;
-pub const HOLDERS: usize = 3;
+const FIRSTS: usize = 3;
+const SECONDS: usize = 4;
+/// How many words stand before the entries.
+pub const HEADER: usize = 5;
+/// A slot has a bit in each party's word.
 pub const MOST_SLOTS: usize = 64;
-/// How many words stand before the entries: every room has a holder's word for as many slots as there can be.
-pub const HEADER: usize = HOLDERS + MOST_SLOTS;
 pub const ENTRY: usize = 6;
 const FIXED: usize = 7;
 const CELL: usize = 3;
@@ -54,14 +56,38 @@ pub fn slots(room: &[u64]) -> usize {
     room[0] as usize
 }
 
-/// Who holds each of the room's slots.
-pub fn holders(room: &[u64]) -> &[u64] {
-    &room[HOLDERS..][..slots(room)]
+/// Who holds the room's slots; bits of slots that it does not have are not looked at.
+pub fn holders(room: &[u64]) -> Holders {
+    let all = u64::MAX >> (MOST_SLOTS - slots(room));
+    Holders { all, first: room[FIRSTS] & all, second: room[SECONDS] & all }
 }
 
-pub fn holders_mut(room: &mut [u64]) -> &mut [u64] {
-    let slots = slots(room);
-    &mut room[HOLDERS..][..slots]
+/// The slots that are in use.
+pub fn used(room: &[u64]) -> Slots {
+    Slots(holders(room).used())
+}
+
+/// Whether nobody holds the slot.
+pub fn is_free(room: &[u64], at: usize) -> bool {
+    (room[FIRSTS] | room[SECONDS]) >> at & 1 == 0
+}
+
+/// Nobody holds the slots of these bits any more.
+pub fn release(room: &mut [u64], slots: u64) {
+    room[FIRSTS] &= !slots;
+    room[SECONDS] &= !slots;
+}
+
+/// Nobody holds the slot any more; its other words stay.
+pub fn free(room: &mut [u64], at: usize) {
+    release(room, 1 << at);
+}
+
+/// The party holds the slot, and the other one does not.
+fn hold(room: &mut [u64], at: usize, party: u64) {
+    free(room, at);
+    let own = if party == 1 { FIRSTS } else { SECONDS };
+    room[own] |= 1 << at;
 }
 
 fn ring(room: &[u64]) -> usize {
@@ -106,19 +132,17 @@ fn is_packed(entry: &[u64]) -> bool {
 
 /// The lowest slot that the party holds with this key.
 pub fn find(room: &[u64], party: u64, key: &[u8]) -> Option<usize> {
-    let mark = mark(party)?;
     if key.len() > 32 {
         return None;
     }
     let wanted = packed(key);
     let (entries, _) = room[HEADER..].as_chunks::<ENTRY>();
-    let mut slots = holders(room).iter().zip(entries);
-    slots.position(|(holder, entry)| *holder == mark && entry[LENGTH..] == wanted)
+    Slots(holders(room).of(party)).find(|at| entries[*at][LENGTH..] == wanted)
 }
 
 /// The lowest free slot. There is one wherever a party holds less than it is promised.
 fn vacant(room: &[u64]) -> usize {
-    holders(room).iter().position(|holder| *holder == NOBODY).expect("a slot that is promised")
+    Slots(holders(room).free()).next().expect("a slot that is promised")
 }
 
 /// One bucket of a ring.
@@ -130,11 +154,10 @@ pub struct Bucket {
     pub time: u64,
 }
 
-/// A slot's words, to read: its holder's, its directory entry, the fixed words of its body, and of the ring's cells all counts,
-/// then all declined counts, then all times.
+/// A slot's words, to read: its directory entry, the fixed words of its body, and of the ring's cells all counts, then all declined
+/// counts, then all times.
 #[derive(Clone, Copy)]
 pub struct Slot<'a> {
-    holder: u64,
     entry: &'a [u64],
     fixed: &'a [u64],
     counts: &'a [u64],
@@ -143,12 +166,11 @@ pub struct Slot<'a> {
 }
 
 pub fn slot(room: &[u64], at: usize) -> Slot<'_> {
-    let holder = room[HOLDERS + at];
     let entry = &room[entry_start(at)..][..ENTRY];
     let (fixed, cells) = room[body_start(room, at)..].split_at(FIXED);
     let (counts, cells) = cells.split_at(ring(room));
     let (declines, cells) = cells.split_at(ring(room));
-    Slot { holder, entry, fixed, counts, declines, times: &cells[..ring(room)] }
+    Slot { entry, fixed, counts, declines, times: &cells[..ring(room)] }
 }
 
 fn wrap(index: u64, ring: u64) -> u64 {
@@ -156,10 +178,6 @@ fn wrap(index: u64, ring: u64) -> u64 {
 }
 
 impl<'a> Slot<'a> {
-    pub fn in_use(&self) -> bool {
-        self.holder != NOBODY
-    }
-
     pub fn has_series(&self) -> bool {
         self.entry[USE] & SERIES_BIT != 0
     }
@@ -423,7 +441,6 @@ pub fn judge_key(key: &[u8]) -> Result<(), Refusal> {
 
 /// A slot's words, to change.
 pub struct SlotMut<'a> {
-    holder: &'a mut u64,
     entry: &'a mut [u64],
     fixed: &'a mut [u64],
     counts: &'a mut [u64],
@@ -434,12 +451,11 @@ pub struct SlotMut<'a> {
 pub fn slot_mut(room: &mut [u64], at: usize) -> SlotMut<'_> {
     let (ring, start) = (ring(room), body_start(room, at));
     let (front, bodies) = room.split_at_mut(start);
-    let (header, entries) = front.split_at_mut(HEADER);
-    let (holder, entry) = (&mut header[HOLDERS + at], &mut entries[ENTRY * at..][..ENTRY]);
+    let entry = &mut front[entry_start(at)..][..ENTRY];
     let (fixed, cells) = bodies.split_at_mut(FIXED);
     let (counts, cells) = cells.split_at_mut(ring);
     let (declines, cells) = cells.split_at_mut(ring);
-    SlotMut { holder, entry, fixed, counts, declines, times: &mut cells[..ring] }
+    SlotMut { entry, fixed, counts, declines, times: &mut cells[..ring] }
 }
 
 /// The slot of a call whose share is judged: the key's own, or the lowest free one, taken.
@@ -453,8 +469,9 @@ pub fn own_slot<'a>(
         Some(at) => slot_mut(room, at),
         None => {
             let at = vacant(room);
+            hold(room, at, party);
             let mut slot = slot_mut(room, at);
-            slot.take(mark(party).expect("a party that is judged"), key);
+            slot.take(key);
             slot
         }
     }
@@ -462,18 +479,12 @@ pub fn own_slot<'a>(
 
 impl SlotMut<'_> {
     pub fn read(&self) -> Slot<'_> {
-        let SlotMut { holder, entry, fixed, counts, declines, times } = self;
-        Slot { holder: **holder, entry, fixed, counts, declines, times }
+        let SlotMut { entry, fixed, counts, declines, times } = self;
+        Slot { entry, fixed, counts, declines, times }
     }
 
-    /// Nobody holds the slot any more; its other words stay.
-    pub fn free(&mut self) {
-        *self.holder = NOBODY;
-    }
-
-    /// A free slot gets its holder, its directory entry and fixed words; its cells stay. It holds nothing yet.
-    fn take(&mut self, mark: u64, key: &[u8]) {
-        *self.holder = mark;
+    /// A slot that was free gets its directory entry and fixed words; its cells stay. It has nothing yet.
+    fn take(&mut self, key: &[u8]) {
         self.entry[USE] = 0;
         self.entry[LENGTH..].copy_from_slice(&packed(key));
         self.fixed.fill(0);
@@ -596,14 +607,14 @@ impl SlotMut<'_> {
     pub fn forget(&mut self) {
         self.entry[USE] &= !FACTOR_BIT;
     }
+}
 
-    /// What stays of a slot in use. Where nothing does, nobody holds it any more, and its use stays.
-    pub fn keep(&mut self, series: bool, factor: bool) {
-        if !series && !factor {
-            return self.free();
-        }
-        self.entry[USE] = SERIES_BIT * u64::from(series) + FACTOR_BIT * u64::from(factor);
+/// What stays of a slot in use. Where nothing does, nobody holds it any more, and its use stays.
+pub fn keep(room: &mut [u64], at: usize, series: bool, factor: bool) {
+    if !series && !factor {
+        return free(room, at);
     }
+    room[entry_start(at) + USE] = SERIES_BIT * u64::from(series) + FACTOR_BIT * u64::from(factor);
 }
 
 /// 10 or 12, if an increment meets one once `gone` is out.

@@ -1,7 +1,7 @@
 //! `set_if` and `set_if_preserve_history`, alike in both limiters.
 
 use crate::parties::Caller;
-use crate::room::{Found, Slot, SlotMut, judge, own_slot, slot, slot_mut, store_reading};
+use crate::room::{Found, Slot, SlotMut, free, judge, own_slot, slot, slot_mut, store_reading};
 use crate::rules::{
     Comparator, Kind, Mode, Refusal, SetOutcome, Settings, TOP, judge_rate, refuse_if,
 };
@@ -112,9 +112,10 @@ fn change(
     live: u64,
     reading: u64,
 ) -> Result<(), Refusal> {
-    match found.series(room).map(|at| slot_mut(room, at)) {
-        Some(mut slot) if wanted.count == 0 => slot.free(),
-        Some(mut slot) => {
+    match found.series(room) {
+        Some(at) if wanted.count == 0 => free(room, at),
+        Some(at) => {
+            let mut slot = slot_mut(room, at);
             slot.cut(found.expired);
             slot.set_limit(limit);
             wanted.update(&mut slot, live, reading);

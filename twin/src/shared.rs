@@ -1,9 +1,9 @@
 //! The calls that both limiters have in common; the room's kind tells limits and soundness.
 
-use crate::parties::{Caller, Held, NOBODY, judge_party, mark};
+use crate::parties::{Caller, Held, judge_party};
 use crate::room::{
-    Bucket, Gone, Slot, find, holders_mut, is_room, judge, judge_key, judge_room, judge_slot,
-    last_reading, scan_slot, slot, slot_mut, slots, store_reading,
+    Bucket, Gone, Slot, find, free, holders, is_room, judge, judge_key, judge_room, judge_slot,
+    keep, last_reading, release, scan_slot, slot, slot_mut, slots, store_reading, used,
 };
 use crate::rules::{ClockMode, Kind, Refusal, Settings, judge_rate, refuse_if};
 
@@ -43,9 +43,8 @@ pub fn delete(
 ) -> Result<Option<u64>, Refusal> {
     let found = judge(kind, settings, room, reading, caller, key)?;
     let accepted = found.slot.map(|at| {
-        let mut slot = slot_mut(room, at);
-        let accepted = live_accepted(slot.read(), found.expired);
-        slot.free();
+        let accepted = live_accepted(slot(room, at), found.expired);
+        free(room, at);
         accepted
     });
     store_reading(room, reading);
@@ -68,12 +67,7 @@ pub fn clear(
 ) -> Result<(), Refusal> {
     let held = judge_room(settings, room)?;
     judge_caller(room, reading, caller, held)?;
-    let own = mark(caller.party);
-    for holder in holders_mut(room) {
-        if Some(*holder) == own {
-            *holder = NOBODY;
-        }
-    }
+    release(room, holders(room).of(caller.party));
     store_reading(room, reading);
     Ok(())
 }
@@ -94,9 +88,9 @@ pub fn judge_cleanup(
 ) -> Result<(), Refusal> {
     let shares = judge_room(settings, room)?;
     let last = last_reading(room);
-    let sound = (0..slots(room))
+    let sound = used(room)
         .map(|at| slot(room, at))
-        .all(|slot| !slot.in_use() || scan_slot(kind, settings, slot, last, reading).is_some());
+        .all(|slot| scan_slot(kind, settings, slot, last, reading).is_some());
     refuse_if(!sound, 5)?;
     judge_caller(room, reading, caller, shares)
 }
@@ -109,16 +103,12 @@ fn is_fresh(slot: Slot, clock: ClockMode, reading: u64, stale: u64) -> bool {
 /// The cleanup of a room that is judged, whoever holds its slots. Any stale time may be asked for: ages are divided, since it may be too
 /// great to be multiplied.
 pub fn sweep(clock: ClockMode, room: &mut [u64], reading: u64, stale: u64) {
-    for at in 0..slots(room) {
-        let mut slot = slot_mut(room, at);
-        let stands = slot.read();
-        if !stands.in_use() {
-            continue;
-        }
+    for at in used(room) {
+        let stands = slot(room, at);
         let keeps_series = stands.has_series() && is_fresh(stands, clock, reading, stale);
         let keeps_factor =
             stands.has_factor() && clock.whole(reading - stands.factor_time()) < stale;
-        slot.keep(keeps_series, keeps_factor);
+        keep(room, at, keeps_series, keeps_factor);
     }
     store_reading(room, reading);
 }

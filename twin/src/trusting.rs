@@ -1,13 +1,13 @@
 //! The passes of a twin that trusts its rooms, built with `--cfg trusting`: nothing is judged, and of the ring only the buckets that a
 //! decision needs are read. On sound slots they find what the judging passes find.
 
-use crate::parties::Held;
+use crate::parties::{Held, Holders};
 use crate::room::{Gone, Slot};
 use crate::rules::{Kind, Settings};
 
 /// What the parties hold, for 11 and 16. Stands in for the judging look.
-pub fn held(holders: &[u64]) -> Option<Held> {
-    Some(Held::of_sum(holders.iter().sum()))
+pub fn held(holders: Holders) -> Option<Held> {
+    Some(holders.count())
 }
 
 /// The expired buckets. Stands in for the judging pass.

@@ -136,8 +136,8 @@ mod tests {
     use super::*;
 
     /// An empty room of one slot, with a ring of one bucket.
-    fn made() -> [u64; 83] {
-        let mut room = [7; 83];
+    fn made() -> [u64; 21] {
+        let mut room = [7; 21];
         // SAFETY: the pointer and the length are those of a live slice.
         assert_eq!(unsafe { frostaxle_make(room.as_mut_ptr(), room.len(), 1, 1) }, 0);
         room
@@ -255,7 +255,7 @@ mod tests {
     /// A party other than 1 and 2 is 15, before 16 and 8, and the words stay. The safe types cannot say one.
     #[test]
     fn no_party() {
-        let (mut room, mut table, key) = (made(), [0_u64; 451], b"ctl7".as_ptr());
+        let (mut room, mut table, key) = (made(), [0_u64; 389], b"ctl7".as_ptr());
         let made = (room, table);
         for party in [0, 3, 128, u64::MAX] {
             let mut rows = [[9_u64; 5]; 5];
@@ -285,7 +285,7 @@ mod tests {
         let mut cleanup = |party: u64, first: u64, second: u64| unsafe {
             let (one, other) = (absolute.as_mut_ptr(), suppressed.as_mut_ptr());
             frostaxle_provider_cleanup(
-                10, 100, 100, 1.0, 0, one, 83, other, 83, 0, party, first, 0, second, 0, 0, &mut row,
+                10, 100, 100, 1.0, 0, one, 21, other, 21, 0, party, first, 0, second, 0, 0, &mut row,
             )
         };
         assert_eq!([cleanup(3, 2, 1), cleanup(0, 1, 2), cleanup(3, 1, 1)], [15, 15, 15]);
@@ -295,7 +295,7 @@ mod tests {
     /// A key that is too long goes before the party, and a shot's number before all.
     #[test]
     fn before_the_party() {
-        let (mut room, mut table, name) = (made(), [0_u64; 451], [0_u8; 40]);
+        let (mut room, mut table, name) = (made(), [0_u64; 389], [0_u8; 40]);
         let (at, len) = (room.as_mut_ptr(), room.len());
         let (table_at, table_len, key) = (table.as_mut_ptr(), table.len(), name.as_ptr());
         let mut rows = [[9_u64; 5]; 2];
@@ -310,14 +310,14 @@ mod tests {
         assert_eq!(rows, [[7, 0, 0, 0, 0], [19, 0, 0, 0, 0]]);
     }
 
-    /// Words become an empty table where they are 451, whatever they held; others stay.
+    /// Words become an empty table where they are 389, whatever they held; others stay.
     #[test]
     fn tables() {
-        for len in [0, 1, 387, 450, 451, 452] {
+        for len in [0, 1, 387, 388, 389, 390, 451] {
             let mut words = vec![7_u64; len];
             // SAFETY: the pointer and the length are those of a live slice.
             let number = unsafe { frostaxle_gateway_make_table(words.as_mut_ptr(), words.len()) };
-            let (expected, word) = if len == 451 { (0, 0) } else { (5, 7) };
+            let (expected, word) = if len == 389 { (0, 0) } else { (5, 7) };
             assert_eq!((number, words), (expected, vec![word; len]));
         }
     }

@@ -34,7 +34,7 @@ pub struct Room {
 }
 
 impl Room {
-    /// How many words a room of 1 to 64 slots with rings of 1 to 512 buckets has: 67 + slots * (6 + 7 + 3 * ring).
+    /// How many words a room of 1 to 64 slots with rings of 1 to 512 buckets has: 5 + slots * (6 + 7 + 3 * ring).
     pub fn words_for(slots: u64, ring: u64) -> Option<usize> {
         // SAFETY: takes and gives numbers.
         match unsafe { faces::frostaxle_room_words(slots, ring) } {
@@ -72,7 +72,7 @@ pub struct Table {
 
 impl Table {
     /// How many words a table has.
-    pub const WORDS: usize = 451;
+    pub const WORDS: usize = 389;
 
     /// An empty table: it knows no controller.
     pub fn new() -> Table {

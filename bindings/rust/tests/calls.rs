@@ -43,7 +43,7 @@ fn outcome(matched: bool, previous_total: u64, current_total: u64) -> SetOutcome
 #[test]
 fn lengths() {
     for (slots, ring) in [(1, 1), (8, 128), (64, 512)] {
-        let words = 67 + slots * (6 + 7 + 3 * ring);
+        let words = 5 + slots * (6 + 7 + 3 * ring);
         assert_eq!(Room::words_for(slots, ring), Some(words as usize));
         let room = Room::new(slots, ring).unwrap();
         assert_eq!(room.words().len() as u64, words);
@@ -347,9 +347,9 @@ fn damaged_words() {
     let mut limiter = absolute();
     limiter.inc(0, KEY, 1.0, 3).unwrap();
     let words = limiter.into_room().into_words();
-    // the total of slot 0 stands behind the header, the holders of 64 slots, two directory entries and the limit
+    // the total of slot 0 stands behind the header, two directory entries and the limit
     let mut damaged = words.clone();
-    damaged[3 + 64 + 2 * 6 + 1] += 1;
+    damaged[5 + 2 * 6 + 1] += 1;
     let mut limiter = Absolute::new(Settings::default(), Room::from_words(damaged.clone()));
     assert_eq!(limiter.inc(0, KEY, 1.0, 1), Err(Refusal::BadRoom));
     assert_eq!(limiter.room().words(), &*damaged);

@@ -5,7 +5,7 @@ const CONTROLLER: &[u8] = b"ctl7";
 const MOST: u64 = (1 << 32) - 1;
 
 /// Where a table's entries begin, six words each.
-const ENTRIES: usize = 67;
+const ENTRIES: usize = 5;
 
 /// One shot in 10 s soft, two hard.
 const RATE: f64 = 0.1;
@@ -58,7 +58,7 @@ fn damaged(words: &[u64], at: usize, word: u64) -> Table {
 fn an_empty_table() {
     assert_eq!(Table::new().words(), [0; Table::WORDS]);
     assert_eq!(Table::default(), Table::new());
-    assert_eq!(Table::from_words(vec![0; 451]).into_words(), Table::new().into_words());
+    assert_eq!(Table::from_words(vec![0; 389]).into_words(), Table::new().into_words());
 }
 
 #[test]
@@ -69,7 +69,7 @@ fn the_words_of_a_table() {
     let words = gateway.into_parts().0.into_words();
     assert_eq!(words[..3], [2, 0, 0]);
     // nobody holds an entry
-    assert_eq!(words[3..ENTRIES], [0; 64]);
+    assert_eq!(words[3..ENTRIES], [0; 2]);
     assert_eq!(words[ENTRIES..][..6], [7, 1, u64::from(b'a'), 0, 0, 0]);
     assert_eq!(words[ENTRIES + 6..][..2], [MOST, 32]);
     assert!(words[ENTRIES + 12..].iter().all(|&word| word == 0));
@@ -249,7 +249,7 @@ fn damaged_tables() {
     let words = table.into_words();
     let mut tables = vec![
         Table::from_words(vec![]),
-        Table::from_words(words[..450].to_vec()),
+        Table::from_words(words[..388].to_vec()),
         Table::from_words([&words[..], &[0]].concat()),
     ];
     // too many controllers; a room's ring, or its reading

@@ -12,9 +12,10 @@ const PROMISES: Promises = Promises { first: 2, second: 1 };
 
 const BOTH: [Party; 2] = [Party::First, Party::Second];
 
-/// Where the words stand that tell who holds a slot, and where the directory begins.
-const HOLDERS: usize = 3;
-const ENTRIES: usize = 67;
+/// Where the two words stand that tell who holds which slots, and where the directory begins.
+const FIRSTS: usize = 3;
+const SECONDS: usize = 4;
+const ENTRIES: usize = 5;
 
 fn promises(first: u64, second: u64) -> Promises {
     Promises { first, second }
@@ -47,8 +48,10 @@ fn counted() -> (Absolute, Suppressed) {
     (one, other)
 }
 
-fn holders(room: &Room) -> &[u64] {
-    &room.words()[HOLDERS..][..3]
+/// Who holds each of the three slots, by its bit in each of the two words: 0 nobody, 1 the first party, 2 the second, 3 neither.
+fn holders(room: &Room) -> [u64; 3] {
+    let (firsts, seconds) = (room.words()[FIRSTS], room.words()[SECONDS]);
+    [0, 1, 2].map(|slot| (firsts >> slot & 1) + 2 * (seconds >> slot & 1))
 }
 
 /// A room with another word in this place.
@@ -128,19 +131,19 @@ fn the_same_bytes_are_two_keys() {
     assert_eq!((other.get(0, KEY).unwrap().total, other.party(Party::Second).delete(0, KEY)), (3, Ok(None)));
 }
 
-/// A slot is its holder's: 1 of the first party, 128 of the second, 0 of nobody. What frees it writes nothing else.
+/// A slot is its holder's, who has its bit: bit 0 of a word is slot 0's. What frees it writes nothing else.
 #[test]
 fn the_words_of_a_room() {
     let (mut one, _) = counted();
-    assert_eq!(holders(one.room()), [1, 128, 0]);
+    assert_eq!((one.room().words()[FIRSTS], one.room().words()[SECONDS]), (0b001, 0b010));
     let entry = [1, 4, u64::from_le_bytes(*b"ctl7\0\0\0\0"), 0, 0, 0];
     assert_eq!(one.room().words()[ENTRIES..][..12], [entry, entry].concat());
     let stood = one.room().clone();
     one.delete(0, KEY).unwrap();
-    assert_eq!(one.room(), &changed(&stood, HOLDERS, 0));
+    assert_eq!(one.room(), &changed(&stood, FIRSTS, 0));
     // the lowest free slot is taken
     one.inc(0, b"boat", 1.0, 1).unwrap();
-    assert_eq!(holders(one.room()), [1, 128, 0]);
+    assert_eq!(holders(one.room()), [1, 2, 0]);
 }
 
 /// A limiter may be lent its room, and a gateway its table and room.
@@ -152,18 +155,18 @@ fn lent_rooms() {
     assert_eq!(limiter.get(0, KEY).unwrap().total, 3);
     let mut gateway = Gateway::new(settings(), &mut table, &mut room).promises(PROMISES);
     assert_eq!(gateway.shot(0, KEY, 1, 1.0, 0), Ok(Shot::Allowed));
-    assert_eq!((table.words()[0], holders(&room)), (1, &[1, 0, 0][..]));
+    assert_eq!((table.words()[0], holders(&room)), (1, [1, 0, 0]));
 }
 
 // ---- clear and cleanup
 
 #[test]
 fn a_clear_takes_the_callers_keys() {
-    for (party, left) in [(Party::First, [0, 128, 0]), (Party::Second, [1, 0, 0])] {
+    for (party, left) in [(Party::First, [0, 2, 0]), (Party::Second, [1, 0, 0])] {
         let (mut one, mut other) = counted();
         one.party(party).clear(0).unwrap();
         other.party(party).clear(0).unwrap();
-        assert_eq!((holders(one.room()), holders(other.room())), (&left[..], &left[..]));
+        assert_eq!((holders(one.room()), holders(other.room())), (left, left));
         for of in BOTH {
             let total = if of == party { 0 } else { [3, 5][of as usize] };
             assert_eq!(one.party(of).get(0, KEY), Ok(total));
@@ -181,10 +184,10 @@ fn a_cleanup_serves_both() {
         other.inc(400, b"boat", 1.0, 1, 0).unwrap();
         one.party(party).cleanup(500, 500).unwrap();
         other.party(party).cleanup(500, 500).unwrap();
-        assert_eq!((holders(one.room()), holders(other.room())), (&[1, 128, 1][..], &[1, 128, 1][..]));
+        assert_eq!((holders(one.room()), holders(other.room())), ([1, 2, 1], [1, 2, 1]));
         one.party(party).cleanup(501, 500).unwrap();
         other.party(party).cleanup(501, 500).unwrap();
-        assert_eq!((holders(one.room()), holders(other.room())), (&[0, 0, 1][..], &[0, 0, 1][..]));
+        assert_eq!((holders(one.room()), holders(other.room())), ([0, 0, 1], [0, 0, 1]));
         assert_eq!((one.party(Party::Second).get(501, KEY), one.get(501, b"boat")), (Ok(0), Ok(1)));
     }
 }
@@ -307,7 +310,7 @@ fn their_place_among_the_refusals() {
     let mut limiter = limiter.promises(promises(4, 0));
     assert_eq!(limiter.get(8, KEY), Err(Refusal::ClockWentBack));
     assert_eq!((limiter.clear(8), limiter.cleanup(8, 0)), (Err(Refusal::ClockWentBack), Err(Refusal::ClockWentBack)));
-    let strange = changed(one.room(), HOLDERS + 2, 2);
+    let strange = changed(one.room(), FIRSTS, 0b011);
     let mut limiter = Absolute::new(settings(), strange).promises(promises(4, 0));
     assert_eq!(limiter.inc(0, &[0; 33], 0.0, 1), Err(Refusal::BadRoom));
 }
@@ -328,7 +331,7 @@ fn promises_of_both_rooms() {
     // 6 of one before 16 of the other, and 5 before both
     let mut late = provider(&changed(&one, 2, 9)).promises(PROMISES, bad);
     assert_eq!(late.cleanup(8, 0), Err(Refusal::ClockWentBack));
-    let mut strange = provider(&changed(&changed(&one, 2, 9), HOLDERS, 3)).promises(bad, bad);
+    let mut strange = provider(&changed(&changed(&one, 2, 9), SECONDS, 0b011)).promises(bad, bad);
     assert_eq!(strange.cleanup(8, 0), Err(Refusal::BadRoom));
     let mut cleaned = provider(&one).promises(PROMISES, promises(1, 2));
     assert_eq!(cleaned.cleanup(501, 500), Ok(()));
@@ -339,14 +342,17 @@ fn promises_of_both_rooms() {
 #[test]
 fn held_by_neither() {
     let (one, other) = counted();
-    for slot in 0..3 {
-        for word in [2, 3, 64, 127, 129, 256, u64::MAX] {
-            let absolute = changed(one.room(), HOLDERS + slot, word);
-            let suppressed = changed(other.room(), HOLDERS + slot, word);
-            all_say(&absolute, &suppressed, PROMISES, Refusal::BadRoom);
-            assert_eq!(Absolute::new(settings(), absolute).buckets(b"none"), Err(Refusal::BadRoom));
-            assert_eq!(Suppressed::new(settings(), suppressed).buckets(b"none"), Err(Refusal::BadRoom));
-        }
+    let (all, high) = (u64::MAX, 1 << 63);
+    // the first slot, the second, the third, some of them, all
+    let both =
+        [(1, 3), (3, 2), (5, 6), (6, 6), (7, 4), (3, 3), (7, 7), (all, 2), (1, all), (all, all), (high | 1, high | 3)];
+    for (firsts, seconds) in both {
+        let strange = |room: &Room| changed(&changed(room, FIRSTS, firsts), SECONDS, seconds);
+        let (absolute, suppressed) = (strange(one.room()), strange(other.room()));
+        assert!(holders(&absolute).contains(&3));
+        all_say(&absolute, &suppressed, PROMISES, Refusal::BadRoom);
+        assert_eq!(Absolute::new(settings(), absolute).buckets(b"none"), Err(Refusal::BadRoom));
+        assert_eq!(Suppressed::new(settings(), suppressed).buckets(b"none"), Err(Refusal::BadRoom));
     }
 }
 
@@ -354,13 +360,20 @@ fn held_by_neither() {
 #[test]
 fn words_that_say_nothing() {
     let (one, _) = counted();
-    let beyond = changed(&changed(one.room(), HOLDERS + 3, 7), HOLDERS + 63, u64::MAX);
+    // of slots 3 to 63 all bits of one word and some of the other
+    let (firsts, seconds) = (u64::MAX << 3, 1 << 3 | 1 << 31 | 1 << 32 | 1 << 63);
+    let beyond = changed(&changed(one.room(), FIRSTS, firsts | 0b001), SECONDS, seconds | 0b010);
     let free = changed(&changed(&beyond, ENTRIES + 12, 9), ENTRIES + 13, 99);
     let mut limiter = Absolute::new(settings(), free).promises(PROMISES);
     assert_eq!(limiter.cleanup(0, 0), Ok(()));
     assert_eq!(limiter.inc(0, b"boat", 1.0, 1), Ok(Decision::Allowed));
     assert_eq!(limiter.room().words()[ENTRIES + 12..][..2], [1, 4]);
-    assert_eq!((limiter.room().words()[HOLDERS + 3], limiter.room().words()[HOLDERS + 63]), (7, u64::MAX));
+    // the lowest free slot is taken, and the bits beyond stay
+    let words = limiter.room().words();
+    assert_eq!((words[FIRSTS], words[SECONDS]), (firsts | 0b101, seconds | 0b010));
+    assert_eq!(limiter.clear(0), Ok(()));
+    assert_eq!(limiter.party(Party::Second).clear(0), Ok(()));
+    assert_eq!((limiter.room().words()[FIRSTS], limiter.room().words()[SECONDS]), (firsts, seconds));
 }
 
 /// Held, and of no use: the key's own calls and a cleanup meet it, those of the other party's key do not.
@@ -439,7 +452,7 @@ fn shots_by_party() {
     let mut gateway = Gateway::new(settings(), Table::new(), room()).promises(PROMISES);
     assert_eq!(gateway.shot(0, b"boat7", 1, 1.0, 0), Ok(Shot::Allowed));
     assert_eq!(gateway.party(Party::Second).shot(0, b"gate1", 1, 1.0, 0), Ok(Shot::Allowed));
-    assert_eq!(holders(gateway.room()), [1, 128, 0]);
+    assert_eq!(holders(gateway.room()), [1, 2, 0]);
     for (party, boat, gate) in [(Party::First, 1, 0), (Party::Second, 0, 1)] {
         let mut of = gateway.party(party);
         assert_eq!(of.suppressed().get(0, b"boat7").unwrap().total, boat);
@@ -482,11 +495,11 @@ fn promises_of_a_shot() {
     assert_eq!(gateway.promises(promises(0, 3)).shot(0, KEY, 6, 1.0, 0), Err(Refusal::BadPromise));
 }
 
-/// 451 words; a room of so many is none.
+/// 389 words; a room of so many is none.
 #[test]
 fn the_length_of_a_table() {
-    assert_eq!((Table::WORDS, Table::new().words().len()), (451, 451));
-    assert_eq!(Room::words_for(24, 1), Some(451));
+    assert_eq!((Table::WORDS, Table::new().words().len()), (389, 389));
+    assert_eq!(Room::words_for(24, 1), Some(389));
     let (table, room) = (Table::from_words(Room::new(24, 1).unwrap().into_words()), room());
     let mut gateway = Gateway::new(settings(), table, room);
     assert_eq!(gateway.shot(0, KEY, 1, 1.0, 0), Err(Refusal::BadRoom));

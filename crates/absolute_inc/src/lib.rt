@@ -14,6 +14,8 @@ use parties::Caller;
 use rules::RoomKind;
 use settings::Settings;
 
+const KIND: RoomKind = RoomKind::Absolute;
+
 // Counts `count` for a key, where it is allowed.
 pub fn inc(
     settings: Settings,
@@ -30,11 +32,11 @@ pub fn inc(
     if fault != 0 {
         return RateLimitDecision::Refused(fault);
     }
+    let standing = parties::standing_of(room, caller);
     let window = settings.window_ticks();
     let address = judge::address(room, caller, key);
     let x = opened::open_at(room, address, reading, window, window);
-    let standing = judge::misfit(RoomKind::Absolute, settings, room, reading, caller, key, x);
-    let code = standing.code;
+    let code = judge::misfit(KIND, settings, room, reading, caller, key, x, standing);
     if code != 0 {
         return RateLimitDecision::Refused(code);
     }

@@ -109,14 +109,7 @@ pub fn set(
         return SetAnswer::Refused(own);
     }
     let change = setting(x, still, limit, count, mode);
-    change::apply(
-        room,
-        at,
-        caller,
-        key,
-        settings.join_ticks(),
-        reading,
-        change,
-    );
+    let join = settings.join_ticks();
+    change::apply(room, at, caller, key, join, reading, change);
     SetAnswer::Set(outcome(x, still, comparator, count))
 }

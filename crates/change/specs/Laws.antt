@@ -8,7 +8,9 @@ use Rattle.layout.specs.Layout.{sizeOf}
 use Rattle.room.specs.Room.{Room, ringOf, bodyOf, keyAt, useOf, lastOf}
 use Rattle.room.specs.Laws.{body-length}
 use Rattle.frame.specs.Frame.{Changed, body-change, put-use, put-release, put-entry, unchanged}
+use Rattle.keys.specs.Keys.{keyOf}
 use Rattle.parties.specs.Parties.{Sent, keyFor}
+use Rattle.parties.specs.Laws.{mark-small}
 use Rattle.edit.specs.declared.Edit.{Edit}
 use Rattle.change.specs.declared.Change.{Change}
 use Rattle.change.specs.declared.Change.the-variants.{Keep, Free, Update, Take}
@@ -31,8 +33,8 @@ module _ (w : List ℕ) (at s t : ℕ) (e : Edit) (h : EditsAt w at s t e) where
   update-change = put-use edit-change (e .used)
 
   pub take-change : (key : Sent) → Changed w (taken w at key s t e) at (e .used) (keyFor key) (edited (ringOf w) s t (bodyOf w at) e) (lastOf w)
-  unfolding taken
-  take-change key = put-entry edit-change (e .used) (keyFor key)
+  unfolding taken keyOf
+  take-change key = put-entry edit-change (e .used) (keyFor key) (mark-small (key .caller .party))
 
 pub carried-room : (w : List ℕ) (at : ℕ) (key : Sent) (s t : ℕ) (change : Change) → Applies w at s t change → Room (carried w at key s t change)
 unfolding carried

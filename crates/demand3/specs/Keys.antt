@@ -19,12 +19,12 @@ use Rattle.judge.specs.Held.{heldIn, heldOf}
 use Rattle.steps.specs.Leaves.{sent-holder, mark-some}
 use Rattle.demand3.specs.History.{Same, Other, IsKey}
 
--- a party's mark, 1 or 128, is that of no other; 0 is the mark of what is no party
+-- a party's mark, 1 or 2, is that of no other; 0 is the mark of what is no party
 pub mark-same : (p q : ℕ) → isParty p ≡ true → markOf p ≡ markOf q → p ≡ q
 mark-same p q is e = go (eqb p 1) refl (eqb p 2) refl (eqb q 1) refl (eqb q 2) refl is e
   where
     go : (a : Bool) → eqb p 1 ≡ a → (b : Bool) → eqb p 2 ≡ b → (c : Bool) → eqb q 1 ≡ c → (d : Bool) → eqb q 2 ≡ d → a || b ≡ true →
-        _≡_ {A = ℕ} (cond a 1 (cond b 128 0)) (cond c 1 (cond d 128 0)) → p ≡ q
+        _≡_ {A = ℕ} (cond a 1 (cond b 2 0)) (cond c 1 (cond d 2 0)) → p ≡ q
     go true a b h true c d i z e = eqb-true p 1 a ∙ sym (eqb-true q 1 c)
     go true a b h false c true i z e = absurd (omega (arith, e))
     go true a b h false c false i z e = absurd (omega (arith, e))

@@ -35,6 +35,7 @@ use Rattle.room.specs.Room.{sized, slotsOf, ringOf, lastOf, useOf, holderOf, bo
 use Rattle.parties.specs.declared.Caller.{Caller}
 use Rattle.parties.specs.Parties.{Sent, sent, ours, many, slotsHeld, overdrawn, turns}
 use Rattle.parties.specs.Census.{censusOf}
+use Rattle.parties.specs.Laws.{first-held, second-held}
 use Rattle.finding.specs.declared.Found.{Found}
 use Rattle.finding.specs.Finding.{asHeld, refusal, bucketsOf, shown, found, Reads}
 
@@ -76,7 +77,7 @@ module _ (w : List ℕ) where
   held-kept party e f =
       let a = many (λ s. eqb (holderOf w s) firstMark) (slotsOf w) in
       let b = many (λ s. eqb (holderOf w s) secondMark) (slotsOf w) in
-      rw (e, f, le-ltb (slotsOf w) (a + b) (both-few (slotsOf w)), le-ltb a a (omega arith), le-ltb b b (omega arith))
+      rw (e, first-held w f, second-held w f, le-ltb (slotsOf w) (a + b) (both-few (slotsOf w)), le-ltb a a (omega arith), le-ltb b b (omega arith))
 
 module _ (kind : RoomKind) (s : Settings) (w : List ℕ) (key : Sent) where
   abbrev told : Sent

@@ -8,9 +8,10 @@ use native.Mathlib.Decide.{ℕ-discrete, decLt}
 use native.Mathlib.Omega.{arith}
 use lib.ListN.{length, getD, drop}
 use lib.Seq.{getD-take, getD-drop}
+use Rattle.base.specs.Bits.{bits-same, bit-lt}
 use Rattle.keys.specs.declared.Key.{Key}
-use Rattle.layout.specs.Layout.{lastWord, holdersWord, headerWords, entryWords, mostSlots, sizeOf}
-use Rattle.room.specs.Room.{slotsOf, ringOf, lengthOf, holderAt, entryOf, startOf, holderOf, useOf, keyAt, bodyFrom, bodyOf}
+use Rattle.layout.specs.Layout.{firstsWord, secondsWord, headerWords, entryWords, sizeOf}
+use Rattle.room.specs.Room.{slotsOf, ringOf, lengthOf, entryOf, startOf, holderOf, useOf, keyAt, bodyFrom, bodyOf}
 use Rattle.frame.specs.Frame.{Changed}
 use Rattle.frame.specs.Distinct.{holder-ext}
 
@@ -38,6 +39,20 @@ entry-words v x i (suc (suc (suc zero))) u k h = ap (λ (k : Key). k .b) k
 entry-words v x i (suc (suc (suc (suc zero)))) u k h = ap (λ (k : Key). k .c) k
 entry-words v x i (suc (suc (suc (suc (suc zero))))) u k h = ap (λ (k : Key). k .d) k
 entry-words v x i (suc (suc (suc (suc (suc (suc m)))))) u k h = absurd (omega arith)
+
+-- equal holders: the two words have the same bits
+module _ (v x : List ℕ) (f : (i : ℕ) → holderOf x i ≡ holderOf v i) where
+  firsts-same : getD x firstsWord 0 ≡ getD v firstsWord 0
+  unfolding holderOf
+  firsts-same =
+      bits-same (getD x firstsWord 0 + getD v firstsWord 0) (getD x firstsWord 0) (getD v firstsWord 0) (omega arith) (omega arith)
+      (λ i. omega (arith, f i, bit-lt (getD x firstsWord 0) i, bit-lt (getD v firstsWord 0) i))
+
+  seconds-same : getD x secondsWord 0 ≡ getD v secondsWord 0
+  unfolding holderOf
+  seconds-same =
+      bits-same (getD x secondsWord 0 + getD v secondsWord 0) (getD x secondsWord 0) (getD v secondsWord 0) (omega arith) (omega arith)
+      (λ i. omega (arith, f i, bit-lt (getD x firstsWord 0) i, bit-lt (getD v firstsWord 0) i))
 
 -- a place past a by q groups of z words and some
 place : (a z j : ℕ) → 0 < z → a ≤ j → j ≡ a + (j - a) / z * z + (j - a) % z
@@ -72,19 +87,21 @@ module _ (w v x : List ℕ) (s u : ℕ) (k : Key) (b : List ℕ) (t : ℕ) (c : 
       go (no p) = d .bodies i h p ∙ sym (c .bodies i h p)
 
   -- who holds a slot, or one that the room does not have
-  holder : (i : ℕ) → i < mostSlots → holderOf x i ≡ holderOf v i
-  holder i h = go (ℕ-discrete i s)
+  holder : (i : ℕ) → holderOf x i ≡ holderOf v i
+  holder i = go (ℕ-discrete i s)
     where
       go : Dec (i ≡ s) → holderOf x i ≡ holderOf v i
       go (yes p) = ap (holderOf x) p ∙ holder-ext v x s (d .key ∙ sym (c .key)) ∙ ap (holderOf v) (sym p)
-      go (no p) = d .holders i h p ∙ sym (c .holders i h p)
+      go (no p) = d .holders i p ∙ sym (c .holders i p)
 
   header : (j : ℕ) → j < headerWords → getD x j 0 ≡ getD v j 0
   unfolding slots ring
   header zero h = slots
   header (suc zero) h = ring
   header (suc (suc zero)) h = d .last ∙ sym (c .last)
-  header (suc (suc (suc j))) h = let e : suc (suc (suc j)) ≡ holderAt j = omega arith in rw e (holder j (omega arith))
+  header (suc (suc (suc zero))) h = firsts-same v x holder
+  header (suc (suc (suc (suc zero)))) h = seconds-same v x holder
+  header (suc (suc (suc (suc (suc j))))) h = absurd (omega arith)
 
   word : (j : ℕ) → j < length v → getD x j 0 ≡ getD v j 0
   word j h = one (decLt j headerWords)

@@ -12,12 +12,12 @@ use lib.Seq.{getD-set-same, getD-set-other}
 use Rattle.base.specs.Writes.{writes, Misses, length-writes, read-past, read-nth}
 use Rattle.base.specs.Splice.{splice-part, splice-before, splice-after, part-ext}
 use Rattle.keys.specs.declared.Key.{Key}
-use Rattle.layout.specs.Layout.{slotsWord, ringWord, lastWord, lenWord, aWord, bWord, cWord, dWord, headerWords, entryWords, nobody, mostSlots, sizeOf}
+use Rattle.layout.specs.Layout.{slotsWord, ringWord, lastWord, firstsWord, secondsWord, lenWord, aWord, bWord, cWord, dWord, headerWords, entryWords}
+use Rattle.layout.specs.Layout.{nobody, sizeOf}
 use Rattle.room.specs.Room.{
   slotsOf,
   ringOf,
   lastOf,
-  holderAt,
   entryOf,
   startOf,
   endOf,
@@ -31,8 +31,9 @@ use Rattle.room.specs.Room.{
   entered,
   withUse,
 }
-use Rattle.room.specs.Room.{released, withReading}
+use Rattle.room.specs.Room.{held, released, withReading}
 use Rattle.room.specs.Laws.{room-same, slot-in, body-end, body-header, body-room}
+use Rattle.room.specs.Entries.{holder-same, held-length, held-other, held-here, held-else}
 
 -- v is w but for slot s, which has use u, key k and body b, and for the last reading, which is t
 pub record Changed (w v : List ℕ) (s u : ℕ) (k : Key) (b : List ℕ) (t : ℕ) : Type 0 where
@@ -44,7 +45,7 @@ pub record Changed (w v : List ℕ) (s u : ℕ) (k : Key) (b : List ℕ) (t : �
   pub used : useOf v s ≡ u
   pub key : keyAt v s ≡ k
   pub body : bodyOf v s ≡ b
-  pub holders : (i : ℕ) → i < mostSlots → i ≢ s → holderOf v i ≡ holderOf w i
+  pub holders : (i : ℕ) → i ≢ s → holderOf v i ≡ holderOf w i
   pub entries : (i j : ℕ) → i < slotsOf w → i ≢ s → entryOf i ≤ j → j < entryOf i + entryWords → getD v j 0 ≡ getD w j 0
   pub bodies : (i : ℕ) → i < slotsOf w → i ≢ s → bodyOf v i ≡ bodyOf w i
 
@@ -87,16 +88,16 @@ body-ext w v l n r f i =
 
 -- ---- one change
 
--- in the last reading and in slot s's entry
+-- in the last reading, in who holds slot s and in its entry
 module _ (w v : List ℕ) (s u : ℕ) (k : Key) (t : ℕ) (o : Room w) (h : s < slotsOf w) where
   pub low-change : length v ≡ length w →
-      ((j : ℕ) → j ≢ lastWord → j ≢ holderAt s → (j < entryOf s) ⊎ (entryOf s + entryWords ≤ j) → getD v j 0 ≡ getD w j 0) → useOf v s ≡ u →
-      keyAt v s ≡ k → lastOf v ≡ t → Changed w v s u k (bodyOf w s) t
-  low-change l f p q r =
-      let few : s < mostSlots = omega (arith, o .few) in
-      let n : slotsOf v ≡ slotsOf w = f slotsWord (omega arith) (omega arith) (inl (omega arith)) in
-      let m : ringOf v ≡ ringOf w = f ringWord (omega arith) (omega arith) (inl (omega arith)) in
-      let body : (i : ℕ) → bodyOf v i ≡ bodyOf w i = body-ext w v l n m (λ j g. f j (omega arith) (omega arith) (inr (omega arith))) in
+      ((j : ℕ) → j ≢ lastWord → j ≢ firstsWord → j ≢ secondsWord → (j < entryOf s) ⊎ (entryOf s + entryWords ≤ j) → getD v j 0 ≡ getD w j 0) →
+      ((i : ℕ) → i ≢ s → holderOf v i ≡ holderOf w i) → useOf v s ≡ u → keyAt v s ≡ k → lastOf v ≡ t → Changed w v s u k (bodyOf w s) t
+  low-change l f hs p q r =
+      let n : slotsOf v ≡ slotsOf w = f slotsWord (omega arith) (omega arith) (omega arith) (inl (omega arith)) in
+      let m : ringOf v ≡ ringOf w = f ringWord (omega arith) (omega arith) (omega arith) (inl (omega arith)) in
+      let body : (i : ℕ) → bodyOf v i ≡ bodyOf w i =
+      body-ext w v l n m (λ j g. f j (omega arith) (omega arith) (omega arith) (inr (omega arith))) in
       record {
         inside = h;
         room = room-same w v n m l o;
@@ -106,8 +107,8 @@ module _ (w v : List ℕ) (s u : ℕ) (k : Key) (t : ℕ) (o : Room w) (h : s < 
         used = p;
         key = q;
         body = body s;
-        holders = λ i a ne. f (holderAt i) (omega arith) (omega arith) (inl (omega arith));
-        entries = λ i j a ne g g′. f j (omega arith) (omega arith) (beside i j ne g g′);
+        holders = hs;
+        entries = λ i j a ne g g′. f j (omega arith) (omega arith) (omega arith) (beside i j ne g g′);
         bodies = λ i a ne. body i;
       }
     where
@@ -121,15 +122,17 @@ module _ (w v : List ℕ) (s u : ℕ) (k : Key) (t : ℕ) (o : Room w) (h : s < 
 module _ (w : List ℕ) (s : ℕ) (o : Room w) (h : s < slotsOf w) where
   -- none
   pub unchanged : Changed w w s (useOf w s) (keyAt w s) (bodyOf w s) (lastOf w)
-  unchanged = low-change w w s (useOf w s) (keyAt w s) (lastOf w) o h refl (λ j n m g. refl) refl refl refl
+  unchanged = low-change w w s (useOf w s) (keyAt w s) (lastOf w) o h refl (λ j n m k g. refl) (λ i n. refl) refl refl refl
 
   -- the last reading
   pub reading-change : (t : ℕ) → Changed w (withReading w t) s (useOf w s) (keyAt w s) (bodyOf w s) t
   unfolding withReading
   reading-change t =
-      let f : (j : ℕ) → j ≢ lastWord → getD (set w lastWord t) j 0 ≡ getD w j 0 = λ j n. getD-set-other w lastWord j t 0 n in
-      low-change w (set w lastWord t) s (useOf w s) (keyAt w s) t o h (length-set w lastWord t) (λ j n m g. f j n) (f (entryOf s) (omega arith))
-      (key-ext w (set w lastWord t) s (f (holderAt s) (omega arith)) (λ j a b. f j (omega arith))) (getD-set-same w lastWord t 0 (omega (arith, o .long)))
+      let v = set w lastWord t in
+      let f : (j : ℕ) → j ≢ lastWord → getD v j 0 ≡ getD w j 0 = λ j n. getD-set-other w lastWord j t 0 n in
+      let hs : (i : ℕ) → holderOf v i ≡ holderOf w i = holder-same w v (f firstsWord (omega arith)) (f secondsWord (omega arith)) in
+      low-change w v s (useOf w s) (keyAt w s) t o h (length-set w lastWord t) (λ j n m k g. f j n) (λ i n. hs i) (f (entryOf s) (omega arith))
+      (key-ext w v s (hs s) (λ j a b. f j (omega arith))) (getD-set-same w lastWord t 0 (omega (arith, o .long)))
 
   -- a use
   pub use-change : (u : ℕ) → Changed w (withUse w s u) s u (keyAt w s) (bodyOf w s) (lastOf w)
@@ -137,9 +140,9 @@ module _ (w : List ℕ) (s : ℕ) (o : Room w) (h : s < slotsOf w) where
   use-change u =
       let v = set w (entryOf s) u in
       let f : (j : ℕ) → j ≢ entryOf s → getD v j 0 ≡ getD w j 0 = λ j n. getD-set-other w (entryOf s) j u 0 n in
-      low-change w v s u (keyAt w s) (lastOf w) o h (length-set w (entryOf s) u) (λ j n m g. f j (out j g))
-      (getD-set-same w (entryOf s) u 0 (omega (arith, o .long))) (key-ext w v s (f (holderAt s) (omega (arith, o .few))) (λ j a b. f j (omega arith)))
-      (f lastWord (omega arith))
+      let hs : (i : ℕ) → holderOf v i ≡ holderOf w i = holder-same w v (f firstsWord (omega arith)) (f secondsWord (omega arith)) in
+      low-change w v s u (keyAt w s) (lastOf w) o h (length-set w (entryOf s) u) (λ j n m k g. f j (out j g)) (λ i n. hs i)
+      (getD-set-same w (entryOf s) u 0 (omega (arith, o .long))) (key-ext w v s (hs s) (λ j a b. f j (omega arith))) (f lastWord (omega arith))
     where
       out : (j : ℕ) → (j < entryOf s) ⊎ (entryOf s + entryWords ≤ j) → j ≢ entryOf s
       out j (inl p) = omega arith
@@ -149,42 +152,48 @@ module _ (w : List ℕ) (s : ℕ) (o : Room w) (h : s < slotsOf w) where
   pub release-change : Changed w (released w s) s (useOf w s) (unheld (keyAt w s)) (bodyOf w s) (lastOf w)
   unfolding released keyAt
   release-change =
-      let v = set w (holderAt s) nobody in
-      let few : s < mostSlots = omega (arith, o .few) in
-      let f : (j : ℕ) → j ≢ holderAt s → getD v j 0 ≡ getD w j 0 = λ j n. getD-set-other w (holderAt s) j nobody 0 n in
-      let e : holderOf v s ≡ nobody = getD-set-same w (holderAt s) nobody 0 (omega (arith, o .long)) in
-      let len = f (entryOf s + lenWord) (omega arith) in
-      let a = f (entryOf s + aWord) (omega arith) in
-      let b = f (entryOf s + bWord) (omega arith) in
-      let c = f (entryOf s + cWord) (omega arith) in
-      let d = f (entryOf s + dWord) (omega arith) in
-      low-change w v s (useOf w s) (unheld (keyAt w s)) (lastOf w) o h (length-set w (holderAt s) nobody) (λ j n m g. f j m) (f (entryOf s) (omega arith))
-      (λ i. record { holder = e i; len = len i; a = a i; b = b i; c = c i; d = d i }) (f lastWord (omega arith))
+      let v = held w s nobody in
+      let l : secondsWord < length w = omega (arith, o .long) in
+      let f : (j : ℕ) → j ≢ firstsWord → j ≢ secondsWord → getD v j 0 ≡ getD w j 0 = held-other w s nobody in
+      let e : holderOf v s ≡ nobody = held-here w s nobody l (omega arith) in
+      let len = f (entryOf s + lenWord) (omega arith) (omega arith) in
+      let a = f (entryOf s + aWord) (omega arith) (omega arith) in
+      let b = f (entryOf s + bWord) (omega arith) (omega arith) in
+      let c = f (entryOf s + cWord) (omega arith) (omega arith) in
+      let d = f (entryOf s + dWord) (omega arith) (omega arith) in
+      low-change w v s (useOf w s) (unheld (keyAt w s)) (lastOf w) o h (held-length w s nobody) (λ j n m k g. f j m k) (held-else w s nobody l)
+      (f (entryOf s) (omega arith) (omega arith)) (λ i. record { holder = e i; len = len i; a = a i; b = b i; c = c i; d = d i })
+      (f lastWord (omega arith) (omega arith))
 
-  -- an entry
-  pub entry-change : (u : ℕ) (k : Key) → Changed w (entered w s u k) s u k (bodyOf w s) (lastOf w)
+  -- an entry, with a key that a slot can have
+  pub entry-change : (u : ℕ) (k : Key) → k .holder < 4 → Changed w (entered w s u k) s u k (bodyOf w s) (lastOf w)
   unfolding entered keyAt
-  entry-change u k =
+  entry-change u k small =
       let e = entryOf s in
-      let few : s < mostSlots = omega (arith, o .few) in
-      let ws : List (ℕ × ℕ) =
-      (holderAt s, k .holder) ∷ (e, u) ∷ (e + lenWord, k .len) ∷ (e + aWord, k .a) ∷ (e + bWord, k .b) ∷ (e + cWord, k .c) ∷ (e + dWord, k .d) ∷ [] in
-      let v = writes w ws in
-      let held : holderOf v s ≡ k .holder = read-nth ws 0 w (omega arith) (omega (arith, o .long)) (omega arith) in
-      let len : getD v (e + lenWord) 0 ≡ k .len = read-nth ws 2 w (omega arith) (omega (arith, o .long)) (omega arith) in
-      let a : getD v (e + aWord) 0 ≡ k .a = read-nth ws 3 w (omega arith) (omega (arith, o .long)) (omega arith) in
-      let b : getD v (e + bWord) 0 ≡ k .b = read-nth ws 4 w (omega arith) (omega (arith, o .long)) (omega arith) in
-      let c : getD v (e + cWord) 0 ≡ k .c = read-nth ws 5 w (omega arith) (omega (arith, o .long)) (omega arith) in
-      let d : getD v (e + dWord) 0 ≡ k .d = read-nth ws 6 w (omega arith) (omega (arith, o .long)) tt in
-      low-change w v s u k (lastOf w) o h (length-writes ws w) (λ j n m g. read-past ws w j (out j m g))
-      (read-nth ws 1 w (omega arith) (omega (arith, o .long)) (omega arith)) (λ i. record { holder = held i; len = len i; a = a i; b = b i; c = c i; d = d i })
-      (read-past ws w lastWord (omega arith))
+      let y = held w s (k .holder) in
+      let ws : List (ℕ × ℕ) = (e, u) ∷ (e + lenWord, k .len) ∷ (e + aWord, k .a) ∷ (e + bWord, k .b) ∷ (e + cWord, k .c) ∷ (e + dWord, k .d) ∷ [] in
+      let v = writes y ws in
+      let l : secondsWord < length w = omega (arith, o .long) in
+      let z : length y ≡ length w = held-length w s (k .holder) in
+      let hs : (i : ℕ) → holderOf v i ≡ holderOf y i =
+      holder-same y v (read-past ws y firstsWord (omega arith)) (read-past ws y secondsWord (omega arith)) in
+      let holder : holderOf v s ≡ k .holder = hs s ∙ held-here w s (k .holder) l small in
+      let len : getD v (e + lenWord) 0 ≡ k .len = read-nth ws 1 y (omega arith) (omega (arith, o .long, z)) (omega arith) in
+      let a : getD v (e + aWord) 0 ≡ k .a = read-nth ws 2 y (omega arith) (omega (arith, o .long, z)) (omega arith) in
+      let b : getD v (e + bWord) 0 ≡ k .b = read-nth ws 3 y (omega arith) (omega (arith, o .long, z)) (omega arith) in
+      let c : getD v (e + cWord) 0 ≡ k .c = read-nth ws 4 y (omega arith) (omega (arith, o .long, z)) (omega arith) in
+      let d : getD v (e + dWord) 0 ≡ k .d = read-nth ws 5 y (omega arith) (omega (arith, o .long, z)) tt in
+      low-change w v s u k (lastOf w) o h (length-writes ws y ∙ z)
+      (λ j n m n′ g. read-past ws y j (out j g) ∙ held-other w s (k .holder) j m n′) (λ i ne. hs i ∙ held-else w s (k .holder) l i ne)
+      (read-nth ws 0 y (omega arith) (omega (arith, o .long, z)) (omega arith))
+      (λ i. record { holder = holder i; len = len i; a = a i; b = b i; c = c i; d = d i })
+      (read-past ws y lastWord (omega arith) ∙ held-other w s (k .holder) lastWord (omega arith) (omega arith))
     where
-      out : (j : ℕ) → j ≢ holderAt s → (j < entryOf s) ⊎ (entryOf s + entryWords ≤ j) →
-          Misses j ((holderAt s, k .holder) ∷ (entryOf s, u) ∷ (entryOf s + lenWord, k .len) ∷ (entryOf s + aWord, k .a) ∷ (entryOf s + bWord, k .b) ∷
-          (entryOf s + cWord, k .c) ∷ (entryOf s + dWord, k .d) ∷ [])
-      out j m (inl p) = omega arith
-      out j m (inr p) = omega arith
+      out : (j : ℕ) → (j < entryOf s) ⊎ (entryOf s + entryWords ≤ j) →
+          Misses j ((entryOf s, u) ∷ (entryOf s + lenWord, k .len) ∷ (entryOf s + aWord, k .a) ∷ (entryOf s + bWord, k .b) ∷ (entryOf s + cWord, k .c) ∷
+          (entryOf s + dWord, k .d) ∷ [])
+      out j (inl p) = omega arith
+      out j (inr p) = omega arith
 
   -- a body
   pub body-change : (b : List ℕ) → length b ≡ sizeOf (ringOf w) → Changed w (withBody w s b) s (useOf w s) (keyAt w s) b (lastOf w)
@@ -194,6 +203,7 @@ module _ (w : List ℕ) (s : ℕ) (o : Room w) (h : s < slotsOf w) where
       let f = body-header w b s o h l in
       let n : slotsOf v ≡ slotsOf w = f slotsWord (omega arith) in
       let r : ringOf v ≡ ringOf w = f ringWord (omega arith) in
+      let hs : (i : ℕ) → holderOf v i ≡ holderOf w i = holder-same w v (f firstsWord (omega arith)) (f secondsWord (omega arith)) in
       let at : (i : ℕ) → bodyOf v i ≡ take (sizeOf (ringOf w)) (drop (startOf w i) v) =
       λ i. ap₂ (λ (n r : ℕ). take (sizeOf r) (drop (headerWords + entryWords * n + i * sizeOf r) v)) n r in
       record {
@@ -203,9 +213,9 @@ module _ (w : List ℕ) (s : ℕ) (o : Room w) (h : s < slotsOf w) where
         ring = r;
         last = f lastWord (omega arith);
         used = f (entryOf s) (omega arith);
-        key = key-ext w v s (f (holderAt s) (omega (arith, o .few))) (λ j p q. f j (omega arith));
+        key = key-ext w v s (hs s) (λ j p q. f j (omega arith));
         body = at s ∙ ap (λ (n : ℕ). take n (drop (startOf w s) v)) (sym l) ∙ splice-part (startOf w s) (endOf w s) w b fit (body-end w s o h);
-        holders = λ i a ne. f (holderAt i) (omega arith);
+        holders = λ i ne. hs i;
         entries = λ i j a ne p q. f j (omega arith);
         bodies = λ i a ne. at i ∙ other i (apart i s ne);
       }
@@ -233,7 +243,7 @@ then-changed w v x s u u′ k k′ b b′ t t′ c d = record {
   used = d .used;
   key = d .key;
   body = d .body;
-  holders = λ i a ne. d .holders i a ne ∙ c .holders i a ne;
+  holders = λ i ne. d .holders i ne ∙ c .holders i ne;
   entries = λ i j a ne p q. d .entries i j (omega (arith, c .slots)) ne p q ∙ c .entries i j a ne p q;
   bodies = λ i a ne. d .bodies i (omega (arith, c .slots)) ne ∙ c .bodies i a ne;
 }
@@ -277,17 +287,17 @@ module _ {w v : List ℕ} {s u : ℕ} {k : Key} {b : List ℕ} {t : ℕ} (c : Ch
       (like v (released v s) s (useOf v s) u (unheld (keyAt v s)) (unheld k) (bodyOf v s) b (lastOf v) t (c .used) (ap unheld (c .key)) (c .body) (c .last)
       (release-change v s (c .room) inside-after))
 
-  pub put-entry : (u′ : ℕ) (k′ : Key) → Changed w (entered v s u′ k′) s u′ k′ b t
-  put-entry u′ k′ =
+  pub put-entry : (u′ : ℕ) (k′ : Key) → k′ .holder < 4 → Changed w (entered v s u′ k′) s u′ k′ b t
+  put-entry u′ k′ small =
       then-changed w v (entered v s u′ k′) s u u′ k k′ b b t t c
-      (like v (entered v s u′ k′) s u′ u′ k′ k′ (bodyOf v s) b (lastOf v) t refl refl (c .body) (c .last) (entry-change v s (c .room) inside-after u′ k′))
+      (like v (entered v s u′ k′) s u′ u′ k′ k′ (bodyOf v s) b (lastOf v) t refl refl (c .body) (c .last) (entry-change v s (c .room) inside-after u′ k′ small))
 
   -- of another slot
   pub other-use : (i : ℕ) → i < slotsOf w → i ≢ s → useOf v i ≡ useOf w i
   other-use i a ne = c .entries i (entryOf i) a ne (omega arith) (omega arith)
 
   pub other-holder : (i : ℕ) → i < slotsOf w → i ≢ s → holderOf v i ≡ holderOf w i
-  other-holder i a ne = c .holders i (omega (arith, c .slots, c .room .few)) ne
+  other-holder i a ne = c .holders i ne
 
   pub other-key : (i : ℕ) → i < slotsOf w → i ≢ s → keyAt v i ≡ keyAt w i
   other-key i a ne = key-ext w v i (other-holder i a ne) (λ j p q. c .entries i j a ne (omega arith) q)

@@ -10,13 +10,12 @@ use native.Mathlib.Omega.{arith}
 use lib.ListN.{length, getD, set, replicate, length-set, length-replicate, getD-replicate, List·getD-eq-default}
 use lib.Seq.{getD-set-same, getD-set-other}
 use borrow.Author.Tests.{eq-eqb, ne-eqb}
-use Rattle.layout.specs.Layout.{slotsWord, ringWord, lastWord, entryWords, mostSlots, sizeOf}
+use Rattle.layout.specs.Layout.{slotsWord, ringWord, lastWord, firstsWord, secondsWord, entryWords, sizeOf}
 use Rattle.room.specs.Room.{
   slotsOf,
   ringOf,
   lastOf,
   lengthOf,
-  holderAt,
   entryOf,
   Room,
   empty,
@@ -31,7 +30,7 @@ use Rattle.room.specs.Room.{
 }
 use Rattle.room.specs.Room.{freed, cleared}
 use Rattle.room.specs.Laws.{room-same, fit-lengths}
-use Rattle.room.specs.Entries.{own-other, freed-length, freed-other}
+use Rattle.room.specs.Entries.{holder-same, holder-none, held-here, own-else, freed-length, freed-other}
 use Rattle.frame.specs.Frame.{key-ext, body-ext}
 use Rattle.frame.specs.Distinct.{Distinct}
 
@@ -49,19 +48,21 @@ module _ (n r : ℕ) where
   empty-word zero h = absurd (omega arith)
   empty-word (suc zero) h = absurd (omega arith)
   empty-word (suc (suc zero)) h = refl
-  empty-word (suc (suc (suc j))) h = go (decLt j (mostSlots + entryWords * n + n * sizeOf r))
+  empty-word (suc (suc (suc zero))) h = refl
+  empty-word (suc (suc (suc (suc zero)))) h = refl
+  empty-word (suc (suc (suc (suc (suc j))))) h = go (decLt j (entryWords * n + n * sizeOf r))
     where
-      go : Dec (j < mostSlots + entryWords * n + n * sizeOf r) → _≡_ {A = ℕ} (getD (replicate (mostSlots + entryWords * n + n * sizeOf r) 0) j 0) 0
-      go (yes p) = getD-replicate (mostSlots + entryWords * n + n * sizeOf r) j 0 0 p
-      go (no p) = List·getD-eq-default (replicate (mostSlots + entryWords * n + n * sizeOf r) 0) 0
-          (omega (arith, length-replicate {A = ℕ} (mostSlots + entryWords * n + n * sizeOf r) 0))
+      go : Dec (j < entryWords * n + n * sizeOf r) → _≡_ {A = ℕ} (getD (replicate (entryWords * n + n * sizeOf r) 0) j 0) 0
+      go (yes p) = getD-replicate (entryWords * n + n * sizeOf r) j 0 0 p
+      go (no p) = List·getD-eq-default (replicate (entryWords * n + n * sizeOf r) 0) 0
+          (omega (arith, length-replicate {A = ℕ} (entryWords * n + n * sizeOf r) 0))
 
   pub empty-length : length (empty n r) ≡ lengthOf n r
   unfolding empty
-  empty-length = omega (arith, length-replicate {A = ℕ} (mostSlots + entryWords * n + n * sizeOf r) 0)
+  empty-length = omega (arith, length-replicate {A = ℕ} (entryWords * n + n * sizeOf r) 0)
 
   pub empty-free : (i : ℕ) → holderOf (empty n r) i ≡ 0
-  empty-free i = empty-word (holderAt i) (omega arith)
+  empty-free i = holder-none (empty n r) i (empty-word firstsWord (omega arith)) (empty-word secondsWord (omega arith))
 
   pub empty-room : (l : ℕ) → fits n r l ≡ true → Room (empty n r)
   unfolding empty
@@ -82,7 +83,7 @@ pub record Cleared (w v : List ℕ) (m t : ℕ) : Type 0 where
   pub last : lastOf v ≡ t
   pub free : (i : ℕ) → i < slotsOf w → holderOf w i ≡ m → holderOf v i ≡ 0
   pub stays : (i : ℕ) → i < slotsOf w → holderOf w i ≢ m → holderOf v i ≡ holderOf w i
-  pub words : (j : ℕ) → j ≢ lastWord → ((i : ℕ) → i < slotsOf w → j ≢ holderAt i) → getD v j 0 ≡ getD w j 0
+  pub words : (j : ℕ) → j ≢ lastWord → j ≢ firstsWord → j ≢ secondsWord → getD v j 0 ≡ getD w j 0
   pub uses : (i : ℕ) → useOf v i ≡ useOf w i
   pub keys : (i : ℕ) → i < slotsOf w → holderOf w i ≢ m → keyAt v i ≡ keyAt w i
   pub bodies : (i : ℕ) → bodyOf v i ≡ bodyOf w i
@@ -103,29 +104,31 @@ module _ (w v : List ℕ) (m t : ℕ) (c : Cleared w v m t) where
   }
 
 -- who holds one of the first n slots
-own-here : (w : List ℕ) (s m : ℕ) → holderAt s < length w → holderOf w s ≡ m → holderOf (releasedOwn w s m) s ≡ 0
+own-here : (w : List ℕ) (s m : ℕ) → secondsWord < length w → holderOf w s ≡ m → holderOf (releasedOwn w s m) s ≡ 0
 unfolding releasedOwn released
-own-here w s m l e = rw (eq-eqb (holderOf w s) m e) (getD-set-same w (holderAt s) 0 0 l)
+own-here w s m l e = rw (eq-eqb (holderOf w s) m e) (held-here w s 0 l (omega arith))
 
 own-kept : (w : List ℕ) (s m : ℕ) → holderOf w s ≢ m → holderOf (releasedOwn w s m) s ≡ holderOf w s
 unfolding releasedOwn
 own-kept w s m n = rw (ne-eqb (holderOf w s) m n)
 
-module _ (w : List ℕ) (m : ℕ) where
+module _ (w : List ℕ) (m : ℕ) (l : secondsWord < length w) where
   -- a slot that was not passed yet is as it was
   later-holder : (n i : ℕ) → n ≤ i → holderOf (freed w m n) i ≡ holderOf w i
-  later-holder n i h = freed-other w m n (holderAt i) (λ k l. omega arith)
-
-  freed-holder : (n i : ℕ) → i < n → holderAt n ≤ length w → holderOf w i ≡ m → holderOf (freed w m n) i ≡ 0
   unfolding freed
-  freed-holder zero i h l e = absurd (omega arith)
-  freed-holder (suc n) i h l e = go (ℕ-discrete i n) (freed-holder n i)
+  later-holder zero i h = refl
+  later-holder (suc n) i h = own-else (freed w m n) n m i (omega (arith, freed-length w m n)) (omega arith) ∙ later-holder n i (omega arith)
+
+  freed-holder : (n i : ℕ) → i < n → holderOf w i ≡ m → holderOf (freed w m n) i ≡ 0
+  unfolding freed
+  freed-holder zero i h e = absurd (omega arith)
+  freed-holder (suc n) i h e = go (ℕ-discrete i n) (freed-holder n i)
     where
-      go : Dec (i ≡ n) → (i < n → holderAt n ≤ length w → holderOf w i ≡ m → holderOf (freed w m n) i ≡ 0) → holderOf (releasedOwn (freed w m n) n m) i ≡ 0
+      go : Dec (i ≡ n) → (i < n → holderOf w i ≡ m → holderOf (freed w m n) i ≡ 0) → holderOf (releasedOwn (freed w m n) n m) i ≡ 0
       go (yes p) f =
           ap (holderOf (releasedOwn (freed w m n) n m)) p ∙
           own-here (freed w m n) n m (omega (arith, freed-length w m n)) (later-holder n n (omega arith) ∙ ap (holderOf w) (sym p) ∙ e)
-      go (no p) f = own-other (freed w m n) n m (holderAt i) (omega arith) ∙ f (omega arith) (omega arith) e
+      go (no p) f = own-else (freed w m n) n m i (omega (arith, freed-length w m n)) p ∙ f (omega arith) e
 
   kept-holder : (n i : ℕ) → holderOf w i ≢ m → holderOf (freed w m n) i ≡ holderOf w i
   unfolding freed
@@ -136,7 +139,7 @@ module _ (w : List ℕ) (m : ℕ) where
       go (yes p) f =
           ap (holderOf (releasedOwn (freed w m n) n m)) p ∙
           own-kept (freed w m n) n m (λ z. e (sym f ∙ ap (holderOf (freed w m n)) p ∙ z)) ∙ ap (holderOf (freed w m n)) (sym p) ∙ f
-      go (no p) f = own-other (freed w m n) n m (holderAt i) (omega arith) ∙ f
+      go (no p) f = own-else (freed w m n) n m i (omega (arith, freed-length w m n)) p ∙ f
 
 module _ (w : List ℕ) (m : ℕ) (o : Room w) where
   -- and the reading
@@ -146,22 +149,24 @@ module _ (w : List ℕ) (m : ℕ) (o : Room w) where
       let y = cleared w m in
       let v = set y lastWord t in
       let l = freed-length w m (slotsOf w) in
+      let there : secondsWord < length w = omega (arith, o .long) in
       let long : length v ≡ length w = length-set y lastWord t ∙ l in
-      let g : (j : ℕ) → j ≢ lastWord → ((i : ℕ) → i < slotsOf w → j ≢ holderAt i) → getD v j 0 ≡ getD w j 0 =
-      λ j n f. getD-set-other y lastWord j t 0 n ∙ freed-other w m (slotsOf w) j f in
-      let n : slotsOf v ≡ slotsOf w = g slotsWord (omega arith) (λ i h. omega arith) in
-      let r : ringOf v ≡ ringOf w = g ringWord (omega arith) (λ i h. omega arith) in
-      let stays : (i : ℕ) → holderOf w i ≢ m → holderOf v i ≡ holderOf w i =
-      λ i ne. getD-set-other y lastWord (holderAt i) t 0 (omega arith) ∙ kept-holder w m (slotsOf w) i ne in
+      let f : (j : ℕ) → j ≢ lastWord → getD v j 0 ≡ getD y j 0 = λ j n. getD-set-other y lastWord j t 0 n in
+      let g : (j : ℕ) → j ≢ lastWord → j ≢ firstsWord → j ≢ secondsWord → getD v j 0 ≡ getD w j 0 =
+      λ j n p q. f j n ∙ freed-other w m (slotsOf w) j p q in
+      let n : slotsOf v ≡ slotsOf w = g slotsWord (omega arith) (omega arith) (omega arith) in
+      let r : ringOf v ≡ ringOf w = g ringWord (omega arith) (omega arith) (omega arith) in
+      let hs : (i : ℕ) → holderOf v i ≡ holderOf y i = holder-same y v (f firstsWord (omega arith)) (f secondsWord (omega arith)) in
+      let stays : (i : ℕ) → holderOf w i ≢ m → holderOf v i ≡ holderOf w i = λ i ne. hs i ∙ kept-holder w m there (slotsOf w) i ne in
       record {
         room = room-same w v n r long o;
         slots = n;
         ring = r;
         last = getD-set-same y lastWord t 0 (omega (arith, o .long, l));
-        free = λ i h e. getD-set-other y lastWord (holderAt i) t 0 (omega arith) ∙ freed-holder w m (slotsOf w) i h (omega (arith, o .long, o .few)) e;
+        free = λ i h e. hs i ∙ freed-holder w m there (slotsOf w) i h e;
         stays = λ i h ne. stays i ne;
         words = g;
-        uses = λ i. g (entryOf i) (omega arith) (λ k h. omega (arith, o .few));
-        keys = λ i h ne. key-ext w v i (stays i ne) (λ j p q. g j (omega arith) (λ k a. omega (arith, o .few)));
-        bodies = body-ext w v long n r (λ j p. g j (omega arith) (λ k a. omega (arith, o .few)));
+        uses = λ i. g (entryOf i) (omega arith) (omega arith) (omega arith);
+        keys = λ i h ne. key-ext w v i (stays i ne) (λ j p q. g j (omega arith) (omega arith) (omega arith));
+        bodies = body-ext w v long n r (λ j p. g j (omega arith) (omega arith) (omega arith));
       }

@@ -2,7 +2,7 @@
 -- Assumes nothing.
 use mathlib.Core.Path.{_≡_}
 use mathlib.Core.Bool.{Bool, true, false, not, _&&_, cond}
-use mathlib.Core.List.{List, [], _∷_, _++_}
+use mathlib.Core.List.{List, _∷_, _++_}
 use Prim.Native.Nat.{ℕ, _≤_}
 use lib.ListN.{length}
 use lib.Dec.{ltb, eqb}
@@ -15,7 +15,6 @@ use Rattle.room.specs.Room.{Room, sized, lastOf}
 use Rattle.rules.specs.declared.RoomKind.{RoomKind}
 use Rattle.parties.specs.Parties.{Sent, isParty, ours, overdrawn, noneLeft, turns}
 use Rattle.judge.specs.declared.Judged.{Judged}
-use Rattle.judge.specs.declared.Standing.{Standing}
 use Rattle.opened.specs.declared.Slot.{Slot}
 use Rattle.opened.specs.Sound.{addressed, soundAt}
 use Rattle.opened.specs.Slot.{noSlot, pickSlot, slotOf, firstLook}
@@ -57,11 +56,7 @@ abbrev pub slotBy : Bool → Settings → List ℕ → ℕ → Sent → Slot
 slotBy true s w t key = lookedIn s w t key
 slotBy false s w t key = slotIn s w t key
 
--- the first of 1 to 7, 15 and 16, and where there is none whether the party has no slot left
-unfoldable pub standing : RoomKind → Settings → List ℕ → ℕ → Sent → Standing
-standing kind s w t key = record { code = early kind s w t key; none = cond (eqb (early kind s w t key) 0) (noneLeft w (key .caller)) false }
-
--- with a slot
+-- the first of 1 to 7, 15 and 16, and where there is none whether the party has no slot left; with a slot
 unfoldable pub judgedWith : RoomKind → Settings → List ℕ → ℕ → Sent → Slot → Judged
 judgedWith kind s w t key x = record {
   code = early kind s w t key;

@@ -15,15 +15,15 @@ use Rattle.settings.specs.Clock.{windowTicks, lookTicks}
 use Rattle.settings.specs.declared.Settings.{Settings}
 use Rattle.room.specs.Room.{Room, slotsOf, sized, lastOf, vacant}
 use Rattle.room.specs.Laws.{room-sized, sized-room}
-use Rattle.parties.specs.Parties.{Sent, ours, noneLeft, turns}
-use Rattle.parties.specs.Laws.{left-free}
+use Rattle.parties.specs.Parties.{Sent, ours, noneLeft, turns, standingOf}
+use Rattle.parties.specs.declared.Standing.{Standing}
+use Rattle.parties.specs.Laws.{standing-none, left-free}
 use Rattle.rules.specs.declared.RoomKind.{RoomKind}
 use Rattle.opened.specs.declared.Slot.{Slot}
 use Rattle.opened.specs.Sound.{addressed, soundAt}
 use Rattle.opened.specs.Slot.{noSlot, slotOf, firstLook}
 use Rattle.opened.specs.Look.{plain-slot}
-use Rattle.judge.specs.declared.Standing.{Standing}
-use Rattle.judge.specs.Judge.{misfits, refusals, early, faultOf, standing, judgedWith, lookBy, slotIn, lookedIn, slotBy, Passed}
+use Rattle.judge.specs.Judge.{misfits, refusals, early, faultOf, judgedWith, lookBy, slotIn, lookedIn, slotBy, Passed}
 
 pub faults-positive : (s : Settings) → Positive (faults s)
 unfolding faults
@@ -57,14 +57,6 @@ module _ (kind : RoomKind) (s : Settings) (w : List ℕ) (t : ℕ) (key : Sent) 
   pub none-is : (x : Slot) → early kind s w t key ≡ 0 → judgedWith kind s w t key x .none ≡ noneLeft w (key .caller)
   unfolding judgedWith
   none-is x e = rw (eq-eqb _ 0 e)
-
-  pub standing-code : (y : Standing) → y ≡ standing kind s w t key → y .code ≡ early kind s w t key
-  unfolding standing
-  standing-code y e = ap (λ (z : Standing). z .code) e
-
-  pub standing-none : (y : Standing) → y ≡ standing kind s w t key → y .code ≡ 0 → y .none ≡ noneLeft w (key .caller)
-  unfolding standing
-  standing-none y e z = ap (λ (v : Standing). v .none) e ∙ rw (eq-eqb _ 0 (sym (standing-code y e) ∙ z))
 
   pub code-is : (x : Slot) → judgedWith kind s w t key x .code ≡ early kind s w t key
   unfolding judgedWith
@@ -173,6 +165,10 @@ module _ (kind : RoomKind) (s : Settings) (w : List ℕ) (t : ℕ) (key : Sent) 
         party = not-false _ (f .1 .1 .1 .0);
         within = f .1 .1 .1 .1 .0;
       }
+
+  -- what the parties' side tells a call that passes
+  pub standing-left : (z : Standing) → z ≡ standingOf w (key .caller) → early kind s w t key ≡ 0 → z .none ≡ noneLeft w (key .caller)
+  standing-left z e f = standing-none w (key .caller) z e (passed f .theirs)
 
   -- the lowest free slot is there, where the party has a slot left
   pub free-there : Passed kind s w t key → noneLeft w (key .caller) ≡ false → vacant w < slotsOf w

@@ -2,7 +2,7 @@
 ghost use mathlib.Core.Path.{_≡_};
 ghost use Prim.Native.Nat.{_+_, _*_, _^_, _<_, _≤_};
 ghost use lib.ListN.{length, getD};
-ghost use Rattle.keys.specs.Keys.{pack, keyOf, sameKey, unusedZero};
+ghost use Rattle.keys.specs.Keys.{pack, keyOf, unusedZero};
 
 // A key as the directory has it: the mark of the party that it belongs to, its length, and its bytes in four words, the first one lowest.
 pub struct Key {
@@ -59,6 +59,18 @@ fn some(key: &[u8], i: usize) -> u64
         + 72057594037927936 * byte(key, i + 7)
 }
 
+// The last bytes of a key from `i` on, fewer than eight: taken with those before them, which are then shifted out.
+fn tail(key: &[u8], i: usize) -> u64
+    requires { ⌜ (i ≤ 24) × (i < length (now key)) × (length (now key) < i + 8) ⌝ }
+    ensures { λ x. ⌜ x ≡ pack (now (key .entry)) i ⌝ }
+{
+    let n = key.len();
+    if n < 8 {
+        return some(key, i);
+    }
+    eight(key, n - 8) >> (8 * (i + 8 - n))
+}
+
 fn packed(key: &[u8], i: usize) -> u64
     requires { ⌜ i ≤ 24 ⌝ }
     ensures { λ x. ⌜ x ≡ pack (now (key .entry)) i ⌝ }
@@ -67,7 +79,7 @@ fn packed(key: &[u8], i: usize) -> u64
         return 0;
     }
     if key.len() < i + 8 {
-        return some(key, i);
+        return tail(key, i);
     }
     eight(key, i)
 }
@@ -111,25 +123,4 @@ pub fn is_unused_zero(len: u64, i: u64, word: u64) -> bool
         return true;
     }
     word < top(n)
-}
-
-pub fn same_key(k: Key, l: Key) -> bool
-    ensures { λ x. ⌜ x ≡ sameKey k l ⌝ }
-{
-    if k.len != l.len {
-        return false;
-    }
-    if k.a != l.a {
-        return false;
-    }
-    if k.b != l.b {
-        return false;
-    }
-    if k.c != l.c {
-        return false;
-    }
-    if k.d != l.d {
-        return false;
-    }
-    k.holder == l.holder
 }

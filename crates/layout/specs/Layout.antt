@@ -1,5 +1,5 @@
 -- Where each word of a room stands, and which numbers the words may be: the code's constants, by the same names. A room is a
--- header, an entry for each slot, and a body for each slot. The header has a word for each of the 64 slots that a room may have: who holds it.
+-- header, an entry for each slot, and a body for each slot. The header says who holds each slot: a word of 64 bits for each of the two parties.
 -- Assumes nothing.
 use Prim.Native.Nat.{ℕ, _+_, _*_, _^_}
 
@@ -14,14 +14,17 @@ ringWord = 1
 abbrev pub lastWord : ℕ
 lastWord = 2
 
--- the holders' words start here
-abbrev pub holdersWord : ℕ
-holdersWord = 3
+-- bit s of the first is set where party 1 holds slot s, and of the second where party 2 does
+abbrev pub firstsWord : ℕ
+firstsWord = 3
+
+abbrev pub secondsWord : ℕ
+secondsWord = 4
 
 abbrev pub headerWords : ℕ
-headerWords = 67
+headerWords = 5
 
--- ---- what the word of a slot's holder may be: nobody's slots are free. One sum of such words counts both parties' slots
+-- ---- who holds a slot, its two bits as a number: nobody's slots are free, and where both are set the slot is neither party's
 
 abbrev pub nobody : ℕ
 nobody = 0
@@ -30,7 +33,7 @@ abbrev pub firstMark : ℕ
 firstMark = 1
 
 abbrev pub secondMark : ℕ
-secondMark = 128
+secondMark = 2
 
 -- ---- an entry's words behind the use, which is its first, and how many with it
 

@@ -1,5 +1,5 @@
 // Where each word of a room stands, and which numbers the words may be. A room is a header, an entry for each slot, and a
-// body for each slot. The header has a word for each of the 64 slots that a room may have: who holds it.
+// body for each slot. The header says who holds each slot: a word of 64 bits for each of the two parties.
 
 // The header's words, and how many.
 pub const SLOTS: usize = 0;
@@ -8,17 +8,19 @@ pub const RING: usize = 1;
 
 pub const LAST: usize = 2;
 
-// The holders' words start here.
-pub const HOLDERS: usize = 3;
+// Bit `s` of the first is set where party 1 holds slot `s`, and of the second where party 2 does.
+pub const FIRSTS: usize = 3;
 
-pub const HEADER: usize = 67;
+pub const SECONDS: usize = 4;
 
-// What the word of a slot's holder may be: nobody's slots are free. One sum of such words counts both parties' slots.
+pub const HEADER: usize = 5;
+
+// Who holds a slot, its two bits as a number: nobody's slots are free, and where both are set the slot is neither party's.
 pub const NOBODY: u64 = 0;
 
 pub const FIRST: u64 = 1;
 
-pub const SECOND: u64 = 128;
+pub const SECOND: u64 = 2;
 
 // A directory entry's words behind the use, which is its first, and how many with it.
 pub const KEY_LEN: usize = 1;

@@ -19,11 +19,11 @@ use Rattle.answers.specs.declared.DoneAnswer.the-variants.{Done}
 use Rattle.settings.specs.declared.Settings.{Settings}
 use Rattle.rules.specs.Buckets.{newest}
 use Rattle.ring.specs.declared.Bucket.{Bucket}
-use Rattle.layout.specs.Layout.{slotsWord, ringWord, lastWord}
+use Rattle.layout.specs.Layout.{slotsWord, ringWord, lastWord, firstsWord, secondsWord}
 use Rattle.ring.specs.Ring.{buckets}
 use Rattle.ring.specs.Sound.{soundBuckets, sound-true, true-sound, sound-later}
-use Rattle.room.specs.Room.{slotsOf, ringOf, lastOf, holderAt, entryOf, Room, holderOf, useOf, usedAt, keyAt, bodyOf, withReading}
-use Rattle.room.specs.Entries.{used-held, used-free}
+use Rattle.room.specs.Room.{slotsOf, ringOf, lastOf, entryOf, Room, holderOf, useOf, usedAt, keyAt, bodyOf, withReading}
+use Rattle.room.specs.Entries.{holder-same, used-held, used-free}
 use Rattle.parties.specs.declared.Caller.{Caller}
 use Rattle.keys.specs.Keys.{keyFits}
 use Rattle.room.specs.Laws.{room-same}
@@ -49,7 +49,7 @@ pub record Cleaned (w v : List ℕ) (t ticks stale : ℕ) : Type 0 where
   pub ring : ringOf v ≡ ringOf w
   pub last : lastOf v ≡ t
   pub settled : (i : ℕ) → i < slotsOf w → Settled w t ticks stale v i
-  pub words : (j : ℕ) → j ≢ lastWord → ((i : ℕ) → i < slotsOf w → j ≢ holderAt i) → ((i : ℕ) → i < slotsOf w → j ≢ entryOf i) → getD v j 0 ≡ getD w j 0
+  pub words : (j : ℕ) → j ≢ lastWord → j ≢ firstsWord → j ≢ secondsWord → ((i : ℕ) → i < slotsOf w → j ≢ entryOf i) → getD v j 0 ≡ getD w j 0
   pub bodies : (i : ℕ) → bodyOf v i ≡ bodyOf w i
 
 pub clean-run : (w : List ℕ) (t ticks stale : ℕ) → Room w → Cleaned w (cleaned w t ticks stale) t ticks stale
@@ -59,10 +59,11 @@ clean-run w t ticks stale o =
     let v = set y lastWord t in
     let l = swept-length w t ticks stale (slotsOf w) in
     let long : length v ≡ length w = length-set y lastWord t ∙ l in
-    let g : (j : ℕ) → j ≢ lastWord → ((i : ℕ) → i < slotsOf w → j ≢ holderAt i) → ((i : ℕ) → i < slotsOf w → j ≢ entryOf i) → getD v j 0 ≡ getD w j 0 =
-    λ j n f e. getD-set-other y lastWord j t 0 n ∙ swept-other w t ticks stale (slotsOf w) j f e in
-    let n : slotsOf v ≡ slotsOf w = g slotsWord (omega arith) (λ i h. omega arith) (λ i h. omega arith) in
-    let r : ringOf v ≡ ringOf w = g ringWord (omega arith) (λ i h. omega arith) (λ i h. omega arith) in
+    let f : (j : ℕ) → j ≢ lastWord → getD v j 0 ≡ getD y j 0 = λ j n. getD-set-other y lastWord j t 0 n in
+    let g : (j : ℕ) → j ≢ lastWord → j ≢ firstsWord → j ≢ secondsWord → ((i : ℕ) → i < slotsOf w → j ≢ entryOf i) → getD v j 0 ≡ getD w j 0 =
+    λ j n p q e. f j n ∙ swept-other w t ticks stale (slotsOf w) j p q e in
+    let n : slotsOf v ≡ slotsOf w = g slotsWord (omega arith) (omega arith) (omega arith) (λ i h. omega arith) in
+    let r : ringOf v ≡ ringOf w = g ringWord (omega arith) (omega arith) (omega arith) (λ i h. omega arith) in
     record {
       room = room-same w v n r long o;
       long = long;
@@ -70,12 +71,12 @@ clean-run w t ticks stale o =
       ring = r;
       last = getD-set-same y lastWord t 0 (omega (arith, o .long, l));
       settled = λ i h.
-          let q = swept-settled w t ticks stale (slotsOf w) i h (o .few) (omega (arith, o .long)) in
-          let a = getD-set-other y lastWord (holderAt i) t 0 (omega arith) in
-          let b = getD-set-other y lastWord (entryOf i) t 0 (omega arith) in
+          let q = swept-settled w t ticks stale (slotsOf w) i h (omega (arith, o .long)) in
+          let a = holder-same y v (f firstsWord (omega arith)) (f secondsWord (omega arith)) i in
+          let b = f (entryOf i) (omega arith) in
           record { goes = λ e. a ∙ q .goes e; stays = λ e. a ∙ q .stays e; used = λ e. b ∙ q .used e };
       words = g;
-      bodies = body-ext w v long n r (λ j p. g j (omega arith) (λ h a. omega (arith, o .few)) (λ h a. omega arith));
+      bodies = body-ext w v long n r (λ j p. g j (omega arith) (omega arith) (omega arith) (λ h a. omega arith));
     }
 
 -- ---- a use by its two parts
@@ -162,7 +163,7 @@ module _ {w v : List ℕ} {t ticks stale : ℕ} (c : Cleaned w v t ticks stale) 
   pub same-key : holderOf v i ≢ 0 → keyAt v i ≡ keyAt w i
   same-key n =
       key-ext w v i (same-holder n)
-      (λ j p q. c .words j (omega arith) (λ k a. omega (arith, c .room .few, c .slots)) (λ k a. omega arith))
+      (λ j p q. c .words j (omega arith) (omega arith) (omega arith) (λ k a. omega arith))
 
 -- ---- keys
 

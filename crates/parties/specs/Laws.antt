@@ -1,28 +1,34 @@
--- What the walk over the holders' words shows; and that a free slot is there wherever a party holds less than it is promised.
+-- What the two words of bits show; that a free slot is there wherever a party holds less than it is promised; and what a call's standing says.
 -- Assumes nothing.
-use mathlib.Core.Path.{_≡_, refl, sym, ap, _∙_}
+use mathlib.Core.Path.{_≡_, refl, sym, ap, ap₂, _∙_}
 use mathlib.Core.Bool.{Bool, true, false, cond, not, _&&_, _||_, false≢true}
 use mathlib.Core.List.{List}
 use mathlib.Core.Logic.{_≢_}
-use Prim.Native.Nat.{ℕ, zero, suc, _+_, _*_, _/_, _%_, _^_, _≤_, _<_}
+use Prim.Native.Nat.{ℕ, zero, suc, _+_, _-_, _*_, _/_, _%_, _^_, _≤_, _<_}
+use native.Mathlib.Nat.{add-comm, mod-lt, mod-one}
 use native.Mathlib.Decide.{ℕ-discrete, decLt}
 use native.Mathlib.Omega.{arith}
-use lib.Dec.{leb, ltb, eqb}
-use lib.Bits.{bitOr, or-lt, or-mod, or-add-and, and-le-l, and-le-r}
-use borrow.Author.Tests.{eq-eqb, ne-eqb, eqb-true, lt-ltb, le-ltb, ltb-true, ltb-false, le-leb, leb-false}
-use Rattle.base.specs.Decides.{and-true, true-and, both-ways}
+use lib.Dec.{ltb, eqb}
+use lib.ListN.{getD}
+use lib.Pow.{pow-pos, high, ones-lt, ones-split}
+use lib.Bits.{bitAnd, and-mask, and-block}
+use lib.Count.{ones, onesIn, ones-cat, ones-ones}
+use borrow.Author.Tests.{ne-eqb, ltb-false, leb-false}
+use Rattle.common.specs.Refusals.{first}
+use Rattle.base.specs.Bits.{bitAt, bit-lt, low-bits}
+use Rattle.base.specs.Decides.{and-true, true-and, not-so}
 use Rattle.base.specs.Every.{every, every-at}
-use Rattle.base.specs.Seek.{seek-le, seek-before}
-use Rattle.layout.specs.Layout.{nobody, firstMark, secondMark}
-use Rattle.room.specs.Room.{Room, slotsOf, holderOf, free, vacant}
+use Rattle.base.specs.Seek.{seek-before}
+use Rattle.layout.specs.Layout.{nobody, firstMark, secondMark, firstsWord, secondsWord}
+use Rattle.room.specs.Room.{slotsOf, holderOf, free, vacant}
 use Rattle.room.specs.Entries.{free-yes}
 use Rattle.parties.specs.declared.Caller.{Caller}
 use Rattle.parties.specs.declared.Holdings.{Holdings}
-use Rattle.parties.specs.declared.Tally.{Tally}
-use Rattle.parties.specs.Parties.{isParty, markOf, isOurs, ours, many, slotsHeld, promised, holding, overdrawn, noneLeft}
-use Rattle.parties.specs.Census.{turned, tallied, isOwn, censusOf, Counts, overdrawnBy}
+use Rattle.parties.specs.declared.Standing.{Standing}
+use Rattle.parties.specs.Parties.{isParty, markOf, isOurs, ours, many, slotsHeld, overdrawn, turns, noneLeft, standingOf}
+use Rattle.parties.specs.Census.{bitsHeld, censusOf, Counts, overdrawnBy}
 
--- ---- a holder's word by cases
+-- ---- who holds a slot, by cases
 
 pub data Holds (m : ℕ) : Type 0 where
   none : m ≡ nobody → Holds m
@@ -52,6 +58,24 @@ mark-holds party e = go (eqb party 1) (eqb party 2) e
     go false true e = seconds refl
     go false false e = absurd (false≢true e)
 
+-- it is the party's number, and there is none past the two
+pub mark-over : (party : ℕ) → 2 < party → markOf party ≡ nobody
+mark-over party h = rw (ne-eqb party 1 (λ e. omega (arith, e, h)), ne-eqb party 2 (λ e. omega (arith, e, h)))
+
+pub mark-is : (party : ℕ) → party ≤ 2 → markOf party ≡ party
+mark-is zero h = refl
+mark-is (suc zero) h = refl
+mark-is (suc (suc zero)) h = refl
+mark-is (suc (suc (suc n))) h = absurd (omega arith)
+
+pub mark-small : (party : ℕ) → markOf party < 4
+mark-small party = go (eqb party 1) (eqb party 2)
+  where
+    go : (a b : Bool) → cond a firstMark (cond b secondMark nobody) < 4
+    go true b = omega arith
+    go false true = omega arith
+    go false false = omega arith
+
 -- of all slots: each is ours, and each that all are
 pub ours-at : (w : List ℕ) → ours w ≡ true → (i : ℕ) → i < slotsOf w → Holds (holderOf w i)
 unfolding ours
@@ -65,142 +89,115 @@ all-ours w f = go (slotsOf w) (λ i h. f i h)
     go zero g = refl
     go (suc n) g = true-and (every (λ s. isOurs (holderOf w s)) n) _ (go n (λ i h. g i (omega arith))) (holds-ours (holderOf w n) (g n (omega arith)))
 
--- ---- the walk
+-- ---- two words of bits
 
-or-left : (a b : ℕ) → a ≤ bitOr a b
-or-left a b = omega (arith, or-add-and a b, and-le-r a b)
+-- a word's lowest n bits, as a program masks them
+pub low-mask : (x n : ℕ) → n ≤ 64 → bitAnd x (18446744073709551615 / 2 ^ (64 - n)) ≡ x % 2 ^ n
+low-mask x n h =
+    let e : n + (64 - n) ≡ 64 = omega arith in
+    let m : (2 ^ 64 - 1) / 2 ^ (64 - n) ≡ 2 ^ n - 1 = ap (λ (k : ℕ). (2 ^ k - 1) / 2 ^ (64 - n)) (sym e) ∙
+    ap (λ (y : ℕ). y / 2 ^ (64 - n)) (ones-split n (64 - n)) ∙ high (2 ^ n - 1) (64 - n) (ones-lt (64 - n)) in
+    ap (bitAnd x) m ∙ and-mask x n
 
-or-right : (a b : ℕ) → b ≤ bitOr a b
-or-right a b = omega (arith, or-add-and a b, and-le-l a b)
+-- the count of those that are set
+ones-bit : (b : ℕ) → b < 2 → ones b ≡ cond (eqb b 1) 1 0
+unfolding ones onesIn
+ones-bit zero h = refl
+ones-bit (suc zero) h = refl
+ones-bit (suc (suc b)) h = absurd (omega arith)
 
--- the last of seven bits and more
-or-low : (a b : ℕ) → bitOr a b % 128 ≡ bitOr (a % 128) (b % 128)
-or-low a b = or-mod a b 7
+pub ones-low : (x n : ℕ) → ones (x % 2 ^ n) ≡ many (λ s. eqb (bitAt x s) 1) n
+unfolding many
+ones-low x zero = ap ones (mod-one x) ∙ ones-ones 0
+ones-low x (suc n) =
+    ap ones (low-bits x n) ∙ ones-cat n (bitAt x n) (x % 2 ^ n) (mod-lt x (pow-pos n)) ∙
+    ap₂ (λ (a b : ℕ). a + b) (ones-bit (bitAt x n) (bit-lt x n)) (ones-low x n) ∙ add-comm (cond (eqb (bitAt x n) 1) 1 0) _
 
-pub tally-small : (w : List ℕ) (n : ℕ) → tallied w n .sum ≤ 255 * n
-unfolding tallied turned
-tally-small w zero = omega arith
-tally-small w (suc n) = omega (arith, tally-small w n)
+-- no slot has both bits: each is nobody's or a party's
+and-yes : (t : Bool) → t ≡ t && true
+and-yes true = refl
+and-yes false = refl
 
--- what a walk is that shows nothing but the parties' own
-pub record Own (a : Tally) : Type 0 where
-  pub bits : a .bits < 256
-  pub low : a .bits % 128 < 2
-  pub above : a .above < 256
+and-no : (t : Bool) → false ≡ t && false
+and-no true = refl
+and-no false = refl
 
-pub own-true : (a : Tally) → Own a → isOwn a ≡ true
-unfolding isOwn
-own-true a o = rw (lt-ltb (a .bits) 256 (o .bits), lt-ltb (a .bits % 128) 2 (o .low), lt-ltb (a .above) 256 (o .above))
+not-both : (k r : ℕ) → eqb (0 * 2 ^ k + r) 0 ≡ eqb r 0 && true
+not-both k r = let e : 0 * 2 ^ k + r ≡ r = omega arith in ap (λ (y : ℕ). eqb y 0) e ∙ and-yes (eqb r 0)
 
-pub true-own : (a : Tally) → isOwn a ≡ true → Own a
-unfolding isOwn
-true-own a e =
-    let p = and-true (ltb (a .bits) 256) _ e in
-    let q = and-true (ltb (a .bits % 128) 2) _ (p .1) in
-    record { bits = ltb-true _ _ (p .0); low = ltb-true _ _ (q .0); above = ltb-true _ _ (q .1) }
+both-ours : (k a b r : ℕ) → a < 2 → b < 2 → eqb (bitAnd a b * 2 ^ k + r) 0 ≡ eqb r 0 && isOurs (a + 2 * b)
+both-ours k zero zero r f g = not-both k r
+both-ours k zero (suc zero) r f g = not-both k r
+both-ours k zero (suc (suc b)) r f g = absurd (omega arith)
+both-ours k (suc zero) zero r f g = not-both k r
+both-ours k (suc zero) (suc zero) r f g = ne-eqb (1 * 2 ^ k + r) 0 (λ e. omega (arith, e, pow-pos k)) ∙ and-no (eqb r 0)
+both-ours k (suc zero) (suc (suc b)) r f g = absurd (omega arith)
+both-ours k (suc (suc a)) b r f g = absurd (omega arith)
 
--- one word more: both ways
-turn-own : (a : Tally) (m : ℕ) → Own a → Holds m → Own (turned a m)
-unfolding turned
-turn-own a m o h =
-    let bits : m < 256 = go h in
-    let low : m % 128 < 2 = lows h in
-    let above : m % 256 + 127 < 256 = aboves h in
-    record {
-      bits = or-lt 8 (a .bits) m (o .bits) bits;
-      low = rw (or-low (a .bits) m) (or-lt 1 (a .bits % 128) (m % 128) (o .low) low);
-      above = or-lt 8 (a .above) (m % 256 + 127) (o .above) above;
-    }
-  where
-    go : Holds m → m < 256
-    go (none e) = omega (arith, e)
-    go (firsts e) = omega (arith, e)
-    go (seconds e) = omega (arith, e)
+no-both : (x y n : ℕ) → eqb (bitAnd (x % 2 ^ n) (y % 2 ^ n)) 0 ≡ every (λ s. isOurs (bitAt x s + 2 * bitAt y s)) n
+unfolding every
+no-both x y zero = ap₂ (λ (a b : ℕ). eqb (bitAnd a b) 0) (mod-one x) (mod-one y)
+no-both x y (suc n) =
+    ap₂ (λ (a b : ℕ). eqb (bitAnd a b) 0) (low-bits x n) (low-bits y n) ∙
+    ap (λ (a : ℕ). eqb a 0) (and-block n (bitAt x n) (bitAt y n) (x % 2 ^ n) (y % 2 ^ n) (mod-lt x (pow-pos n)) (mod-lt y (pow-pos n))) ∙
+    both-ours n (bitAt x n) (bitAt y n) (bitAnd (x % 2 ^ n) (y % 2 ^ n)) (bit-lt x n) (bit-lt y n) ∙
+    ap (λ (t : Bool). t && isOurs (bitAt x n + 2 * bitAt y n)) (no-both x y n)
 
-    lows : Holds m → m % 128 < 2
-    lows (none e) = rw e (omega arith)
-    lows (firsts e) = rw e (omega arith)
-    lows (seconds e) = rw e (omega arith)
+-- and then a bit tells who holds the slot
+bits-tell : (a b : ℕ) → a < 2 → b < 2 → isOurs (a + 2 * b) ≡ true → (eqb a 1 ≡ eqb (a + 2 * b) firstMark) × (eqb b 1 ≡ eqb (a + 2 * b) secondMark)
+bits-tell zero zero f g e = (refl, refl)
+bits-tell zero (suc zero) f g e = (refl, refl)
+bits-tell zero (suc (suc b)) f g e = absurd (omega arith)
+bits-tell (suc zero) zero f g e = (refl, refl)
+bits-tell (suc zero) (suc zero) f g e = absurd (false≢true e)
+bits-tell (suc zero) (suc (suc b)) f g e = absurd (omega arith)
+bits-tell (suc (suc a)) b f g e = absurd (omega arith)
 
-    aboves : Holds m → m % 256 + 127 < 256
-    aboves (none e) = rw e (omega arith)
-    aboves (firsts e) = rw e (omega arith)
-    aboves (seconds e) = rw e (omega arith)
-
-own-turn : (a : Tally) (m : ℕ) → Own (turned a m) → Own a × Holds m
-unfolding turned
-own-turn a m o =
-    let e = or-low (a .bits) m in
-    let lows : bitOr (a .bits % 128) (m % 128) < 2 = omega (arith, o .low, e) in
-    let bits : m < 256 = omega (arith, o .bits, or-right (a .bits) m) in
-    let low : m % 128 < 2 = omega (arith, or-right (a .bits % 128) (m % 128)) in
-    let above : m % 256 + 127 < 256 = omega (arith, o .above, or-right (a .above) (m % 256 + 127)) in (
-      record {
-        bits = omega (arith, o .bits, or-left (a .bits) m);
-        low = omega (arith, or-left (a .bits % 128) (m % 128));
-        above = omega (arith, o .above, or-left (a .above) (m % 256 + 127));
-      },
-      go (ℕ-discrete m nobody) (ℕ-discrete m firstMark) bits low above,
-    )
-  where
-    go : Dec (m ≡ nobody) → Dec (m ≡ firstMark) → m < 256 → m % 128 < 2 → m % 256 + 127 < 256 → Holds m
-    go (yes p) b x y z = none p
-    go (no p) (yes q) x y z = firsts q
-    go (no p) (no q) x y z = seconds (omega arith)
-
--- the sum and the counts of the first n slots, where all are the parties'
-record Counted (w : List ℕ) (n : ℕ) : Type 0 where
-  pub sum : tallied w n .sum ≡ many (λ s. eqb (holderOf w s) firstMark) n + 128 * many (λ s. eqb (holderOf w s) secondMark) n
-  pub few : many (λ s. eqb (holderOf w s) firstMark) n ≤ n
+-- tests that agree where all pass p count the same
+many-same : (p f g : ℕ → Bool) → ((s : ℕ) → p s ≡ true → f s ≡ g s) → (n : ℕ) → every p n ≡ true → many f n ≡ many g n
+unfolding every many
+many-same p f g h zero e = refl
+many-same p f g h (suc n) e =
+    let q = and-true (every p n) _ e in
+    ap₂ (λ (a : ℕ) (t : Bool). a + cond t 1 0) (many-same p f g h n (q .0)) (h n (q .1))
 
 module _ (w : List ℕ) where
-  ours-own : (n : ℕ) → every (λ s. isOurs (holderOf w s)) n ≡ true → Own (tallied w n)
-  unfolding every tallied
-  ours-own zero e = record { bits = omega arith; low = omega arith; above = omega arith }
-  ours-own (suc n) e =
-      let p = and-true (every (λ s. isOurs (holderOf w s)) n) _ e in
-      turn-own (tallied w n) (holderOf w n) (ours-own n (p .0)) (ours-holds (holderOf w n) (p .1))
+  -- the census from the two words
+  pub ours-is : eqb (bitAnd (getD w firstsWord 0 % 2 ^ slotsOf w) (getD w secondsWord 0 % 2 ^ slotsOf w)) 0 ≡ ours w
+  unfolding ours holderOf
+  ours-is = no-both (getD w firstsWord 0) (getD w secondsWord 0) (slotsOf w)
 
-  own-ours : (n : ℕ) → Own (tallied w n) → every (λ s. isOurs (holderOf w s)) n ≡ true
-  unfolding every tallied
-  own-ours zero o = refl
-  own-ours (suc n) o =
-      let p = own-turn (tallied w n) (holderOf w n) o in
-      true-and (every (λ s. isOurs (holderOf w s)) n) _ (own-ours n (p .0)) (holds-ours (holderOf w n) (p .1))
+  pub first-held : ours w ≡ true → bitsHeld w firstsWord ≡ slotsHeld w firstMark
+  unfolding ours holderOf bitsHeld slotsHeld
+  first-held e =
+      let x = getD w firstsWord 0 in
+      let y = getD w secondsWord 0 in
+      many-same
+      (λ s. isOurs (bitAt x s + 2 * bitAt y s))
+      (λ s. eqb (bitAt x s) 1)
+      (λ s. eqb (bitAt x s + 2 * bitAt y s) firstMark)
+      (λ s e. bits-tell (bitAt x s) (bitAt y s) (bit-lt x s) (bit-lt y s) e .0)
+      (slotsOf w)
+      e
 
-  pub own-is : isOwn (tallied w (slotsOf w)) ≡ ours w
-  unfolding ours
-  own-is =
-      both-ways (isOwn (tallied w (slotsOf w))) (every (λ s. isOurs (holderOf w s)) (slotsOf w)) (λ e. own-ours (slotsOf w) (true-own _ e))
-      (λ e. own-true _ (ours-own (slotsOf w) e))
-
-  counted : (n : ℕ) → every (λ s. isOurs (holderOf w s)) n ≡ true → Counted w n
-  unfolding every tallied turned many
-  counted zero e = record { sum = refl; few = omega arith }
-  counted (suc n) e =
-      let p = and-true (every (λ s. isOurs (holderOf w s)) n) _ e in
-      let c = counted n (p .0) in
-      go c (ours-holds (holderOf w n) (p .1))
-    where
-      go : Counted w n → Holds (holderOf w n) → Counted w (suc n)
-      go c (none q) = record { sum = rw q (omega (arith, c .sum)); few = rw q (omega (arith, c .few)) }
-      go c (firsts q) = record { sum = rw q (omega (arith, c .sum)); few = rw q (omega (arith, c .few)) }
-      go c (seconds q) = record { sum = rw q (omega (arith, c .sum)); few = rw q (omega (arith, c .few)) }
-
-  -- the census from the walk
-  pub first-count : Room w → ours w ≡ true → tallied w (slotsOf w) .sum % 128 ≡ slotsHeld w firstMark
-  unfolding ours slotsHeld
-  first-count o e = let c = counted (slotsOf w) e in omega (arith, c .sum, c .few, o .few)
-
-  pub second-count : Room w → ours w ≡ true → tallied w (slotsOf w) .sum / 128 ≡ slotsHeld w secondMark
-  unfolding ours slotsHeld
-  second-count o e = let c = counted (slotsOf w) e in omega (arith, c .sum, c .few, o .few)
+  pub second-held : ours w ≡ true → bitsHeld w secondsWord ≡ slotsHeld w secondMark
+  unfolding ours holderOf bitsHeld slotsHeld
+  second-held e =
+      let x = getD w firstsWord 0 in
+      let y = getD w secondsWord 0 in
+      many-same
+      (λ s. isOurs (bitAt x s + 2 * bitAt y s))
+      (λ s. eqb (bitAt y s) 1)
+      (λ s. eqb (bitAt x s + 2 * bitAt y s) secondMark)
+      (λ s e. bits-tell (bitAt x s) (bitAt y s) (bit-lt x s) (bit-lt y s) e .1)
+      (slotsOf w)
+      e
 
   pub census-counts : (z : Holdings) → z ≡ censusOf w → ours w ≡ true → Counts w z
   unfolding censusOf
   census-counts z e q = record {
-    first-is = ap (λ (y : Holdings). y .first) e ∙ rw q;
-    second-is = ap (λ (y : Holdings). y .second) e ∙ rw q;
+    first-is = ap (λ (y : Holdings). y .first) e ∙ first-held q;
+    second-is = ap (λ (y : Holdings). y .second) e ∙ second-held q;
   }
 
   pub census-ours : (z : Holdings) → z ≡ censusOf w → z .ours ≡ ours w
@@ -260,3 +257,42 @@ module _ (w : List ℕ) where
               many (λ s. eqb (holderOf w s) secondMark) (slotsOf w) ≤ c .second → vacant w < slotsOf w
           less true l s f g k = absurd (omega arith)
           less false l s f g k = absurd (omega arith)
+
+-- ---- what is judged of the parties alone
+
+-- 15, 16 or none
+turns-not-five : (w : List ℕ) (c : Caller) → first (turns w c) ≢ 5
+unfolding turns first
+turns-not-five w c = go (not (isParty (c .party))) (overdrawn w c)
+  where
+    go : (a b : Bool) → _≢_ {A = ℕ} (cond a 15 (cond b 16 0)) 5
+    go true b e = omega (arith, e)
+    go false true e = omega (arith, e)
+    go false false e = omega (arith, e)
+
+module _ (w : List ℕ) (c : Caller) (z : Standing) where
+  -- 5 where a slot is neither party's, and only there
+  pub standing-stray : z ≡ standingOf w c → ours w ≡ false → z .code ≡ 5
+  unfolding standingOf first
+  standing-stray e q = ap (λ (y : Standing). y .code) e ∙ rw q
+
+  pub standing-turns : z ≡ standingOf w c → ours w ≡ true → z .code ≡ first (turns w c)
+  unfolding standingOf first
+  standing-turns e q = ap (λ (y : Standing). y .code) e ∙ rw q
+
+  pub standing-not-five : z ≡ standingOf w c → ours w ≡ true → z .code ≢ 5
+  standing-not-five e q p = turns-not-five w c (sym (standing-turns e q) ∙ p)
+
+  pub standing-ours : z ≡ standingOf w c → z .code ≢ 5 → ours w ≡ true
+  standing-ours e n = not-no (ours w) (λ q. n (standing-stray e q))
+    where
+      not-no : (t : Bool) → t ≢ false → t ≡ true
+      not-no true h = refl
+      not-no false h = absurd (h refl)
+
+  pub standing-not-ours : z ≡ standingOf w c → z .code ≡ 5 → ours w ≡ false
+  standing-not-ours e p = not-so (ours w) (λ q. standing-not-five e q p)
+
+  pub standing-none : z ≡ standingOf w c → ours w ≡ true → z .none ≡ noneLeft w c
+  unfolding standingOf
+  standing-none e q = ap (λ (y : Standing). y .none) e ∙ rw q

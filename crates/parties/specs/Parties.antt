@@ -1,7 +1,7 @@
 -- Two parties share a room (document 02, ticket 6): whose a slot is, how many slots each holds, and what is refused by that. A call comes with its party
 -- and the two promises; a key belongs to the party that sends it.
 -- Assumes nothing.
-use mathlib.Core.Bool.{Bool, cond, not, _||_}
+use mathlib.Core.Bool.{Bool, false, cond, not, _||_}
 use mathlib.Core.List.{List, [], _∷_}
 use Prim.Native.Nat.{ℕ, zero, suc, _+_}
 use lib.Dec.{leb, ltb, eqb}
@@ -10,9 +10,11 @@ use Rattle.layout.specs.Layout.{nobody, firstMark, secondMark}
 use Rattle.keys.specs.declared.Key.{Key}
 use Rattle.keys.specs.Keys.{keyOf}
 use Rattle.room.specs.Room.{slotsOf, holderOf}
+use Rattle.common.specs.Refusals.{first}
 use Rattle.parties.specs.declared.Caller.{Caller}
+use Rattle.parties.specs.declared.Standing.{Standing}
 
--- ---- a party, and what stands in the word of a slot that it holds
+-- ---- a party, and who holds its slots, as their bits say it
 
 -- "a party other than 1 and 2"
 abbrev pub isParty : ℕ → Bool
@@ -73,3 +75,7 @@ turns w c = (15, not (isParty (c .party))) ∷ (16, overdrawn w c) ∷ []
 -- 11, where a slot is needed: "the party already holds its promised number"
 unfoldable pub noneLeft : List ℕ → Caller → Bool
 noneLeft w c = leb (promised c) (holding w c)
+
+-- what is judged of the parties alone: 5 where "a slot in use is neither party's", then 15 and 16; and whether no slot is left
+unfoldable pub standingOf : List ℕ → Caller → Standing
+standingOf w c = record { code = first ((5, not (ours w)) ∷ turns w c); none = cond (ours w) (noneLeft w c) false }

@@ -1,11 +1,11 @@
 // Two parties share a room, each promised a number of its slots: whose a slot is, how many each holds, and what that refuses.
 ghost use mathlib.Core.Path.{_≡_};
 ghost use mathlib.Core.Bool.{true};
-ghost use Prim.Native.Nat.{_*_, _≤_};
+ghost use Prim.Native.Nat.{_%_, _^_, _≤_};
 ghost use Rattle.common.specs.Refusals.{first};
 ghost use Rattle.room.specs.Room.{Room, slotsOf};
-ghost use Rattle.parties.specs.Parties.{isParty, markOf, ours, noneLeft, turns};
-ghost use Rattle.parties.specs.Census.{turned, tallied, isOwn, censusOf, overdrawnBy, Counts};
+ghost use Rattle.parties.specs.Parties.{isParty, markOf, noneLeft, turns, standingOf};
+ghost use Rattle.parties.specs.Census.{censusOf, overdrawnBy, Counts};
 
 // Who calls: a party, 1 or 2, and how many slots each of the two is promised.
 pub struct Caller {
@@ -14,31 +14,24 @@ pub struct Caller {
     pub second: u64,
 }
 
-// Whether every slot in use is a party's, and if so how many slots each holds.
+// Whether every slot in use is a party's, and how many slots each holds, one that both hold for each.
 pub struct Holdings {
     pub ours: bool,
     pub first: u64,
     pub second: u64,
 }
 
-// What a walk over the holders' words carries: a sum that counts both parties, the bits of all words, and of all with 127 more.
-pub struct Tally {
-    pub sum: u64,
-    pub bits: u64,
-    pub above: u64,
+// The first of 5 for a slot that is neither party's, 15 and 16, or 0; and whether the caller's party already holds all slots that it is promised.
+pub struct Standing {
+    pub code: u64,
+    pub none: bool,
 }
 
-// What stands in the word of a slot that the party holds; a party other than 1 and 2 has no mark.
+// Who holds the party's slots, as a slot's bits say it: the party's number; a party other than 1 and 2 holds none.
 pub fn mark(party: u64) -> u64
     ensures { λ x. ⌜ x ≡ markOf party ⌝ }
 {
-    if party == 1 {
-        return layout::FIRST;
-    }
-    if party == 2 {
-        return layout::SECOND;
-    }
-    layout::NOBODY
+    if 2 < party { layout::NOBODY } else { party }
 }
 
 pub fn is_party(party: u64) -> bool
@@ -50,68 +43,26 @@ pub fn is_party(party: u64) -> bool
     party == 2
 }
 
-// One slot further. No branch and no compare: the compiler makes vector code of the walk.
-fn turn(a: Tally, holder: u64) -> Tally
-    requires { ⌜ a .sum ≤ 16320 ⌝ }
-    ensures { λ x. ⌜ x ≡ turned a holder ⌝ }
+// The bits of a word that are of the room's own slots.
+fn own_bits(slots: u64, x: u64) -> u64
+    requires { ⌜ (1 ≤ slots) × (slots ≤ 64) ⌝ }
+    ensures { λ y. ⌜ y ≡ x % 2 ^ slots ⌝ }
 {
-    let low = holder % 256;
-    Tally {
-        sum: a.sum + low,
-        bits: a.bits | holder,
-        above: a.above | (low + 127),
-    }
+    x & (18446744073709551615 >> (64 - slots))
 }
 
-// All slots.
-fn walk(w: &[u64]) -> Tally
-    requires { ⌜ Room (now w) ⌝ }
-    ensures { λ x. ⌜ x ≡ tallied (now (w .entry)) (slotsOf (now (w .entry))) ⌝ }
-{
-    let n = w[layout::SLOTS] as usize;
-    let mut a = Tally {
-        sum: 0,
-        bits: 0,
-        above: 0,
-    };
-    let mut s = 0;
-    while s < n {
-        a = turn(a, w[layout::HOLDERS + s]);
-        s += 1;
-    }
-    a
-}
-
-// Whether all of them are nobody's or a party's: 0, 1 or 128.
-fn is_own(a: Tally) -> bool
-    ensures { λ x. ⌜ x ≡ isOwn a ⌝ }
-{
-    if 256 <= a.bits {
-        return false;
-    }
-    if 2 <= a.bits % 128 {
-        return false;
-    }
-    a.above < 256
-}
-
+// Two words tell it of all slots: no slot is both parties', and each word's bits are counted.
 pub fn census(w: &[u64]) -> Holdings
     requires { ⌜ Room (now w) ⌝ }
     ensures { λ x. ⌜ x ≡ censusOf (now (w .entry)) ⌝ }
 {
-    let a = walk(w);
-    if !is_own(a) {
-        return Holdings {
-            ours: false,
-            first: 0,
-            second: 0,
-        };
-    }
-    let sum = a.sum;
+    let slots = w[layout::SLOTS];
+    let firsts = own_bits(slots, w[layout::FIRSTS]);
+    let seconds = own_bits(slots, w[layout::SECONDS]);
     Holdings {
-        ours: true,
-        first: sum % 128,
-        second: sum / 128,
+        ours: firsts & seconds == 0,
+        first: u64::count_ones(firsts) as u64,
+        second: u64::count_ones(seconds) as u64,
     }
 }
 
@@ -156,4 +107,22 @@ pub fn none_left(w: &[u64], caller: Caller, held: Holdings) -> bool
         return caller.first <= held.first;
     }
     caller.second <= held.second
+}
+
+// All at once, of a call with a key.
+pub fn standing_of(w: &[u64], caller: Caller) -> Standing
+    requires { ⌜ Room (now w) ⌝ }
+    ensures { λ x. ⌜ x ≡ standingOf (now (w .entry)) caller ⌝ }
+{
+    let held = census(w);
+    if !held.ours {
+        return Standing {
+            code: 5,
+            none: false,
+        };
+    }
+    Standing {
+        code: refusal(w, caller, held),
+        none: none_left(w, caller, held),
+    }
 }

@@ -53,6 +53,7 @@ use Rattle.calls.specs.Set as Sets
 use Rattle.cleanup.specs.Cleanup as Cleanup
 use Rattle.stale.specs.Uses as Uses
 use Rattle.base.specs.Every as Every
+use Rattle.base.specs.Bits as Bits
 use Rattle.absolute_verdicts.specs.Calls as Absolute
 use Rattle.absolute_opened.specs.Opened as AbsoluteEdits
 use Rattle.rules.specs.declared.RoomKind.{RoomKind}
@@ -184,9 +185,9 @@ pub record PartyBoundary : Type 0 where
   pub long-first : pinc (sent (sentBy 3 1 1 97 .caller) (replicate 33 97)) 1 pair .answer ≡ Refused 7
   pub party-first : pinc (sentBy 3 1 2 97) 1 pair .answer ≡ Refused 15
   pub promise-first : pinc (sentBy 1 1 2 97) (2 ^ 53 + 1) pair .answer ≡ Refused 16
-  -- 5 "where a slot in use is neither party's", "by clear too": word 3 says who holds slot 0
-  pub stray : pinc (sentBy 1 1 1 97) 1 (set pair 3 2) .answer ≡ Refused 5
-  pub stray-clear : pclear 1 (set pair 3 2) .answer ≡ done.Refused 5
+  -- 5 "where a slot in use is neither party's", "by clear too": slot 0 has its bit in both words, 3 and 4
+  pub stray : pinc (sentBy 1 1 1 97) 1 (set (set pair 3 1) 4 1) .answer ≡ Refused 5
+  pub stray-clear : pclear 1 (set (set pair 3 1) 4 1) .answer ≡ done.Refused 5
   -- "Clear removes the caller's keys only"
   pub clear-frees : holderOf (pclear 1 ofBoth .words) 0 ≡ 0
   pub clear-leaves : bucketsOf (pclear 1 ofBoth .words) (sentBy 2 1 1 97) ≡ bucket 5 0 0 ∷ []
@@ -228,11 +229,11 @@ pub record Further : Type 0 where
   -- the factor after the link test, by the two calls that give it
   pub link-factor : SuppressedCalls.getFactor (hardBy 4) linkTested 1 key .answer ≡ factor.Factor nil
   pub link-snapshot : SuppressedCalls.get (hardBy 4) linkTested 1 key .answer ≡ snapshot.Snapshot noSnapshot
-  -- the totals that `get` gives; and a total, word 74 of the room, that is not the sum, which is unsound
+  -- the totals that `get` gives; and a total, word 12 of the room, that is not the sum, which is unsound
   pub twenty-known : heldIn twenty key .known ≡ true
   pub twenty-given : sget 0 twenty .answer ≡ snapshot.Snapshot (record { total = 20; «total_declined» = 0; «suppression_factor» = one })
-  pub made-up : (n : ℕ) → n ≢ 20 → sget 0 (set twenty 74 n) .answer ≡ snapshot.Refused 5
-  pub absolute-made-up : (n : ℕ) → n ≢ 10 → aget 0 (set ten 74 n) .answer ≡ total.Refused 5
+  pub made-up : (n : ℕ) → n ≢ 20 → sget 0 (set twenty 12 n) .answer ≡ snapshot.Refused 5
+  pub absolute-made-up : (n : ℕ) → n ≢ 10 → aget 0 (set ten 12 n) .answer ≡ total.Refused 5
 
 pub record Computed : Type 0 where
   pub table : Boundary
@@ -245,7 +246,8 @@ unfolding Seek.seek Splice.splice Tab.tab Factor.freshFactor Factor.factorWordOk
     Limits.softWord Limits.limitOk Ranges.rateOk Ranges.factorOk Refusals.first Settings.faults Share.mulDiv Order.fine Ring.sumOf Ring.wrap Ring.bucketAt
     Ring.buckets Ring.shaped Ring.pushed Ring.rewritten Ring.without RingSound.soundBuckets Rules.older Rules.recent Rules.ahead Rules.joins Rules.partial
     Sweep.passOf HistoryWords.incremented Preserving.wholes Preserving.partWords Preserving.shrunkWords Preserving.preservedWords Room.fits Room.empty
-    Keys.keyOf Keys.sameKey Keys.unusedZero Keys.keyFits Room.keyAt Room.free Room.has Room.bodyFrom Room.entered Room.withUse Room.withReading
+    Keys.keyOf Keys.sameKey Keys.unusedZero Keys.keyFits Bits.bitAt Bits.withBit
+    Room.holderOf Room.held Room.keyAt Room.free Room.has Room.bodyFrom Room.entered Room.withUse Room.withReading
     Room.released Room.releasedOwn Room.freed Parties.ours Parties.many Parties.slotsHeld Parties.overdrawn Parties.turns Parties.noneLeft Judge.misfits
     Slot.opened Slot.slotOf Slot.firstLook Sound.rightUse Sound.soundSeries Sound.soundCached Sound.soundSlot Sound.addressed Sound.soundAt
     Verdicts.unlessRefused Bodies.begun Bodies.started Bodies.acted Bodies.fixed Bodies.edited Words.withEdit Words.updated Words.taken Words.carried

@@ -1,21 +1,71 @@
--- The laws of directory entries: free and held slots, freeing slots one by one.
+-- The laws of directory entries: who holds a slot, free slots and those with a key, freeing slots one by one.
 -- Assumes nothing.
 use mathlib.Core.Path.{_≡_, refl, sym, ap, ap₂, _∙_}
-use mathlib.Core.Bool.{Bool, true, false, not, _&&_, cond}
-use mathlib.Core.List.{List}
+use mathlib.Core.Bool.{Bool, true, false, not, _&&_, cond, false≢true}
+use mathlib.Core.List.{List, [], _∷_}
 use mathlib.Core.Logic.{_≢_}
-use Prim.Native.Nat.{ℕ, zero, suc, _+_, _-_, _<_}
+use Prim.Native.Nat.{ℕ, zero, suc, _+_, _-_, _*_, _/_, _%_, _<_}
 use native.Mathlib.Numerals.{add-one}
 use native.Mathlib.Omega.{arith}
 use lib.Dec.{eqb}
-use lib.ListN.{length, getD, set, length-set}
-use lib.Seq.{getD-set-other}
+use lib.ListN.{length, getD}
 use borrow.Author.Tests.{eq-eqb, ne-eqb, eqb-true}
+use Rattle.base.specs.Bits.{bitAt, withBit, bit-same, bit-other, bit-none}
+use Rattle.base.specs.Writes.{writes, length-writes, read-past, read-nth}
 use Rattle.keys.specs.declared.Key.{Key}
-use Rattle.room.specs.Room.{slotsOf, holderAt, holderOf, useOf, usedAt, keyAt, free, has, Room, Directory, released, releasedOwn, freed}
+use Rattle.room.specs.Room.{slotsOf, entryOf, holderOf, useOf, usedAt, keyAt, free, spells, has, Room, Directory, held, released, releasedOwn, freed}
 use Rattle.keys.specs.Keys.{sameKey}
-use Rattle.layout.specs.Layout.{slotsWord, ringWord}
+use Rattle.layout.specs.Layout.{slotsWord, ringWord, firstsWord, secondsWord, lenWord, aWord, bWord, cWord, dWord, nobody}
 use Rattle.room.specs.Laws.{room-same, directory-same}
+
+-- ---- who holds a slot
+
+-- by its two words
+pub holder-same : (w v : List ℕ) → getD v firstsWord 0 ≡ getD w firstsWord 0 → getD v secondsWord 0 ≡ getD w secondsWord 0 → (s : ℕ) →
+    holderOf v s ≡ holderOf w s
+unfolding holderOf
+holder-same w v p q s = ap₂ (λ (x y : ℕ). bitAt x s + 2 * bitAt y s) p q
+
+pub holder-none : (w : List ℕ) (s : ℕ) → getD w firstsWord 0 ≡ 0 → getD w secondsWord 0 ≡ 0 → holderOf w s ≡ nobody
+unfolding holderOf
+holder-none w s p q = rw (p, q, bit-none s)
+
+module _ (w : List ℕ) (s m : ℕ) where
+  pub held-length : length (held w s m) ≡ length w
+  unfolding held
+  held-length = length-writes ((firstsWord, withBit (getD w firstsWord 0) s (m % 2)) ∷ (secondsWord, withBit (getD w secondsWord 0) s (m / 2 % 2)) ∷ []) w
+
+  -- every word but the two
+  pub held-other : (j : ℕ) → j ≢ firstsWord → j ≢ secondsWord → getD (held w s m) j 0 ≡ getD w j 0
+  unfolding held
+  held-other j p q =
+      read-past ((firstsWord, withBit (getD w firstsWord 0) s (m % 2)) ∷ (secondsWord, withBit (getD w secondsWord 0) s (m / 2 % 2)) ∷ []) w j (p, (q, tt))
+
+  firsts : secondsWord < length w → getD (held w s m) firstsWord 0 ≡ withBit (getD w firstsWord 0) s (m % 2)
+  unfolding held
+  firsts l =
+      read-nth ((firstsWord, withBit (getD w firstsWord 0) s (m % 2)) ∷ (secondsWord, withBit (getD w secondsWord 0) s (m / 2 % 2)) ∷ []) 0 w (omega arith)
+      (omega arith) (omega arith)
+
+  seconds : secondsWord < length w → getD (held w s m) secondsWord 0 ≡ withBit (getD w secondsWord 0) s (m / 2 % 2)
+  unfolding held
+  seconds l =
+      read-nth ((firstsWord, withBit (getD w firstsWord 0) s (m % 2)) ∷ (secondsWord, withBit (getD w secondsWord 0) s (m / 2 % 2)) ∷ []) 1 w (omega arith)
+      (omega arith) tt
+
+  pub held-here : secondsWord < length w → m < 4 → holderOf (held w s m) s ≡ m
+  unfolding holderOf firsts seconds
+  held-here l h =
+      let p = ap (λ (x : ℕ). bitAt x s) (firsts l) ∙ bit-same (getD w firstsWord 0) s (m % 2) (omega arith) in
+      let q = ap (λ (x : ℕ). bitAt x s) (seconds l) ∙ bit-same (getD w secondsWord 0) s (m / 2 % 2) (omega arith) in
+      omega (arith, p, q)
+
+  pub held-else : secondsWord < length w → (i : ℕ) → i ≢ s → holderOf (held w s m) i ≡ holderOf w i
+  unfolding holderOf firsts seconds
+  held-else l i n =
+      let p = ap (λ (x : ℕ). bitAt x i) (firsts l) ∙ bit-other (getD w firstsWord 0) s (m % 2) i (omega arith) n in
+      let q = ap (λ (x : ℕ). bitAt x i) (seconds l) ∙ bit-other (getD w secondsWord 0) s (m / 2 % 2) i (omega arith) n in
+      ap₂ (λ (x y : ℕ). x + 2 * y) p q
 
 -- ---- free, or in use with a key
 
@@ -70,23 +120,67 @@ has-same w k s e = ap (λ (x : Bool). not (free w s) && x) e ∙ go (not (free w
     go true = refl
     go false = refl
 
+-- bytes that are the same up to the last word
+pub spelled-last : (w : List ℕ) (k : Key) (s : ℕ) → getD w (entryOf s + lenWord) 0 ≡ k .len → getD w (entryOf s + aWord) 0 ≡ k .a →
+    getD w (entryOf s + bWord) 0 ≡ k .b → getD w (entryOf s + cWord) 0 ≡ k .c → eqb (getD w (entryOf s + dWord) 0) (k .d) ≡ spells w k s
+unfolding spells
+spelled-last w k s p q r t = sym (rw (eq-eqb _ _ p, eq-eqb _ _ q, eq-eqb _ _ r, eq-eqb _ _ t))
+
+-- the same by the bytes first
+pub same-unspelled : (w : List ℕ) (k : Key) (s : ℕ) → spells w k s ≡ false → sameKey (keyAt w s) k ≡ false
+unfolding spells sameKey keyAt
+same-unspelled w k s e =
+    go (eqb (getD w (entryOf s + lenWord) 0) (k .len)) (eqb (getD w (entryOf s + aWord) 0) (k .a)) (eqb (getD w (entryOf s + bWord) 0) (k .b))
+    (eqb (getD w (entryOf s + cWord) 0) (k .c)) (eqb (getD w (entryOf s + dWord) 0) (k .d)) (eqb (holderOf w s) (k .holder)) e
+  where
+    go : (l a b c d h : Bool) → l && (a && (b && (c && d))) ≡ false → l && (a && (b && (c && (d && h)))) ≡ false
+    go false a b c d h e = refl
+    go true false b c d h e = refl
+    go true true false c d h e = refl
+    go true true true false d h e = refl
+    go true true true true false h e = refl
+    go true true true true true h e = absurd (false≢true (sym e))
+
+pub same-spelled : (w : List ℕ) (k : Key) (s : ℕ) → spells w k s ≡ true → sameKey (keyAt w s) k ≡ eqb (holderOf w s) (k .holder)
+unfolding spells sameKey keyAt
+same-spelled w k s e =
+    go (eqb (getD w (entryOf s + lenWord) 0) (k .len)) (eqb (getD w (entryOf s + aWord) 0) (k .a)) (eqb (getD w (entryOf s + bWord) 0) (k .b))
+    (eqb (getD w (entryOf s + cWord) 0) (k .c)) (eqb (getD w (entryOf s + dWord) 0) (k .d)) (eqb (holderOf w s) (k .holder)) e
+  where
+    go : (l a b c d h : Bool) → l && (a && (b && (c && d))) ≡ true → l && (a && (b && (c && (d && h)))) ≡ h
+    go false a b c d h e = absurd (false≢true e)
+    go true false b c d h e = absurd (false≢true e)
+    go true true false c d h e = absurd (false≢true e)
+    go true true true false d h e = absurd (false≢true e)
+    go true true true true false h e = absurd (false≢true e)
+    go true true true true true h e = refl
+
 -- ---- slots freed one by one
 
 pub own-length : (w : List ℕ) (s m : ℕ) → length (releasedOwn w s m) ≡ length w
 unfolding releasedOwn released
 own-length w s m = go (eqb (holderOf w s) m)
   where
-    go : (b : Bool) → length (cond b (set w (holderAt s) 0) w) ≡ length w
-    go true = length-set w (holderAt s) 0
+    go : (b : Bool) → length (cond b (held w s nobody) w) ≡ length w
+    go true = held-length w s nobody
     go false = refl
 
--- every word but who holds the slot
-pub own-other : (w : List ℕ) (s m j : ℕ) → j ≢ holderAt s → getD (releasedOwn w s m) j 0 ≡ getD w j 0
+-- every word but the two of who holds the slots
+pub own-other : (w : List ℕ) (s m j : ℕ) → j ≢ firstsWord → j ≢ secondsWord → getD (releasedOwn w s m) j 0 ≡ getD w j 0
 unfolding releasedOwn released
-own-other w s m j n = go (eqb (holderOf w s) m)
+own-other w s m j p q = go (eqb (holderOf w s) m)
   where
-    go : (b : Bool) → getD (cond b (set w (holderAt s) 0) w) j 0 ≡ getD w j 0
-    go true = getD-set-other w (holderAt s) j 0 0 n
+    go : (b : Bool) → getD (cond b (held w s nobody) w) j 0 ≡ getD w j 0
+    go true = held-other w s nobody j p q
+    go false = refl
+
+-- and who holds another slot
+pub own-else : (w : List ℕ) (s m i : ℕ) → secondsWord < length w → i ≢ s → holderOf (releasedOwn w s m) i ≡ holderOf w i
+unfolding releasedOwn released
+own-else w s m i l n = go (eqb (holderOf w s) m)
+  where
+    go : (b : Bool) → holderOf (cond b (held w s nobody) w) i ≡ holderOf w i
+    go true = held-else w s nobody l i n
     go false = refl
 
 pub freed-length : (w : List ℕ) (m n : ℕ) → length (freed w m n) ≡ length w
@@ -94,18 +188,18 @@ unfolding freed
 freed-length w m zero = refl
 freed-length w m (suc n) = own-length (freed w m n) n m ∙ freed-length w m n
 
--- every word but who holds the first n slots
-pub freed-other : (w : List ℕ) (m n j : ℕ) → ((i : ℕ) → i < n → j ≢ holderAt i) → getD (freed w m n) j 0 ≡ getD w j 0
+pub freed-other : (w : List ℕ) (m n j : ℕ) → j ≢ firstsWord → j ≢ secondsWord → getD (freed w m n) j 0 ≡ getD w j 0
 unfolding freed
-freed-other w m zero j h = refl
-freed-other w m (suc n) j h = own-other (freed w m n) n m j (h n (omega arith)) ∙ freed-other w m n j (λ i l. h i (omega arith))
+freed-other w m zero j p q = refl
+freed-other w m (suc n) j p q = own-other (freed w m n) n m j p q ∙ freed-other w m n j p q
 
 pub freed-room : (w : List ℕ) (m n : ℕ) → Room w → Room (freed w m n)
 freed-room w m n o =
-    room-same w (freed w m n) (freed-other w m n slotsWord (λ i l. omega arith)) (freed-other w m n ringWord (λ i l. omega arith)) (freed-length w m n) o
+    room-same w (freed w m n) (freed-other w m n slotsWord (omega arith) (omega arith)) (freed-other w m n ringWord (omega arith) (omega arith))
+    (freed-length w m n) o
 
 pub freed-slots : (w : List ℕ) (m n : ℕ) → slotsOf (freed w m n) ≡ slotsOf w
-freed-slots w m n = freed-other w m n slotsWord (λ i l. omega arith)
+freed-slots w m n = freed-other w m n slotsWord (omega arith) (omega arith)
 
 -- a turn of the loop that frees: what its store asks for, and what it leaves
 pub freed-ready : (w v : List ℕ) (m n : ℕ) → v ≡ freed w m n → Directory w → n < slotsOf w → Directory v × (n < slotsOf v)

@@ -130,7 +130,7 @@ zeros-long n r w v e o = omega (arith, ap (λ (y : List ℕ). length y) e, lengt
 pub empty-stores : (n r l : ℕ) → Lengths n r l → set (set (replicate l 0) slotsWord n) ringWord r ≡ empty n r
 unfolding empty
 empty-stores n r l o =
-    let e : l ≡ suc (suc (suc (mostSlots + entryWords * n + n * sizeOf r))) = omega (arith, o .long) in
+    let e : l ≡ suc (suc (suc (suc (suc (entryWords * n + n * sizeOf r))))) = omega (arith, o .long) in
     rw e
 
 pub empty-made : (n r l : ℕ) (w : List ℕ) → length w ≡ l → Lengths n r l → Made n r w true (set (set (replicate l 0) slotsWord n) ringWord r)

@@ -1,16 +1,17 @@
--- A room's words: slots, ring, last reading; who holds each of 64 slots; an entry of six words for each slot (use, key length, four words of key);
--- then a body for each slot. Which lengths are right, what an entry and a body are, which slot is found, and what each change writes.
+-- A room's words: slots, ring, last reading; the slots that party 1 holds, and that party 2 holds, as bits; an entry of six words for each slot (use, key
+-- length, four words of key); then a body for each slot. Which lengths are right, what an entry and a body are, which slot is found, and what a change writes.
 -- Assumes nothing.
 use mathlib.Core.Path.{_≡_}
 use mathlib.Core.Bool.{Bool, cond, not, _&&_}
 use mathlib.Core.List.{List, [], _∷_}
-use Prim.Native.Nat.{ℕ, zero, suc, _+_, _*_, _≤_}
+use Prim.Native.Nat.{ℕ, zero, suc, _+_, _*_, _/_, _%_, _≤_}
 use lib.ListN.{length, getD, take, drop, set, replicate}
 use lib.Dec.{leb, eqb}
 use Rattle.base.specs.Writes.{writes}
+use Rattle.base.specs.Bits.{bitAt, withBit}
 use Rattle.base.specs.Splice.{splice}
 use Rattle.base.specs.Seek.{seek}
-use Rattle.layout.specs.Layout.{slotsWord, ringWord, lastWord, holdersWord, headerWords, lenWord, aWord, bWord, cWord, dWord, entryWords, nobody}
+use Rattle.layout.specs.Layout.{slotsWord, ringWord, lastWord, firstsWord, secondsWord, headerWords, lenWord, aWord, bWord, cWord, dWord, entryWords, nobody}
 use Rattle.layout.specs.Layout.{mostSlots, mostRing, sizeOf}
 use Rattle.keys.specs.declared.Key.{Key}
 use Rattle.keys.specs.Keys.{sameKey, keyFits}
@@ -29,10 +30,6 @@ lastOf w = getD w lastWord 0
 -- all words of a room
 abbrev pub lengthOf : ℕ → ℕ → ℕ
 lengthOf n r = headerWords + entryWords * n + n * sizeOf r
-
--- where it stands who holds slot s
-abbrev pub holderAt : ℕ → ℕ
-holderAt s = holdersWord + s
 
 -- where slot s's entry starts; where its body starts and ends
 abbrev pub entryOf : ℕ → ℕ
@@ -72,7 +69,7 @@ pub record Directory (w : List ℕ) : Type 0 where
 
 -- an empty room: last reading 0, every slot free, every other word 0
 unfoldable pub empty : ℕ → ℕ → List ℕ
-empty n r = n ∷ r ∷ 0 ∷ replicate (mostSlots + entryWords * n + n * sizeOf r) 0
+empty n r = n ∷ r ∷ 0 ∷ 0 ∷ 0 ∷ replicate (entryWords * n + n * sizeOf r) 0
 
 -- making one in lent words: said yes exactly where they fit; else every word stays
 pub record Made (n r : ℕ) (w : List ℕ) (x : Bool) (v : List ℕ) : Type 0 where
@@ -81,9 +78,9 @@ pub record Made (n r : ℕ) (w : List ℕ) (x : Bool) (v : List ℕ) : Type 0 wh
 
 -- ---- entries
 
--- who holds slot s: it is in use unless nobody does
-abbrev pub holderOf : List ℕ → ℕ → ℕ
-holderOf w s = getD w (holderAt s) 0
+-- who holds slot s, its two bits as a number: it is in use unless nobody does
+unfoldable pub holderOf : List ℕ → ℕ → ℕ
+holderOf w s = bitAt (getD w firstsWord 0) s + 2 * bitAt (getD w secondsWord 0) s
 
 -- slot s's use
 abbrev pub useOf : List ℕ → ℕ → ℕ
@@ -105,6 +102,11 @@ free w s = eqb (holderOf w s) nobody
 -- slot s's use as it counts: none where it is free
 abbrev pub usedAt : List ℕ → ℕ → ℕ
 usedAt w s = cond (free w s) 0 (useOf w s)
+
+-- slot s has the bytes of key k, whoever holds it
+unfoldable pub spells : List ℕ → Key → ℕ → Bool
+spells w k s = eqb (getD w (entryOf s + lenWord) 0) (k .len) && (eqb (getD w (entryOf s + aWord) 0) (k .a) && (eqb (getD w (entryOf s + bWord) 0) (k .b) &&
+    (eqb (getD w (entryOf s + cWord) 0) (k .c) && eqb (getD w (entryOf s + dWord) 0) (k .d))))
 
 -- slot s is in use with key k
 unfoldable pub has : List ℕ → Key → ℕ → Bool
@@ -143,11 +145,17 @@ pub record Starts (w : List ℕ) (s x : ℕ) : Type 0 where
 abbrev pub withBody : List ℕ → ℕ → List ℕ → List ℕ
 withBody w s b = withFrom w (startOf w s) b
 
+-- who holds slot s is m: its two bits, and no other
+unfoldable pub held : List ℕ → ℕ → ℕ → List ℕ
+held w s m =
+    writes w
+    ((firstsWord, withBit (getD w firstsWord 0) s (m % 2)) ∷ (secondsWord, withBit (getD w secondsWord 0) s (m / 2 % 2)) ∷ [])
+
 -- use u and key k at slot s
 unfoldable pub entered : List ℕ → ℕ → ℕ → Key → List ℕ
 entered w s u k =
-    writes w
-    ((holderAt s, k .holder) ∷ (entryOf s, u) ∷ (entryOf s + lenWord, k .len) ∷ (entryOf s + aWord, k .a) ∷ (entryOf s + bWord, k .b) ∷
+    writes (held w s (k .holder))
+    ((entryOf s, u) ∷ (entryOf s + lenWord, k .len) ∷ (entryOf s + aWord, k .a) ∷ (entryOf s + bWord, k .b) ∷
     (entryOf s + cWord, k .c) ∷ (entryOf s + dWord, k .d) ∷ [])
 
 -- use u alone
@@ -156,7 +164,7 @@ withUse w s u = set w (entryOf s) u
 
 -- the slot freed: nobody holds it
 unfoldable pub released : List ℕ → ℕ → List ℕ
-released w s = set w (holderAt s) nobody
+released w s = held w s nobody
 
 -- freed where m holds it
 unfoldable pub releasedOwn : List ℕ → ℕ → ℕ → List ℕ

@@ -3,8 +3,10 @@ ghost use mathlib.Core.Path.{_≡_};
 ghost use Prim.Native.Nat.{_+_, _*_, _<_};
 ghost use lib.ListN.{length, replicate};
 ghost use Rattle.base.specs.Decides.{Decides};
+ghost use Rattle.base.specs.Bits.{bitAt, withBit};
+ghost use Rattle.keys.specs.Keys.{sameKey};
 ghost use Rattle.room.specs.Room.{Room, Directory, Lengths, Made, Starts, slotsOf, useOf, holderOf, usedAt, keyAt};
-ghost use Rattle.room.specs.Room.{keySound, has, find, vacant, entered, withUse, released, releasedOwn};
+ghost use Rattle.room.specs.Room.{keySound, spells, has, find, vacant, held, entered, withUse, released, releasedOwn};
 ghost use Rattle.room.specs.Room.{withReading, cleared};
 use keys::Key;
 
@@ -76,6 +78,41 @@ pub fn start(w: &[u64], s: usize) -> usize
     layout::HEADER + layout::ENTRY * slots + s * (layout::FIXED + layout::CELL * r)
 }
 
+// Bit `s` of a word.
+fn bit(x: u64, s: usize) -> u64
+    requires { ⌜ s < 64 ⌝ }
+    ensures { λ b. ⌜ (b ≡ bitAt x s) × (b < 2) ⌝ }
+{
+    (x >> s) % 2
+}
+
+// The word with `b` in the place of bit `s`.
+fn with_bit(x: u64, s: usize, b: u64) -> u64
+    requires { ⌜ (s < 64) × (b < 2) ⌝ }
+    ensures { λ y. ⌜ y ≡ withBit x s b ⌝ }
+{
+    x - (bit(x, s) << s) + (b << s)
+}
+
+// Who holds slot `slot`: nobody where it is free.
+pub fn holder_of(w: &[u64], slot: usize) -> u64
+    requires { ⌜ Directory (now w) × (slot < slotsOf (now w)) ⌝ }
+    ensures { λ x. ⌜ x ≡ holderOf (now (w .entry)) slot ⌝ }
+{
+    bit(w[layout::FIRSTS], slot) + 2 * bit(w[layout::SECONDS], slot)
+}
+
+// Writes who holds slot `s`.
+fn hold(w: &mut [u64], s: usize, m: u64)
+    requires { ⌜ Directory (now w) × (s < slotsOf (now w)) ⌝ }
+    ensures { λ _. ⌜ now (w .exit) ≡ held (now (w .entry)) s m ⌝ }
+{
+    let firsts = with_bit(w[layout::FIRSTS], s, m % 2);
+    let seconds = with_bit(w[layout::SECONDS], s, m / 2 % 2);
+    w[layout::FIRSTS] = firsts;
+    w[layout::SECONDS] = seconds;
+}
+
 // The key in entry `s`.
 pub fn key_at(w: &[u64], s: usize) -> Key
     requires { ⌜ Directory (now w) × (s < slotsOf (now w)) ⌝ }
@@ -83,7 +120,7 @@ pub fn key_at(w: &[u64], s: usize) -> Key
 {
     let e = layout::HEADER + layout::ENTRY * s;
     Key {
-        holder: w[layout::HOLDERS + s],
+        holder: holder_of(w, s),
         len: w[e + layout::KEY_LEN],
         a: w[e + layout::KEY_A],
         b: w[e + layout::KEY_B],
@@ -122,14 +159,6 @@ pub fn use_of(w: &[u64], slot: usize) -> u64
     w[layout::HEADER + layout::ENTRY * slot]
 }
 
-// Who holds slot `slot`: nobody where it is free.
-pub fn holder_of(w: &[u64], slot: usize) -> u64
-    requires { ⌜ Directory (now w) × (slot < slotsOf (now w)) ⌝ }
-    ensures { λ x. ⌜ x ≡ holderOf (now (w .entry)) slot ⌝ }
-{
-    w[layout::HOLDERS + slot]
-}
-
 // Slot `slot`'s use, 0 where it is free.
 pub fn used_at(w: &[u64], slot: usize) -> u64
     requires { ⌜ Directory (now w) × (slot < slotsOf (now w)) ⌝ }
@@ -141,12 +170,44 @@ pub fn used_at(w: &[u64], slot: usize) -> u64
     use_of(w, slot)
 }
 
+// Whether entry `s` has the bytes of key `k`, whoever holds it.
+fn spells(w: &[u64], k: Key, s: usize) -> bool
+    requires { ⌜ Directory (now w) × (s < slotsOf (now w)) ⌝ }
+    ensures { λ x. ⌜ x ≡ spells (now (w .entry)) k s ⌝ }
+{
+    let e = layout::HEADER + layout::ENTRY * s;
+    if w[e + layout::KEY_LEN] != k.len {
+        return false;
+    }
+    if w[e + layout::KEY_A] != k.a {
+        return false;
+    }
+    if w[e + layout::KEY_B] != k.b {
+        return false;
+    }
+    if w[e + layout::KEY_C] != k.c {
+        return false;
+    }
+    w[e + layout::KEY_D] == k.d
+}
+
+// Whether entry `s` has key `k`. Who holds it is looked at last: few entries have the bytes.
+pub fn is_key_at(w: &[u64], k: Key, s: usize) -> bool
+    requires { ⌜ Directory (now w) × (s < slotsOf (now w)) ⌝ }
+    ensures { λ x. ⌜ x ≡ sameKey (keyAt (now (w .entry)) s) k ⌝ }
+{
+    if !spells(w, k, s) {
+        return false;
+    }
+    holder_of(w, s) == k.holder
+}
+
 // Whether slot `s` is in use with key `k`.
 fn holds(w: &[u64], k: Key, s: usize) -> bool
     requires { ⌜ Directory (now w) × (s < slotsOf (now w)) ⌝ }
     ensures { λ x. ⌜ x ≡ has (now (w .entry)) k s ⌝ }
 {
-    if !keys::same_key(key_at(w, s), k) {
+    if !is_key_at(w, k, s) {
         return false;
     }
     holder_of(w, s) != layout::NOBODY
@@ -189,8 +250,8 @@ pub fn enter(w: &mut [u64], s: usize, u: u64, k: Key)
     requires { ⌜ Directory (now w) × (s < slotsOf (now w)) ⌝ }
     ensures { λ _. ⌜ now (w .exit) ≡ entered (now (w .entry)) s u k ⌝ }
 {
+    hold(w, s, k.holder);
     let e = layout::HEADER + layout::ENTRY * s;
-    w[layout::HOLDERS + s] = k.holder;
     w[e] = u;
     w[e + layout::KEY_LEN] = k.len;
     w[e + layout::KEY_A] = k.a;
@@ -212,7 +273,7 @@ pub fn release(w: &mut [u64], s: usize)
     requires { ⌜ Directory (now w) × (s < slotsOf (now w)) ⌝ }
     ensures { λ _. ⌜ now (w .exit) ≡ released (now (w .entry)) s ⌝ }
 {
-    w[layout::HOLDERS + s] = layout::NOBODY;
+    hold(w, s, layout::NOBODY);
 }
 
 // Frees slot `s` where `holder` holds it.

@@ -30,6 +30,7 @@ use Rattle.parties.specs.Parties as Parties
 use Rattle.parties.specs.Parties.{sent}
 use Rattle.parties.specs.declared.Caller.{Caller}
 use Rattle.base.specs.Every as Every
+use Rattle.base.specs.Bits as Bits
 use Rattle.judge.specs.Judge as Judge
 use Rattle.opened.specs.Slot as Slot
 use Rattle.opened.specs.Sound as Sound
@@ -152,7 +153,8 @@ pub computed : Computed
 unfolding Decide.decLe Seek.seek Splice.splice Tab.tab Factor.factorWordOk Factor.admitted Limits.hardWord Limits.cutWord
     Limits.softWord Limits.limitOk Ranges.rateOk Ranges.factorOk Refusals.first Settings.faults Order.fine Ring.sumOf Ring.wrap Ring.bucketAt
     Ring.buckets Ring.shaped Ring.pushed Ring.rewritten Ring.without RingSound.soundBuckets Rules.older Rules.recent Rules.ahead Rules.joins
-    Sweep.passOf HistoryWords.incremented Room.fits Room.empty Keys.keyOf Keys.sameKey Keys.unusedZero Keys.keyFits Room.keyAt Room.free Room.has
+    Sweep.passOf HistoryWords.incremented Room.fits Room.empty Keys.keyOf Keys.sameKey Keys.unusedZero Keys.keyFits Bits.bitAt Bits.withBit
+    Room.holderOf Room.held Room.keyAt Room.free Room.has
     Room.bodyFrom Room.entered Room.withUse Room.withReading Every.every Parties.ours Parties.many Parties.slotsHeld Parties.overdrawn Parties.turns
     Parties.noneLeft Judge.misfits Slot.opened Slot.slotOf Slot.firstLook Sound.rightUse Sound.soundSeries
     Sound.soundCached

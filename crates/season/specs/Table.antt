@@ -14,10 +14,11 @@ use borrow.Author.Tests.{lt-ltb, le-ltb, ltb-true, ltb-false, eq-eqb}
 use Rattle.base.specs.Decides.{true-and, not-so, so-not}
 use Rattle.base.specs.Seek.{seek, seek-start, seek-le, seek-passes, seek-before, seek-only}
 use Rattle.base.specs.Writes.{writes, length-writes, read-past, read-nth}
-use Rattle.layout.specs.Layout.{slotsWord, ringWord, lastWord, lenWord, aWord, bWord, cWord, dWord, nobody, longestKey}
+use Rattle.layout.specs.Layout.{slotsWord, ringWord, lastWord, firstsWord, secondsWord, lenWord, aWord, bWord, cWord, dWord, nobody, longestKey}
 use Rattle.keys.specs.declared.Key.{Key}
 use Rattle.keys.specs.Keys.{keyOf, sameKey}
-use Rattle.room.specs.Room.{holderAt, entryOf, holderOf, keyAt, keySound, entered, withUse}
+use Rattle.room.specs.Room.{entryOf, holderOf, keyAt, keySound, held, entered, withUse}
+use Rattle.room.specs.Entries.{holder-same, held-length, held-other, held-here, held-else}
 use Rattle.frame.specs.Keys.{Bytes, key-injective}
 use Rattle.frame.specs.Distinct.{same-key, key-same}
 use Rattle.frame.specs.Frame.{key-ext}
@@ -276,7 +277,8 @@ module _ (w key : List ℕ) (n : ℕ) (o : Sound w) where
       let v = set w (entryOf at) n in
       let f : (j : ℕ) → j ≢ entryOf at → getD v j 0 ≡ getD w j 0 = λ j q. getD-set-other w (entryOf at) j n 0 q in
       let l : length v ≡ length w = length-set w (entryOf at) n in
-      let k : (i : ℕ) → i < mostControllers → keyAt v i ≡ keyAt w i = λ i m. key-ext w v i (f (holderAt i) (omega arith)) (λ j p q. f j (omega arith)) in
+      let k : (i : ℕ) → keyAt v i ≡ keyAt w i =
+      λ i. key-ext w v i (holder-same w v (f firstsWord (omega arith)) (f secondsWord (omega arith)) i) (λ j p q. f j (omega arith)) in
       record {
         table = record {
           long = l ∙ o .table .long;
@@ -285,12 +287,12 @@ module _ (w key : List ℕ) (n : ℕ) (o : Sound w) where
           no-reading = f lastWord (omega arith) ∙ o .table .no-reading;
         };
         inside = omega (arith, f slotsWord (omega arith), s .inside);
-        key-here = k at (omega (arith, s .inside, o .table .few)) ∙ s .key-is;
+        key-here = k at ∙ s .key-is;
         number-here = getD-set-same w (entryOf at) n 0 (omega (arith, s .inside, o .table .few, o .table .long));
         count = rw e (omega (arith, f slotsWord (omega arith)));
         no-fewer = omega (arith, f slotsWord (omega arith));
         no-others = λ i h q. omega (arith, f slotsWord (omega arith), h);
-        keys = λ i h q. k i (omega (arith, h, o .table .few));
+        keys = λ i h q. k i;
         numbers = λ i h q. f (entryOf i) (omega arith);
         only = λ i h q. sym (found w key o i (s .short) h q);
         own = λ h. s .key-is;
@@ -299,40 +301,49 @@ module _ (w key : List ℕ) (n : ℕ) (o : Sound w) where
   -- another one: a new entry
   new-remembers : isKnown w key ≡ false → length key ≤ longestKey → knownOf w < mostControllers →
       Remembers w (entered (set w slotsWord (knownOf w + 1)) (knownOf w) n (keyOf nobody key)) (knownOf w) key n
-  unfolding entered keyAt
+  unfolding entered keyAt keyOf
   new-remembers e short h =
       let k = keyOf nobody key in
       let at = knownOf w in
       let x = entryOf at in
       let w′ = set w slotsWord (at + 1) in
-      let ws : List (ℕ × ℕ) =
-      (holderAt at, k .holder) ∷ (x, n) ∷ (x + lenWord, k .len) ∷ (x + aWord, k .a) ∷ (x + bWord, k .b) ∷ (x + cWord, k .c) ∷ (x + dWord, k .d) ∷ [] in
-      let v = writes w′ ws in
-      let z : length w′ ≡ tableWords = length-set w slotsWord (at + 1) ∙ o .table .long in
-      let slots : knownOf v ≡ at + 1 = read-past ws w′ slotsWord (omega arith) ∙ getD-set-same w slotsWord (at + 1) 0 (omega (arith, o .table .long)) in
-      let f : (j : ℕ) → j ≢ slotsWord → j ≢ holderAt at → j < x → getD v j 0 ≡ getD w j 0 =
-      λ j p m q. read-past ws w′ j (omega arith) ∙ getD-set-other w slotsWord j (at + 1) 0 p in
-      let holder : holderOf v at ≡ k .holder = read-nth ws 0 w′ (omega arith) (omega (arith, z, h)) (omega arith) in
-      let len : getD v (x + lenWord) 0 ≡ k .len = read-nth ws 2 w′ (omega arith) (omega (arith, z, h)) (omega arith) in
-      let a : getD v (x + aWord) 0 ≡ k .a = read-nth ws 3 w′ (omega arith) (omega (arith, z, h)) (omega arith) in
-      let b : getD v (x + bWord) 0 ≡ k .b = read-nth ws 4 w′ (omega arith) (omega (arith, z, h)) (omega arith) in
-      let c : getD v (x + cWord) 0 ≡ k .c = read-nth ws 5 w′ (omega arith) (omega (arith, z, h)) (omega arith) in
-      let d : getD v (x + dWord) 0 ≡ k .d = read-nth ws 6 w′ (omega arith) (omega (arith, z, h)) tt in
+      let y = held w′ at nobody in
+      let ws : List (ℕ × ℕ) = (x, n) ∷ (x + lenWord, k .len) ∷ (x + aWord, k .a) ∷ (x + bWord, k .b) ∷ (x + cWord, k .c) ∷ (x + dWord, k .d) ∷ [] in
+      let v = writes y ws in
+      let long : length w′ ≡ tableWords = length-set w slotsWord (at + 1) ∙ o .table .long in
+      let z : length y ≡ tableWords = held-length w′ at nobody ∙ long in
+      let there : secondsWord < length w′ = omega (arith, long) in
+      let f : (j : ℕ) → j ≢ slotsWord → j ≢ firstsWord → j ≢ secondsWord → j < x → getD v j 0 ≡ getD w j 0 =
+      λ j p q r l. read-past ws y j (omega arith) ∙ held-other w′ at nobody j q r ∙ getD-set-other w slotsWord j (at + 1) 0 p in
+      let slots : knownOf v ≡ at + 1 =
+      read-past ws y slotsWord (omega arith) ∙ held-other w′ at nobody slotsWord (omega arith) (omega arith) ∙
+      getD-set-same w slotsWord (at + 1) 0 (omega (arith, o .table .long)) in
+      let hs : (i : ℕ) → holderOf v i ≡ holderOf y i =
+      holder-same y v (read-past ws y firstsWord (omega arith)) (read-past ws y secondsWord (omega arith)) in
+      let before : (i : ℕ) → i ≢ at → holderOf v i ≡ holderOf w i =
+      λ i ne. hs i ∙ held-else w′ at nobody there i ne ∙
+      holder-same w w′ (getD-set-other w slotsWord firstsWord (at + 1) 0 (omega arith)) (getD-set-other w slotsWord secondsWord (at + 1) 0 (omega arith)) i in
+      let holder : holderOf v at ≡ nobody = hs at ∙ held-here w′ at nobody there (omega arith) in
+      let len : getD v (x + lenWord) 0 ≡ k .len = read-nth ws 1 y (omega arith) (omega (arith, z, h)) (omega arith) in
+      let a : getD v (x + aWord) 0 ≡ k .a = read-nth ws 2 y (omega arith) (omega (arith, z, h)) (omega arith) in
+      let b : getD v (x + bWord) 0 ≡ k .b = read-nth ws 3 y (omega arith) (omega (arith, z, h)) (omega arith) in
+      let c : getD v (x + cWord) 0 ≡ k .c = read-nth ws 4 y (omega arith) (omega (arith, z, h)) (omega arith) in
+      let d : getD v (x + dWord) 0 ≡ k .d = read-nth ws 5 y (omega arith) (omega (arith, z, h)) tt in
       record {
         table = record {
-          long = length-writes ws w′ ∙ z;
+          long = length-writes ws y ∙ z;
           few = omega (arith, slots, h);
-          no-ring = f ringWord (omega arith) (omega arith) (omega arith) ∙ o .table .no-ring;
-          no-reading = f lastWord (omega arith) (omega arith) (omega arith) ∙ o .table .no-reading;
+          no-ring = f ringWord (omega arith) (omega arith) (omega arith) (omega arith) ∙ o .table .no-ring;
+          no-reading = f lastWord (omega arith) (omega arith) (omega arith) (omega arith) ∙ o .table .no-reading;
         };
         inside = omega (arith, slots);
         key-here = λ i. record { holder = holder i; len = len i; a = a i; b = b i; c = c i; d = d i };
-        number-here = read-nth ws 1 w′ (omega arith) (omega (arith, z, h)) (omega arith);
+        number-here = read-nth ws 0 y (omega arith) (omega (arith, z, h)) (omega arith);
         count = rw e (omega (arith, slots));
         no-fewer = omega (arith, slots);
         no-others = λ i l q. omega (arith, slots, l, q);
-        keys = λ i l q. key-ext w v i (f (holderAt i) (omega arith) (omega arith) (omega arith)) (λ j y y′. f j (omega arith) (omega arith) (omega arith));
-        numbers = λ i l q. f (entryOf i) (omega arith) (omega arith) (omega arith);
+        keys = λ i l q. key-ext w v i (before i (omega arith)) (λ j y y′. f j (omega arith) (omega arith) (omega arith) (omega arith));
+        numbers = λ i l q. f (entryOf i) (omega arith) (omega arith) (omega arith) (omega arith);
         only = λ i l q. absurd (unknown-lacks w key e short i l q);
         own = λ l. absurd (omega (arith, l));
       }

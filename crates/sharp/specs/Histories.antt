@@ -57,6 +57,7 @@ use Rattle.judge.specs.Held as Held
 use Rattle.stale.specs.Uses as Uses
 use Rattle.cleanup.specs.Cleanup as Cleanup
 use Rattle.base.specs.Every as Every
+use Rattle.base.specs.Bits as Bits
 use Rattle.clearing.specs.Clear as Clear
 use Rattle.calls.specs.Delete as Delete
 use Rattle.calls.specs.Rate as Rate
@@ -255,7 +256,9 @@ unfolding Decide.decLe Seek.seek Splice.splice Tab.tab Answers.decisionRow Facto
     Limits.cutWord Limits.softWord Limits.limitOk Ranges.rateOk Ranges.factorOk Refusals.first Settings.faults Order.fine Ring.sumOf Ring.wrap
     Ring.bucketAt Ring.buckets Ring.shaped Ring.pushed Ring.rewritten Ring.without RingSound.soundBuckets Rules.older Rules.recent Rules.ahead
     Rules.joins Sweep.passOf HistoryWords.incremented HistoryWords.replacedWords Room.fits Room.empty Keys.keyOf Keys.sameKey Keys.unusedZero
-    Keys.keyFits Room.keyAt Room.free Room.has Room.bodyFrom Room.entered Room.withUse Room.released Room.releasedOwn Room.withReading Room.freed Parties.ours
+    Keys.keyFits Bits.bitAt Bits.withBit
+    Room.holderOf Room.held Room.keyAt Room.free Room.has Room.bodyFrom Room.entered Room.withUse Room.released Room.releasedOwn Room.withReading Room.freed
+    Parties.ours
     Parties.many Parties.slotsHeld Parties.overdrawn Parties.turns Parties.noneLeft Judge.misfits Slot.opened
     Slot.slotOf Slot.firstLook Sound.rightUse Sound.soundSeries Sound.soundCached Sound.soundSlot Sound.addressed Sound.soundAt Verdicts.unlessRefused
     Bodies.begun

@@ -18,6 +18,8 @@ use parties::Caller;
 use rules::RoomKind;
 use settings::Settings;
 
+const KIND: RoomKind = RoomKind::Suppressed;
+
 // A series' own limit, or that of the rate.
 fn limit_for(settings: Settings, x: Slot, rate: RateLimit) -> u64
     ensures { λ r. ⌜ r ≡ limitAt settings x rate ⌝ }
@@ -65,13 +67,12 @@ pub fn inc(
     if fault != 0 {
         return RateLimitDecision::Refused(fault);
     }
+    let standing = parties::standing_of(room, caller);
     let window = settings.window_ticks();
     let look = settings.look_ticks();
     let addressed = judge::address(room, caller, key);
     let x = opened::open_at(room, addressed, reading, window, look);
-    let kind = RoomKind::Suppressed;
-    let standing = judge::misfit(kind, settings, room, reading, caller, key, x);
-    let misfit = standing.code;
+    let misfit = judge::misfit(KIND, settings, room, reading, caller, key, x, standing);
     if misfit != 0 {
         return RateLimitDecision::Refused(misfit);
     }

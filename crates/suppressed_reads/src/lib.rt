@@ -98,14 +98,8 @@ pub fn get_suppression_factor(
     }
     let asked = factor_opened::ask(settings, room, x, x.limit, reading);
     let caching = asked.caching;
-    change::apply(
-        room,
-        at,
-        caller,
-        key,
-        settings.join_ticks(),
-        reading,
-        suppressed_edits::factor_change(x, caching, reading),
-    );
+    let change = suppressed_edits::factor_change(x, caching, reading);
+    let join = settings.join_ticks();
+    change::apply(room, at, caller, key, join, reading, change);
     FactorAnswer::Factor(asked.factor)
 }

@@ -16,6 +16,7 @@ use Rattle.layout.specs.Layout.{slotsWord, nobody, longestKey}
 use Rattle.keys.specs.declared.Key.{Key}
 use Rattle.keys.specs.Keys.{keyOf, keyFits}
 use Rattle.room.specs.Room.{Room, Directory, ringOf, keyAt, keySound, withUse, entered}
+use Rattle.room.specs.Entries.{held-length}
 use Rattle.frame.specs.Keys.{Bytes, key-fits}
 use Rattle.frame.specs.Distinct.{same-key}
 use Rattle.table.specs.Table.{mostControllers, tableWords, knownOf, isTable, Table, emptyTable, TableMade, mostNumber, numbered, numberAt, names}
@@ -223,4 +224,4 @@ raised-ready w o h =
 
 pub raised-length : (w v : List ℕ) (i number : ℕ) (k : Key) → v ≡ entered (set w slotsWord (knownOf w + 1)) i number k → length v ≡ length w
 unfolding entered
-raised-length w v i number k e = ap length e ∙ simp length-set
+raised-length w v i number k e = ap length e ∙ simp (length-set, held-length)

@@ -63,7 +63,7 @@ fn entry_from(w: &[u64], k: Key, from: usize) -> usize
     let known = w[layout::SLOTS] as usize;
     let mut i = from;
     while i < known {
-        if keys::same_key(room::key_at(w, i), k) {
+        if room::is_key_at(w, k, i) {
             return i;
         }
         i += 1;

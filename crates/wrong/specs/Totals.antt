@@ -57,10 +57,10 @@ telling-breaks-the-sums g h p =
 
 -- ---- stored: whatever it is, the slot is unsound and the next call is turned away with 5. So `NeverFive` does not hold of any words
 
-pub storing-breaks-the-absolute-sums : (n : ℕ) → n ≢ 10 → totalRow (aget 0 (set ten 74 n) .answer) ≡ refusedRow 5
+pub storing-breaks-the-absolute-sums : (n : ℕ) → n ≢ 10 → totalRow (aget 0 (set ten 12 n) .answer) ≡ refusedRow 5
 unfolding totalRow
 storing-breaks-the-absolute-sums n h = rw (further .absolute-made-up n h)
 
-pub storing-breaks-the-sums : (n : ℕ) → n ≢ 20 → snapshotRow (sget 0 (set twenty 74 n) .answer) ≡ refusedRow 5
+pub storing-breaks-the-sums : (n : ℕ) → n ≢ 20 → snapshotRow (sget 0 (set twenty 12 n) .answer) ≡ refusedRow 5
 unfolding snapshotRow
 storing-breaks-the-sums n h = rw (further .made-up n h)

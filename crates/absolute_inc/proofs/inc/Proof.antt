@@ -12,7 +12,7 @@ use Rattle.settings.specs.Settings.{windowIn, Proper}
 use Rattle.settings.specs.Clock.{ticksIn}
 use Rattle.rules.specs.declared.RoomKind.the-variants.{Absolute}
 use Rattle.opened.specs.Slot.{noSlot, pickSlot, firstLook}
-use Rattle.judge.specs.Laws.{refused-is, passed-is, standing-code, standing-none, fault-early, no-fault, opened-is, plain-is}
+use Rattle.judge.specs.Laws.{refused-is, passed-is, standing-left, fault-early, no-fault, opened-is, plain-is}
 use Rattle.change.specs.Words.{Applies, applied}
 use Rattle.plan.specs.Plan.{lacksAt}
 use Rattle.absolute_test.specs.Test.{allowedAt, decidedAt}
@@ -36,9 +36,9 @@ found : (c : tie.After-late) →
     let r = n .before .before .before in
     let v = r .before .before .before in
     let g = v .before .before in
-    let a = g .before .before .before .before .before .before .before .before .before .before .args in
+    let a = g .before .before .before .before .before .before .before .before .before .before .before .before .args in
     Finds (a .settings) (a .room .now) (a .reading) (sent (a .caller) (a .key .now)) (a .rate) (a .count)
-    (record { code = 0; none = v .misfit .result .none; slot = g .open-at .result }) (r .place .result)
+    (record { code = 0; none = g .before .before .before .before .before .standing-of .result .none; slot = g .open-at .result }) (r .place .result)
     (n .allows-first .result) (d .clears .result) (c .late .result)
 found c =
     let d = c .before .before in
@@ -52,15 +52,15 @@ found c =
     let g = v .before .before in
     let h = g .before .before in
     let i = h .before .before in
-    let a = i .before .before .before .before .before .before .args in
+    let a = i .before .before .before .before .before .before .before .before .args in
     let key = sent (a .caller) (a .key .now) in
     let slot = g .open-at .result in
-    let y = v .misfit in
+    let y = i .before .standing-of in
+    let e = sym (v .misfit .ensures) ∙ u .if2 .left in
     record {
       goes = record {
-        is = passed-is Absolute (a .settings) (a .room .now) (a .reading) key (y .result .none) slot
-            (sym (standing-code Absolute (a .settings) (a .room .now) (a .reading) key (y .result) (y .ensures)) ∙ u .if2 .left)
-            (standing-none Absolute (a .settings) (a .room .now) (a .reading) key (y .result) (y .ensures) (u .if2 .left))
+        is = passed-is Absolute (a .settings) (a .room .now) (a .reading) key (y .result .none) slot e
+            (standing-left Absolute (a .settings) (a .room .now) (a .reading) key (y .result) (y .ensures) e)
             (plain-is Absolute (a .settings) (a .room .now) (a .reading) key _ _ slot (g .open-at .ensures) (i .window-ticks .ensures) (h .address .ensures));
         unrefused = refl;
       };
@@ -78,12 +78,12 @@ found c =
 looked : (c : tie.After-looked-unless) →
     let n = c .before .before .before .before .before .before .before in
     let g = n .before .before .before .before .before .before .before .before in
-    let a = g .before .before .before .before .before .before .before .before .before .before .args in
+    let a = g .before .before .before .before .before .before .before .before .before .before .before .before .args in
     c .looked-unless .result ≡ pickSlot (n .allows-first .result) (g .open-at .result) (lookIn (a .settings) (a .reading) (g .open-at .result))
 looked c =
     let n = c .before .before .before .before .before .before .before in
     let g = n .before .before .before .before .before .before .before .before in
-    let a = g .before .before .before .before .before .before .before .before .before .before .args in
+    let a = g .before .before .before .before .before .before .before .before .before .before .before .before .args in
     let slot = g .open-at .result in
     c .looked-unless .ensures ∙
     ap (λ (look : ℕ). pickSlot (n .allows-first .result) slot (firstLook look (a .reading) slot)) (n .before .look-ticks .ensures)
@@ -92,7 +92,7 @@ made : (c : tie.After-inc-change) →
     let d = c .before .before .before .before .before .before in
     let n = d .before .before .before in
     let g = n .before .before .before .before .before .before .before .before in
-    let a = g .before .before .before .before .before .before .before .before .before .before .args in
+    let a = g .before .before .before .before .before .before .before .before .before .before .before .before .args in
     let slot = g .open-at .result in
     c .inc-change .result ≡
     incChange (absoluteWord (a .rate .0) (windowIn (a .settings))) (a .count) (n .allows-first .result) (d .clears .result) slot
@@ -101,7 +101,7 @@ made c =
     let d = c .before .before .before .before .before .before in
     let n = d .before .before .before in
     let g = n .before .before .before .before .before .before .before .before in
-    let a = g .before .before .before .before .before .before .before .before .before .before .args in
+    let a = g .before .before .before .before .before .before .before .before .before .before .before .before .args in
     c .inc-change .ensures ∙
     ap (incChange (absoluteWord (a .rate .0) (windowIn (a .settings))) (a .count) (n .allows-first .result) (d .clears .result) (g .open-at .result))
     (looked (c .before .before))
@@ -123,22 +123,25 @@ returns c =
     inc-refused (a .settings) (a .room .now) (a .reading) key (a .rate) (a .count) (record { code = y .fault .result; none = false; slot = noSlot 0 })
     (refused-is Absolute (a .settings) (a .room .now) (a .reading) key _ (y .fault .result) e (c .if1 .taken)) (c .if1 .taken)
 
+standing-of-requires : tie.Need-standing-of-requires
+standing-of-requires c κs = passed (c .before) .0
+
 window-ticks-requires : tie.Need-window-ticks-requires
-window-ticks-requires c κs = passed c .1 .window-high
+window-ticks-requires c κs = passed (c .before .before) .1 .window-high
 
 address-requires : tie.Need-address-requires
-address-requires c κs = passed (c .before .before) .0
+address-requires c κs = passed (c .before .before .before .before) .0
 
 open-at-requires : tie.Need-open-at-requires
-open-at-requires c κs = passed (c .before .before .before .before) .0
+open-at-requires c κs = passed (c .before .before .before .before .before .before) .0
 
 misfit-requires : tie.Need-misfit-requires
 misfit-requires c κs =
     let g = c .before in
     let h = g .before .before in
     let i = h .before .before in
-    let a = i .before .before .before .before .before .before .args in
-    let k = passed (i .before) in (
+    let a = i .before .before .before .before .before .before .before .before .args in
+    let k = passed (i .before .before .before) in (
       record {
         room = k .0;
         reading = a .reading;
@@ -147,6 +150,7 @@ misfit-requires c κs =
             (i .window-ticks .ensures) (h .address .ensures);
       },
       k .1,
+      i .before .standing-of .ensures,
     )
 
 same-length-2 : tie.Need-same-length-2
@@ -155,35 +159,37 @@ same-length-2 c = search needs
 returns-2 : tie.Need-returns-2
 returns-2 c =
     let y = c .before .misfit in
-    let a = c .before .before .before .before .before .before .before .before .before .before .before .before .before .args in
+    let a = c .before .before .before .before .before .before .before .before .before .before .before .before .before .before .before .args in
     let key = sent (a .caller) (a .key .now) in
-    inc-refused (a .settings) (a .room .now) (a .reading) key (a .rate) (a .count) (record { code = y .result .code; none = false; slot = noSlot 0 })
-    (refused-is Absolute (a .settings) (a .room .now) (a .reading) key _ (y .result .code)
-    (sym (standing-code Absolute (a .settings) (a .room .now) (a .reading) key (y .result) (y .ensures))) (c .if2 .taken))
-    (c .if2 .taken)
+    inc-refused (a .settings) (a .room .now) (a .reading) key (a .rate) (a .count) (record { code = y .result; none = false; slot = noSlot 0 })
+    (refused-is Absolute (a .settings) (a .room .now) (a .reading) key _ (y .result) (sym (y .ensures)) (c .if2 .taken)) (c .if2 .taken)
 
 place-requires : tie.Need-place-requires
-place-requires c κs = passed (c .before .before .before .before .before .before .before .before .before) .0
+place-requires c κs = passed (c .before .before .before .before .before .before .before .before .before .before .before) .0
 
 cut-limit-requires : tie.Need-cut-limit-requires
 cut-limit-requires c κs = search needs
 
 look-ticks-requires : tie.Need-look-ticks-requires
-look-ticks-requires c κs = passed (c .before .before .before .before .before .before .before .before .before .before .before) .1 .window-high
+look-ticks-requires c κs = passed (c .before .before .before .before .before .before .before .before .before .before .before .before .before) .1 .window-high
 
 allows-first-requires : tie.Need-allows-first-requires
 allows-first-requires c κs = search needs
 
 join-ticks-requires : tie.Need-join-ticks-requires
-join-ticks-requires c κs = passed (c .before .before .before .before .before .before .before .before .before .before .before .before .before) .1 .bucket-high
+join-ticks-requires c κs =
+    let m = c .before .before .before .before .before .before in
+    passed (m .before .before .before .before .before .before .before .before .before) .1 .bucket-high
 
 clears-requires : tie.Need-clears-requires
-clears-requires c κs = passed (c .before .before .before .before .before .before .before .before .before .before .before .before .before .before .before) .0
+clears-requires c κs =
+    let m = c .before .before .before .before .before .before .before .before in
+    passed (m .before .before .before .before .before .before .before .before .before) .0
 
 late-requires : tie.Need-late-requires
 late-requires c κs =
     let d = c .before .before .before .before .before .before .before .before in
-    passed (d .before .before .before .before .before .before .before .before .before) .0
+    passed (d .before .before .before .before .before .before .before .before .before .before .before) .0
 
 same-length-3 : tie.Need-same-length-3
 same-length-3 c = search needs
@@ -197,7 +203,7 @@ looked-unless-requires c κs = search needs
 decided-requires : tie.Need-decided-requires
 decided-requires c κs =
     let d = c .before .before .before .before .before .before .before .before .before .before .before in
-    passed (d .before .before .before .before .before .before .before .before .before) .1 .window-high
+    passed (d .before .before .before .before .before .before .before .before .before .before .before) .1 .window-high
 
 inc-change-requires : tie.Need-inc-change-requires
 inc-change-requires c κs = search needs
@@ -208,7 +214,7 @@ apply-requires c κs =
     let z = x .before .before .before in
     let m = z .before .before .before .before .before in
     let r = m .before .before .before .before in
-    let a = r .before .before .before .before .before .before .before .before .before .before .before .before .before .before .before .args in
+    let a = r .before .before .before .before .before .before .before .before .before .before .before .before .before .before .before .before .before .args in
     subst (λ (ticks : ℕ). Applies (a .room .now) (r .place .result) ticks (a .reading) (x .inc-change .result)) (sym (m .join-ticks .ensures))
     (inc-fits (found (z .before)) (z .if3 .left) (x .inc-change .result) (made x))
 
@@ -224,7 +230,7 @@ returns-4 c =
     let m = z .before .before .before .before .before in
     let n = m .before in
     let r = n .before .before .before in
-    let a = r .before .before .before .before .before .before .before .before .before .before .before .before .before .before .before .args in
+    let a = r .before .before .before .before .before .before .before .before .before .before .before .before .before .before .before .before .before .args in
     inc-done (found (z .before)) (z .if3 .left) (x .inc-change .result) (made x) (b .apply .last .0)
     (b .apply .ensures ∙
     ap (λ (ticks : ℕ). applied (a .room .now) (r .place .result) (sent (a .caller) (a .key .now)) ticks (a .reading) (x .inc-change .result))
@@ -240,6 +246,7 @@ inc-spec =
     fault-requires
     same-length
     returns
+    standing-of-requires
     window-ticks-requires
     address-requires
     open-at-requires

@@ -77,7 +77,7 @@ setting-requires c κs = search needs
 
 join-ticks-requires : tie.Need-join-ticks-requires
 join-ticks-requires c κs =
-    let y = c .before .before .before .before .before .before .before .before .before .before .before in
+    let y = c .before .before .before .before .before .before .before .before .before .before in
     let d = y .before in
     let a = d .before .before .before .before .args in
     judged-passed (a .kind) (a .settings) (a .room .now) (a .reading) (sent (a .caller) (a .key .now)) (d .judge .result) (d .judge .ensures) (y .if1 .left)
@@ -97,7 +97,7 @@ apply-requires c κs =
     let v = u .before in
     let a = v .before .before .before .before .args in
     let none = n .lacks-unless .ensures ∙ ap (λ (lacks : Bool). not (q .idle .result) && lacks) (o .lacks-slot .ensures) in
-    subst (λ (ticks : ℕ). Applies (a .room .now) (p .place .result) ticks (a .reading) (y .setting .result)) (sym (c .join-ticks .ensures))
+    subst (λ (ticks : ℕ). Applies (a .room .now) (p .place .result) ticks (a .reading) (y .setting .result)) (sym (c .before .join-ticks .ensures))
     (set-carried (a .kind) (a .settings) (a .room .now) (a .reading) (sent (a .caller) (a .key .now)) (a .rate) (a .comparator) (a .count) (a .mode)
     (v .judge .result) (v .judge .ensures) (u .if1 .left) (r .limit-of .result) (q .idle .result) (p .place .result) (n .lacks-unless .result)
     (record { limit-is = r .limit-of .ensures; still-is = q .idle .ensures; place-is = p .place .ensures; none-is = none })
@@ -131,7 +131,7 @@ returns-3 c =
     (sym (o .set-refusal .ensures) ∙ n .if2 .left) (m .setting .result) (m .setting .ensures) _ _ (c .outcome .ensures)
     (y .apply .ensures ∙
     ap (λ (ticks : ℕ). applied (a .room .now) (r .place .result) (sent (a .caller) (a .key .now)) ticks (a .reading) (m .setting .result))
-    (d .join-ticks .ensures))
+    (d .before .join-ticks .ensures))
 
 pub set-spec : {M : Type 1} → statement M
 set-spec =

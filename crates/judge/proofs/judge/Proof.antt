@@ -5,7 +5,7 @@ use Prim.Native.Nat.{ℕ}
 use Rattle.parties.specs.Parties.{sent}
 use Rattle.opened.specs.Slot.{firstLook}
 use Rattle.judge.specs.Judge.{slotIn, slotBy}
-use Rattle.judge.specs.Laws.{refused-is, passed-is, standing-code, standing-none, fault-early, no-fault, opened-is, slot-by}
+use Rattle.judge.specs.Laws.{refused-is, passed-is, standing-left, fault-early, no-fault, opened-is, slot-by}
 use borrow.Author.Needs.{needs}
 use Rattle.judge.proofs.judge.Statement.{statement}
 use Rattle.judge.proofs.judge.Tie as tie
@@ -27,17 +27,17 @@ returns c =
     c .refused .ensures ∙ refused-is (a .args .kind) s w t key (slotBy (a .args .first) s w t key) (n .result)
     (fault-early (a .args .kind) s w t key (n .result) (n .ensures) (c .before .if1 .taken)) (c .before .if1 .taken)
 
-window-ticks-requires : tie.Need-window-ticks-requires
-window-ticks-requires c κs =
+standing-of-requires : tie.Need-standing-of-requires
+standing-of-requires c κs =
     let a = c .before .before .before .before in
     let s = a .args .settings in
     let w = a .args .w .now in
     let key = sent (a .args .caller) (a .args .key .now) in
     let t = a .args .reading in
-    no-fault (a .args .kind) s w t key (sym (c .before .fault .ensures) ∙ c .if1 .left) .1 .window-high
+    no-fault (a .args .kind) s w t key (sym (c .before .fault .ensures) ∙ c .if1 .left) .0
 
-look-of-requires : tie.Need-look-of-requires
-look-of-requires c κs =
+window-ticks-requires : tie.Need-window-ticks-requires
+window-ticks-requires c κs =
     let a = c .before .before .before .before .before in
     let s = a .args .settings in
     let w = a .args .w .now in
@@ -45,17 +45,17 @@ look-of-requires c κs =
     let t = a .args .reading in
     no-fault (a .args .kind) s w t key (sym (c .before .before .fault .ensures) ∙ c .before .if1 .left) .1 .window-high
 
-address-requires : tie.Need-address-requires
-address-requires c κs =
+look-of-requires : tie.Need-look-of-requires
+look-of-requires c κs =
     let a = c .before .before .before .before .before .before in
     let s = a .args .settings in
     let w = a .args .w .now in
     let key = sent (a .args .caller) (a .args .key .now) in
     let t = a .args .reading in
-    no-fault (a .args .kind) s w t key (sym (c .before .before .before .fault .ensures) ∙ c .before .before .if1 .left) .0
+    no-fault (a .args .kind) s w t key (sym (c .before .before .before .fault .ensures) ∙ c .before .before .if1 .left) .1 .window-high
 
-open-at-requires : tie.Need-open-at-requires
-open-at-requires c κs =
+address-requires : tie.Need-address-requires
+address-requires c κs =
     let a = c .before .before .before .before .before .before .before in
     let s = a .args .settings in
     let w = a .args .w .now in
@@ -63,24 +63,36 @@ open-at-requires c κs =
     let t = a .args .reading in
     no-fault (a .args .kind) s w t key (sym (c .before .before .before .before .fault .ensures) ∙ c .before .before .before .if1 .left) .0
 
-misfit-requires : tie.Need-misfit-requires
-misfit-requires c κs =
+open-at-requires : tie.Need-open-at-requires
+open-at-requires c κs =
     let a = c .before .before .before .before .before .before .before .before in
     let s = a .args .settings in
     let w = a .args .w .now in
     let key = sent (a .args .caller) (a .args .key .now) in
     let t = a .args .reading in
-    let o = no-fault (a .args .kind) s w t key (sym (c .before .before .before .before .before .fault .ensures) ∙
-    c .before .before .before .before .if1 .left) in
-    let x = c .open-at in (
+    no-fault (a .args .kind) s w t key (sym (c .before .before .before .before .before .fault .ensures) ∙ c .before .before .before .before .if1 .left) .0
+
+misfit-requires : tie.Need-misfit-requires
+misfit-requires c κs =
+    let a = c .before .before .before .before .before .before .before .before .before in
+    let s = a .args .settings in
+    let w = a .args .w .now in
+    let key = sent (a .args .caller) (a .args .key .now) in
+    let t = a .args .reading in
+    let o = no-fault (a .args .kind) s w t key (sym (c .before .before .before .before .before .before .fault .ensures) ∙
+    c .before .before .before .before .before .if1 .left) in
+    let x = c .open-at in
+    let l = c .before .before .look-of in
+    let n = c .before .before .before .window-ticks in (
       record {
         room = o .0;
         reading = t;
-        look = c .before .before .look-of .result;
-        is = opened-is (a .args .kind) s w t key (c .before .before .look-of .result) (c .before .before .before .window-ticks .result)
-            (c .before .address .result) (x .result) (x .ensures) (c .before .before .before .window-ticks .ensures) (c .before .address .ensures);
+        look = l .result;
+        is = opened-is (a .args .kind) s w t key (l .result) (n .result) (c .before .address .result) (x .result) (x .ensures) (n .ensures)
+            (c .before .address .ensures);
       },
       o .1,
+      c .before .before .before .before .standing-of .ensures,
     )
 
 refused-requires-2 : tie.Need-refused-requires-2
@@ -88,19 +100,18 @@ refused-requires-2 c κs = search needs
 
 returns-2 : tie.Need-returns-2
 returns-2 c =
-    let a = c .before .before .before .before .before .before .before .before .before .before .before in
+    let a = c .before .before .before .before .before .before .before .before .before .before .before .before in
     let s = a .args .settings in
     let w = a .args .w .now in
     let key = sent (a .args .caller) (a .args .key .now) in
     let t = a .args .reading in
     let m = c .before .before .misfit in
     c .refused2 .ensures ∙
-    refused-is (a .args .kind) s w t key (slotBy (a .args .first) s w t key) (m .result .code)
-    (sym (standing-code (a .args .kind) s w t key (m .result) (m .ensures))) (c .before .if2 .taken)
+    refused-is (a .args .kind) s w t key (slotBy (a .args .first) s w t key) (m .result) (sym (m .ensures)) (c .before .if2 .taken)
 
 returns-3 : tie.Need-returns-3
 returns-3 c =
-    let a = c .before .before .before .before .before .before .before .before .before .before in
+    let a = c .before .before .before .before .before .before .before .before .before .before .before in
     let s = a .args .settings in
     let w = a .args .w .now in
     let key = sent (a .args .caller) (a .args .key .now) in
@@ -110,8 +121,9 @@ returns-3 c =
     let i = c .before .before .before .address in
     let l = c .before .before .before .before .look-of in
     let n = c .before .before .before .before .before .window-ticks in
-    passed-is (a .args .kind) s w t key (m .result .none) (x .result) (sym (standing-code (a .args .kind) s w t key (m .result) (m .ensures)) ∙ c .if2 .left)
-    (standing-none (a .args .kind) s w t key (m .result) (m .ensures) (c .if2 .left))
+    let z = c .before .before .before .before .before .before .standing-of in
+    let e = sym (m .ensures) ∙ c .if2 .left in
+    passed-is (a .args .kind) s w t key (z .result .none) (x .result) e (standing-left (a .args .kind) s w t key (z .result) (z .ensures) e)
     (opened-is (a .args .kind) s w t key (l .result) (n .result) (i .result) (x .result) (x .ensures) (n .ensures) (i .ensures) ∙
     ap (λ (look : ℕ). firstLook look t (slotIn s w t key)) (l .ensures) ∙ slot-by (a .args .kind) s w t key (a .args .first))
 
@@ -122,6 +134,7 @@ judge-spec =
     fault-requires
     refused-requires
     returns
+    standing-of-requires
     window-ticks-requires
     look-of-requires
     address-requires

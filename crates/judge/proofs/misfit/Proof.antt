@@ -1,39 +1,69 @@
--- The census is taken once, for the refusals and for what is left.
+-- Each refusal is met where those before it are not.
 -- Assumes nothing.
-use mathlib.Core.Path.{_≡_, sym, _∙_}
-use borrow.Author.Tests.{eq-eqb, ne-eqb}
-use Rattle.parties.specs.Parties.{sent}
-use Rattle.parties.specs.Laws.{census-counts}
-use Rattle.judge.specs.Judge.{standing}
-use Rattle.judge.specs.Laws.{passed}
+use mathlib.Core.Path.{_≡_, _∙_, sym}
+use mathlib.Core.Bool.{true}
+use borrow.Author.Tests.{not-true, not-false}
+use Rattle.parties.specs.Parties.{sent, ours}
+use Rattle.parties.specs.Laws.{standing-ours, standing-not-ours, standing-turns}
+use Rattle.opened.specs.Sound.{addressed, soundAt}
+use Rattle.judge.specs.Laws.{early-stray, early-unsound, early-reading, early-key, early-late}
 use borrow.Author.Needs.{needs}
 use Rattle.judge.proofs.misfit.Statement.{statement}
 use Rattle.judge.proofs.misfit.Tie as tie
 
-census-requires : tie.Need-census-requires
-census-requires c κs = c .before .before .pre .0 .room
+-- ---- what is known past 5
 
-early-requires : tie.Need-early-requires
-early-requires c κs = let a = c .before .before .before in (a .pre .0, a .pre .1, c .census .ensures)
+theirs : (c : tie.Else1) → let a = c .before .before .before in ours (a .args .w .now) ≡ true
+theirs c =
+    let a = c .before .before .before in
+    standing-ours (a .args .w .now) (a .args .caller) (a .args .standing) (a .pre .2) (c .if1 .left)
+
+fits : (c : tie.Else2) → let a = c .before .before .before .before .before in
+    soundAt (a .args .kind) (a .args .settings) (a .args .w .now) (addressed (a .args .w .now) (sent (a .args .caller) (a .args .key .now))) ≡ true
+fits c = let e = c .before .sound-at in sym (e .ensures) ∙ not-false (e .result) (c .if2 .left)
+
+-- ---- the needs
 
 returns : tie.Need-returns
-unfolding standing
-returns c = sym (rw (sym (c .before .early .ensures), ne-eqb (c .before .early .result) 0 (c .if1 .taken)))
+returns c =
+    let a = c .before .before .before in
+    sym (early-stray (a .args .kind) (a .args .settings) (a .args .w .now) (a .args .reading) (sent (a .args .caller) (a .args .key .now)) (a .pre .1)
+    (a .pre .0 .room) (standing-not-ours (a .args .w .now) (a .args .caller) (a .args .standing) (a .pre .2) (c .if1 .taken)))
 
-none-left-requires : tie.Need-none-left-requires
-none-left-requires c κs =
-    let z = c .before .before in
-    let a = z .before .before .before in
-    let p = passed (a .args .kind) (a .args .settings) (a .args .w .now) (a .args .reading) (sent (a .args .caller) (a .args .key .now))
-    (sym (c .before .early .ensures) ∙ c .if1 .left) in
-    census-counts (a .args .w .now) (z .census .result) (z .census .ensures) (p .theirs)
+sound-at-requires : tie.Need-sound-at-requires
+sound-at-requires c κs = c .before .before .before .pre .0
 
 returns-2 : tie.Need-returns-2
-unfolding standing
 returns-2 c =
-    let y = c .before in
-    sym (rw (sym (y .before .early .ensures), eq-eqb (y .before .early .result) 0 (y .if1 .left), sym (c .none-left .ensures), y .if1 .left))
+    let a = c .before .before .before .before .before in
+    let e = c .before .sound-at in
+    sym (early-unsound (a .args .kind) (a .args .settings) (a .args .w .now) (a .args .reading) (sent (a .args .caller) (a .args .key .now)) (a .pre .1)
+    (a .pre .0 .room) (theirs (c .before .before)) (sym (e .ensures) ∙ not-true (e .result) (c .if2 .taken)))
+
+shared-slice-read-if3 : tie.Need-shared-slice-read-if3
+shared-slice-read-if3 c = search needs
+
+returns-3 : tie.Need-returns-3
+returns-3 c =
+    let y = c .before .before in
+    let a = y .before .before .before .before .before in
+    sym (early-reading (a .args .kind) (a .args .settings) (a .args .w .now) (a .args .reading) (sent (a .args .caller) (a .args .key .now)) (a .pre .1)
+    (a .pre .0 .room) (theirs (y .before .before)) (fits y) (c .if3 .taken))
+
+returns-4 : tie.Need-returns-4
+returns-4 c =
+    let y = c .before .before .before in
+    let a = y .before .before .before .before .before in
+    sym (early-key (a .args .kind) (a .args .settings) (a .args .w .now) (a .args .reading) (sent (a .args .caller) (a .args .key .now)) (a .pre .1)
+    (a .pre .0 .room) (theirs (y .before .before)) (fits y) (c .before .if3 .left) (c .if4 .taken))
+
+returns-5 : tie.Need-returns-5
+returns-5 c =
+    let y = c .before .before .before in
+    let a = y .before .before .before .before .before in
+    standing-turns (a .args .w .now) (a .args .caller) (a .args .standing) (a .pre .2) (theirs (y .before .before)) ∙
+    sym (early-late (a .args .kind) (a .args .settings) (a .args .w .now) (a .args .reading) (sent (a .args .caller) (a .args .key .now)) (a .pre .1)
+    (a .pre .0 .room) (theirs (y .before .before)) (fits y) (c .before .if3 .left) (c .if4 .left))
 
 pub misfit-spec : {M : Type 1} → statement M
-misfit-spec =
-    tie.close (tie.spec census-requires early-requires returns none-left-requires returns-2)
+misfit-spec = tie.close (tie.spec returns sound-at-requires returns-2 shared-slice-read-if3 returns-3 returns-4 returns-5)

@@ -18,8 +18,8 @@ returns c =
 add-if2 : tie.Need-add-if2
 add-if2 c = search needs
 
-some-requires : tie.Need-some-requires
-some-requires c κs = search needs
+tail-requires : tie.Need-tail-requires
+tail-requires c κs = search needs
 
 returns-2 : tie.Need-returns-2
 returns-2 c = search needs
@@ -31,4 +31,4 @@ returns-3 : tie.Need-returns-3
 returns-3 c = search needs
 
 pub packed-spec : {M : Type 1} → statement M
-packed-spec = tie.close (tie.spec returns add-if2 some-requires returns-2 eight-requires returns-3)
+packed-spec = tie.close (tie.spec returns add-if2 tail-requires returns-2 eight-requires returns-3)

@@ -1,17 +1,16 @@
 -- By its number.
 -- Assumes nothing.
-use borrow.Author.Tests.{eq-eqb, ne-eqb}
+use mathlib.Core.Path.{sym}
+use native.Mathlib.Omega.{arith}
+use Rattle.parties.specs.Laws.{mark-over, mark-is}
 use Rattle.parties.proofs.mark.Statement.{statement}
 use Rattle.parties.proofs.mark.Tie as tie
 
 returns : tie.Need-returns
-returns c = simp (eq-eqb _ _ (c .if1 .taken))
+returns c = sym (mark-over (c .before .args .party) (omega (arith, c .if1 .taken)))
 
 returns-2 : tie.Need-returns-2
-returns-2 c = simp (ne-eqb _ _ (c .before .if1 .left), eq-eqb _ _ (c .if2 .taken))
-
-returns-3 : tie.Need-returns-3
-returns-3 c = simp (ne-eqb _ _ (c .before .if1 .left), ne-eqb _ _ (c .if2 .left))
+returns-2 c = sym (mark-is (c .before .args .party) (omega (arith, c .if1 .left)))
 
 pub mark-spec : {M : Type 1} → statement M
-mark-spec = tie.close (tie.spec returns returns-2 returns-3)
+mark-spec = tie.close (tie.spec returns returns-2)

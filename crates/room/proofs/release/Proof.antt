@@ -1,27 +1,19 @@
--- One store.
+-- Nobody holds it.
 -- Assumes nothing.
-use mathlib.Core.Path.{refl}
-use native.Mathlib.Omega.{arith}
-use lib.ListN.{length-set}
+use borrow.Author.Needs.{needs}
 use Rattle.room.specs.Room.{released}
 use Rattle.room.proofs.release.Statement.{statement}
 use Rattle.room.proofs.release.Tie as tie
 
-add-w : tie.Need-add-w
-add-w c = omega arith
-
-mul-w : tie.Need-mul-w
-mul-w c = omega arith
-
-slice-write-w : tie.Need-slice-write-w
-slice-write-w c = omega arith
+hold-requires : tie.Need-hold-requires
+hold-requires c κs = search needs
 
 same-length : tie.Need-same-length
-same-length c = simp length-set
+same-length c = search needs
 
 returns : tie.Need-returns
 unfolding released
-returns c = refl
+returns c = c .before .before .hold .ensures
 
 pub release-spec : {M : Type 1} → statement M
-release-spec = tie.close (tie.spec add-w mul-w slice-write-w same-length returns)
+release-spec = tie.close (tie.spec hold-requires same-length returns)

@@ -56,7 +56,7 @@ loop-again c =
     let t : l .loop .at < slotsOf (a .w .now) = n .before .before .loop-test .taken in (
       omega arith,
       swept-turn (a .w .now) (a .reading) (a .ticks) (a .stale) (l .loop .w) (u .settle .last .0) (l .loop .at) (n .use-next .result) t
-          (l .before .before .before .pre .0 .room .few)
+          (omega (arith, l .before .before .before .pre .0 .room .long))
           (l .loop .inv .1)
           (n .use-next .ensures) (u .settle .ensures),
     )

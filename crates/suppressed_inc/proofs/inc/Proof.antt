@@ -9,7 +9,7 @@ use Rattle.parties.specs.Parties.{sent, noneLeft}
 use Rattle.rules.specs.declared.RoomKind.the-variants.{Suppressed}
 use Rattle.opened.specs.Slot.{noSlot}
 use Rattle.judge.specs.Judge.{early, lookedIn}
-use Rattle.judge.specs.Laws.{refused-is, standing-code, standing-none, fault-early, no-fault, opened-is, looked-is}
+use Rattle.judge.specs.Laws.{refused-is, standing-left, fault-early, no-fault, opened-is, looked-is}
 use Rattle.change.specs.Words.{Applies, applied}
 use Rattle.plan.specs.Plan.{lacksAt}
 use Rattle.suppressed_verdicts.specs.Laws.{in-room, inc-early, inc-late, inc-total, inc-applies, inc-done}
@@ -26,34 +26,30 @@ passed c =
     no-fault Suppressed (a .settings) (a .room .now) (a .reading) key (sym (c .before .fault .ensures) ∙ c .if1 .left)
 
 slot-is : (c : tie.After-open-at) →
-    let a = c .before .before .before .before .before .before .before .before .before .before .before .args in
+    let a = c .before .before .before .before .before .before .before .before .before .before .before .before .before .args in
     c .open-at .result ≡ lookedIn (a .settings) (a .room .now) (a .reading) (sent (a .caller) (a .key .now))
 slot-is c =
     let d = c .before .before in
     let v = d .before .before in
     let n = v .before in
-    let a = n .before .before .before .before .before .before .args in
+    let a = n .before .before .before .before .before .before .before .before .args in
     let key = sent (a .caller) (a .key .now) in
     looked-is Suppressed (a .settings) (a .room .now) (a .reading) key _ _ _ (c .open-at .result) (c .open-at .ensures)
     (v .look-ticks .ensures) (n .window-ticks .ensures) (d .address .ensures)
 
 none-early : (c : tie.Else2) →
-    let a = c .before .before .before .before .before .before .before .before .before .before .before .before .before .before .args in
+    let a = c .before .before .before .before .before .before .before .before .before .before .before .before .before .before .before .before .args in
     early Suppressed (a .settings) (a .room .now) (a .reading) (sent (a .caller) (a .key .now)) ≡ 0
-none-early c =
-    let a = c .before .before .before .before .before .before .before .before .before .before .before .before .before .before .args in
-    let key = sent (a .caller) (a .key .now) in
-    let m = c .before .misfit in
-    sym (standing-code Suppressed (a .settings) (a .room .now) (a .reading) key (m .result) (m .ensures)) ∙ c .if2 .left
+none-early c = sym (c .before .misfit .ensures) ∙ c .if2 .left
 
 none-left : (c : tie.Else2) →
-    let a = c .before .before .before .before .before .before .before .before .before .before .before .before .before .before .args in
-    c .before .misfit .result .none ≡ noneLeft (a .room .now) (a .caller)
+    let a = c .before .before .before .before .before .before .before .before .before .before .before .before .before .before .before .before .args in
+    c .before .before .before .before .before .before .before .before .before .standing-of .result .none ≡ noneLeft (a .room .now) (a .caller)
 none-left c =
-    let a = c .before .before .before .before .before .before .before .before .before .before .before .before .before .before .args in
+    let a = c .before .before .before .before .before .before .before .before .before .before .before .before .before .before .before .before .args in
     let key = sent (a .caller) (a .key .now) in
-    let m = c .before .misfit in
-    standing-none Suppressed (a .settings) (a .room .now) (a .reading) key (m .result) (m .ensures) (c .if2 .left)
+    let y = c .before .before .before .before .before .before .before .before .before .standing-of in
+    standing-left Suppressed (a .settings) (a .room .now) (a .reading) key (y .result) (y .ensures) (none-early c)
 
 -- ---- the needs
 
@@ -74,17 +70,20 @@ returns c =
     (refused-is Suppressed (a .settings) (a .room .now) (a .reading) key (noSlot 0) (n .result) e (c .if1 .taken)) (a .rate) (a .count) (a .draw)
     (c .if1 .taken)
 
+standing-of-requires : tie.Need-standing-of-requires
+standing-of-requires c κs = passed (c .before) .0
+
 window-ticks-requires : tie.Need-window-ticks-requires
-window-ticks-requires c κs = passed c .1 .window-high
+window-ticks-requires c κs = passed (c .before .before) .1 .window-high
 
 look-ticks-requires : tie.Need-look-ticks-requires
-look-ticks-requires c κs = passed (c .before) .1 .window-high
+look-ticks-requires c κs = passed (c .before .before .before) .1 .window-high
 
 address-requires : tie.Need-address-requires
-address-requires c κs = passed (c .before .before .before) .0
+address-requires c κs = passed (c .before .before .before .before .before) .0
 
 open-at-requires : tie.Need-open-at-requires
-open-at-requires c κs = passed (c .before .before .before .before .before) .0
+open-at-requires c κs = passed (c .before .before .before .before .before .before .before) .0
 
 misfit-requires : tie.Need-misfit-requires
 misfit-requires c κs =
@@ -92,9 +91,9 @@ misfit-requires c κs =
     let d = o .before .before in
     let v = d .before .before in
     let n = v .before in
-    let a = n .before .before .before .before .before .before .args in
+    let a = n .before .before .before .before .before .before .before .before .args in
     let key = sent (a .caller) (a .key .now) in
-    let q = passed (n .before) in (
+    let q = passed (n .before .before .before) in (
       record {
         room = q .0;
         reading = a .reading;
@@ -103,6 +102,7 @@ misfit-requires c κs =
             (n .window-ticks .ensures) (d .address .ensures);
       },
       q .1,
+      n .before .standing-of .ensures,
     )
 
 same-length-2 : tie.Need-same-length-2
@@ -111,20 +111,19 @@ same-length-2 c = search needs
 returns-2 : tie.Need-returns-2
 returns-2 c =
     let m = c .before .misfit in
-    let a = c .before .before .before .before .before .before .before .before .before .before .before .before .before .before .args in
+    let a = c .before .before .before .before .before .before .before .before .before .before .before .before .before .before .before .before .args in
     let key = sent (a .caller) (a .key .now) in
-    let e = standing-code Suppressed (a .settings) (a .room .now) (a .reading) key (m .result) (m .ensures) in
     inc-early (a .settings) (a .room .now) (a .reading) key (noSlot 0)
-    (record { code = m .result .code; none = false; slot = noSlot 0 })
-    (refused-is Suppressed (a .settings) (a .room .now) (a .reading) key (noSlot 0) (m .result .code) (sym e) (c .if2 .taken))
+    (record { code = m .result; none = false; slot = noSlot 0 })
+    (refused-is Suppressed (a .settings) (a .room .now) (a .reading) key (noSlot 0) (m .result) (sym (m .ensures)) (c .if2 .taken))
     (a .rate) (a .count) (a .draw) (c .if2 .taken)
 
 place-requires : tie.Need-place-requires
-place-requires c κs = passed (c .before .before .before .before .before .before .before .before .before .before) .0
+place-requires c κs = passed (c .before .before .before .before .before .before .before .before .before .before .before .before) .0
 
 late-requires : tie.Need-late-requires
 late-requires c κs =
-    let q = passed (c .before .before .before .before .before .before .before .before .before .before .before .before) in
+    let q = passed (c .before .before .before .before .before .before .before .before .before .before .before .before .before .before) in
     (q .0, q .1 .bucket-high)
 
 same-length-3 : tie.Need-same-length-3
@@ -135,9 +134,9 @@ returns-3 c =
     let l = c .before in
     let p = l .before .before in
     let u = p .before .before in
-    let m = u .before .misfit in
     let o = u .before .before .before in
-    let a = o .before .before .before .before .before .before .before .before .before .before .before .args in
+    let m = o .before .before .before .before .before .before .standing-of in
+    let a = o .before .before .before .before .before .before .before .before .before .before .before .before .before .args in
     let key = sent (a .caller) (a .key .now) in
     let x = o .open-at .result in
     inc-late (a .settings) (a .room .now) (a .reading) key (none-early u) x (slot-is o) (p .place .result) (p .place .ensures)
@@ -153,9 +152,9 @@ forecast-requires c κs =
     let l = z .before in
     let p = l .before .before in
     let u = p .before .before in
-    let m = u .before .misfit in
     let o = u .before .before .before in
-    let a = o .before .before .before .before .before .before .before .before .before .before .before .args in
+    let m = o .before .before .before .before .before .before .standing-of in
+    let a = o .before .before .before .before .before .before .before .before .before .before .before .before .before .args in
     let key = sent (a .caller) (a .key .now) in
     let x = o .open-at .result in
     inc-total (a .settings) (a .room .now) (a .reading) key (none-early u) x (slot-is o) (p .place .result) (p .place .ensures)
@@ -166,10 +165,10 @@ decide-requires : tie.Need-decide-requires
 decide-requires c κs =
     let u = c .before .before .before .before .before .before .before .before in
     let o = u .before .before .before in
-    let a = o .before .before .before .before .before .before .before .before .before .before .before .args in
+    let a = o .before .before .before .before .before .before .before .before .before .before .before .before .before .args in
     let key = sent (a .caller) (a .key .now) in
     let x = o .open-at .result in
-    let q = passed (o .before .before .before .before .before .before) in
+    let q = passed (o .before .before .before .before .before .before .before .before) in
     (in-room (a .settings) (a .room .now) (a .reading) key (none-early u) x (slot-is o), q .1 .cache-high)
 
 inc-change-requires : tie.Need-inc-change-requires
@@ -178,7 +177,7 @@ inc-change-requires c κs = search needs
 join-ticks-requires : tie.Need-join-ticks-requires
 join-ticks-requires c κs =
     let o = c .before .before .before .before .before .before .before .before .before .before .before .before .before in
-    passed (o .before .before .before .before .before .before) .1 .bucket-high
+    passed (o .before .before .before .before .before .before .before .before) .1 .bucket-high
 
 apply-requires : tie.Need-apply-requires
 apply-requires c κs =
@@ -191,9 +190,9 @@ apply-requires c κs =
     let l = z .before in
     let p = l .before .before in
     let u = p .before .before in
-    let m = u .before .misfit in
     let o = u .before .before .before in
-    let a = o .before .before .before .before .before .before .before .before .before .before .before .args in
+    let m = o .before .before .before .before .before .before .standing-of in
+    let a = o .before .before .before .before .before .before .before .before .before .before .before .before .before .args in
     let key = sent (a .caller) (a .key .now) in
     let x = o .open-at .result in
     subst (λ (n : ℕ). Applies (a .room .now) (p .place .result) n (a .reading) (h .inc-change .result)) (sym (b .join-ticks .ensures))
@@ -217,9 +216,9 @@ returns-4 c =
     let l = z .before in
     let p = l .before .before in
     let u = p .before .before in
-    let m = u .before .misfit in
     let o = u .before .before .before in
-    let a = o .before .before .before .before .before .before .before .before .before .before .before .args in
+    let m = o .before .before .before .before .before .before .standing-of in
+    let a = o .before .before .before .before .before .before .before .before .before .before .before .before .before .args in
     let key = sent (a .caller) (a .key .now) in
     let x = o .open-at .result in
     inc-done (a .settings) (a .room .now) (a .reading) key (none-early u) x (slot-is o) (p .place .result) (p .place .ensures)
@@ -236,6 +235,7 @@ inc-spec =
     fault-requires
     same-length
     returns
+    standing-of-requires
     window-ticks-requires
     look-ticks-requires
     address-requires

@@ -107,7 +107,8 @@ factor-change-requires c κs = search needs
 apply-requires : tie.Need-apply-requires
 apply-requires c κs =
     let y = c .before in
-    let d = y .before .before in
+    let f = y .before in
+    let d = f .before in
     let m = d .before .before in
     let n = m .before in
     let o = n .before in
@@ -116,11 +117,11 @@ apply-requires c κs =
     let a = u .before .before .before .before .args in
     let key = sent (a .caller) (a .key .now) in
     let j = u .judge in
-    subst (λ (ticks : ℕ). Applies (a .room .now) (o .place .result) ticks (a .reading) (c .factor-change .result)) (sym (y .join-ticks .ensures))
+    subst (λ (ticks : ℕ). Applies (a .room .now) (o .place .result) ticks (a .reading) (f .factor-change .result)) (sym (y .join-ticks .ensures))
     (factor-applies (a .settings) (a .room .now) (a .reading) key (none-early r)
     (j .result .slot) (slot-is r)
     (o .place .result) (o .place .ensures) (j .result .none) (none-left r) (n .lacks-slot .result) (n .lacks-slot .ensures)
-    (m .if2 .left) (d .ask .result .caching) (c .factor-change .result) (c .factor-change .ensures))
+    (m .if2 .left) (d .ask .result .caching) (f .factor-change .result) (f .factor-change .ensures))
 
 same-length-3 : tie.Need-same-length-3
 same-length-3 c = search needs
@@ -128,9 +129,9 @@ same-length-3 c = search needs
 returns-3 : tie.Need-returns-3
 returns-3 c =
     let y = c .before .before in
-    let d = y .before in
-    let m = d .before in
-    let n = m .before .before in
+    let m = y .before .before in
+    let d = m .before in
+    let n = d .before in
     let o = n .before .before in
     let p = o .before in
     let q = p .before in
@@ -158,8 +159,8 @@ get-suppression-factor-spec =
     same-length-2
     returns-2
     ask-requires
-    join-ticks-requires
     factor-change-requires
+    join-ticks-requires
     apply-requires
     same-length-3
     returns-3)

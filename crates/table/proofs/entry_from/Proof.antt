@@ -1,11 +1,9 @@
 -- No entry from the first one to the one looked at has the key: the search from the first is the search from there.
 -- Assumes nothing.
-use mathlib.Core.Path.{_≡_, refl, sym, ap, _∙_}
+use mathlib.Core.Path.{_≡_, refl, sym, _∙_}
 use Prim.Native.Nat.{_-_, _≤_}
 use native.Mathlib.Omega.{arith}
-use borrow.Author.Needs.{needs}
 use Rattle.base.specs.Seek.{seek, seek-on, seek-here, seek-end}
-use Rattle.keys.specs.Keys.{sameKey}
 use Rattle.table.specs.Table.{names, entryFrom}
 use Rattle.table.specs.Laws.{table-directory}
 use Rattle.table.proofs.entry_from.Statement.{statement}
@@ -23,22 +21,19 @@ shared-slice-read-known c = omega arith
 loop-holds : tie.Need-loop-holds Inv-loop μ-loop
 loop-holds c = (omega arith, refl)
 
-key-at-requires : tie.Need-key-at-requires Inv-loop μ-loop
-key-at-requires c κs = (table-directory (c .before .before .before .before .pre .0), c .loop-test .taken)
-
-same-key-requires : tie.Need-same-key-requires Inv-loop μ-loop
-same-key-requires c κs = search needs
+is-key-at-requires : tie.Need-is-key-at-requires Inv-loop μ-loop
+is-key-at-requires c κs = (table-directory (c .before .before .before .before .pre .0), c .loop-test .taken)
 
 -- what the test of a turn has said
-same : (c : tie.After-same-key Inv-loop μ-loop) → let l = c .before .before .before in let a = l .before .before .before .args in
-    c .same-key .result ≡ names (a .w .now) (a .k) (l .loop .i)
+same : (c : tie.After-is-key-at Inv-loop μ-loop) → let l = c .before .before in let a = l .before .before .before .args in
+    c .is-key-at .result ≡ names (a .w .now) (a .k) (l .loop .i)
 unfolding names
-same c = c .same-key .ensures ∙ ap (λ x. sameKey x (c .before .before .before .before .before .before .args .k)) (c .before .key-at .ensures)
+same c = c .is-key-at .ensures
 
 returns : tie.Need-returns Inv-loop μ-loop
 returns c =
-    let l = c .before .before .before .before in
-    sym (l .loop .inv .1 ∙ seek-here _ _ _ (c .before .before .before .loop-test .taken) (sym (same (c .before)) ∙ c .if1 .taken))
+    let l = c .before .before .before in
+    sym (l .loop .inv .1 ∙ seek-here _ _ _ (c .before .before .loop-test .taken) (sym (same (c .before)) ∙ c .if1 .taken))
 
 add-i : tie.Need-add-i Inv-loop μ-loop
 add-i c = omega arith
@@ -48,8 +43,8 @@ loop-less c = omega arith
 
 loop-again : tie.Need-loop-again Inv-loop μ-loop
 loop-again c =
-    let l = c .before .before .before .before in
-    (omega arith, l .loop .inv .1 ∙ seek-on _ _ _ (c .before .before .before .loop-test .taken) (sym (same (c .before)) ∙ c .if1 .left))
+    let l = c .before .before .before in
+    (omega arith, l .loop .inv .1 ∙ seek-on _ _ _ (c .before .before .loop-test .taken) (sym (same (c .before)) ∙ c .if1 .left))
 
 returns-2 : tie.Need-returns-2 Inv-loop μ-loop
 returns-2 c = sym (c .before .loop .inv .1 ∙ seek-end _ _ _ (c .loop-test .left))
@@ -62,8 +57,7 @@ entry-from-spec =
     μ-loop
     shared-slice-read-known
     loop-holds
-    key-at-requires
-    same-key-requires
+    is-key-at-requires
     returns
     add-i
     loop-less
