@@ -8,7 +8,7 @@ use native.Mathlib.Decide.{ℕ-discrete, decLt}
 use native.Mathlib.Omega.{arith}
 use lib.ListN.{length, getD, drop}
 use lib.Seq.{getD-take, getD-drop}
-use Rattle.base.specs.Bits.{bits-same, bit-lt}
+use Rattle.base.specs.Bits.{bitAt, bits-same, bit-lt}
 use Rattle.keys.specs.declared.Key.{Key}
 use Rattle.layout.specs.Layout.{firstsWord, secondsWord, headerWords, entryWords, sizeOf}
 use Rattle.room.specs.Room.{slotsOf, ringOf, lengthOf, entryOf, startOf, holderOf, useOf, keyAt, bodyFrom, bodyOf}
@@ -42,17 +42,16 @@ entry-words v x i (suc (suc (suc (suc (suc (suc m)))))) u k h = absurd (omega ar
 
 -- equal holders: the two words have the same bits
 module _ (v x : List ℕ) (f : (i : ℕ) → holderOf x i ≡ holderOf v i) where
+  word-same : (j : ℕ) → ((i : ℕ) → bitAt (getD x j 0) i ≡ bitAt (getD v j 0) i) → getD x j 0 ≡ getD v j 0
+  word-same j g = bits-same (getD x j 0 + getD v j 0) (getD x j 0) (getD v j 0) (omega arith) (omega arith) g
+
   firsts-same : getD x firstsWord 0 ≡ getD v firstsWord 0
   unfolding holderOf
-  firsts-same =
-      bits-same (getD x firstsWord 0 + getD v firstsWord 0) (getD x firstsWord 0) (getD v firstsWord 0) (omega arith) (omega arith)
-      (λ i. omega (arith, f i, bit-lt (getD x firstsWord 0) i, bit-lt (getD v firstsWord 0) i))
+  firsts-same = word-same firstsWord (λ i. omega (arith, f i, bit-lt (getD x firstsWord 0) i, bit-lt (getD v firstsWord 0) i))
 
   seconds-same : getD x secondsWord 0 ≡ getD v secondsWord 0
   unfolding holderOf
-  seconds-same =
-      bits-same (getD x secondsWord 0 + getD v secondsWord 0) (getD x secondsWord 0) (getD v secondsWord 0) (omega arith) (omega arith)
-      (λ i. omega (arith, f i, bit-lt (getD x firstsWord 0) i, bit-lt (getD v firstsWord 0) i))
+  seconds-same = word-same secondsWord (λ i. omega (arith, f i, bit-lt (getD x firstsWord 0) i, bit-lt (getD v firstsWord 0) i))
 
 -- a place past a by q groups of z words and some
 place : (a z j : ℕ) → 0 < z → a ≤ j → j ≡ a + (j - a) / z * z + (j - a) % z

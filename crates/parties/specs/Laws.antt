@@ -167,31 +167,25 @@ module _ (w : List ℕ) where
   unfolding ours holderOf
   ours-is = no-both (getD w firstsWord 0) (getD w secondsWord 0) (slotsOf w)
 
+  -- a test that tells of each of the slots whether m holds it counts those that m holds
+  told-count : (m : ℕ) (f : ℕ → Bool) → ((s : ℕ) → isOurs (holderOf w s) ≡ true → f s ≡ eqb (holderOf w s) m) → ours w ≡ true →
+      many f (slotsOf w) ≡ slotsHeld w m
+  unfolding ours slotsHeld
+  told-count m f h e = many-same (λ s. isOurs (holderOf w s)) f (λ s. eqb (holderOf w s) m) h (slotsOf w) e
+
   pub first-held : ours w ≡ true → bitsHeld w firstsWord ≡ slotsHeld w firstMark
-  unfolding ours holderOf bitsHeld slotsHeld
+  unfolding holderOf bitsHeld
   first-held e =
       let x = getD w firstsWord 0 in
       let y = getD w secondsWord 0 in
-      many-same
-      (λ s. isOurs (bitAt x s + 2 * bitAt y s))
-      (λ s. eqb (bitAt x s) 1)
-      (λ s. eqb (bitAt x s + 2 * bitAt y s) firstMark)
-      (λ s e. bits-tell (bitAt x s) (bitAt y s) (bit-lt x s) (bit-lt y s) e .0)
-      (slotsOf w)
-      e
+      told-count firstMark (λ s. eqb (bitAt x s) 1) (λ s q. bits-tell (bitAt x s) (bitAt y s) (bit-lt x s) (bit-lt y s) q .0) e
 
   pub second-held : ours w ≡ true → bitsHeld w secondsWord ≡ slotsHeld w secondMark
-  unfolding ours holderOf bitsHeld slotsHeld
+  unfolding holderOf bitsHeld
   second-held e =
       let x = getD w firstsWord 0 in
       let y = getD w secondsWord 0 in
-      many-same
-      (λ s. isOurs (bitAt x s + 2 * bitAt y s))
-      (λ s. eqb (bitAt y s) 1)
-      (λ s. eqb (bitAt x s + 2 * bitAt y s) secondMark)
-      (λ s e. bits-tell (bitAt x s) (bitAt y s) (bit-lt x s) (bit-lt y s) e .1)
-      (slotsOf w)
-      e
+      told-count secondMark (λ s. eqb (bitAt y s) 1) (λ s q. bits-tell (bitAt x s) (bitAt y s) (bit-lt x s) (bit-lt y s) q .1) e
 
   pub census-counts : (z : Holdings) → z ≡ censusOf w → ours w ≡ true → Counts w z
   unfolding censusOf

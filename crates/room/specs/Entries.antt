@@ -31,27 +31,25 @@ unfolding holderOf
 holder-none w s p q = rw (p, q, bit-none s)
 
 module _ (w : List ℕ) (s m : ℕ) where
+  abbrev stores : List (ℕ × ℕ)
+  stores = (firstsWord, withBit (getD w firstsWord 0) s (m % 2)) ∷ (secondsWord, withBit (getD w secondsWord 0) s (m / 2 % 2)) ∷ []
+
   pub held-length : length (held w s m) ≡ length w
   unfolding held
-  held-length = length-writes ((firstsWord, withBit (getD w firstsWord 0) s (m % 2)) ∷ (secondsWord, withBit (getD w secondsWord 0) s (m / 2 % 2)) ∷ []) w
+  held-length = length-writes stores w
 
   -- every word but the two
   pub held-other : (j : ℕ) → j ≢ firstsWord → j ≢ secondsWord → getD (held w s m) j 0 ≡ getD w j 0
   unfolding held
-  held-other j p q =
-      read-past ((firstsWord, withBit (getD w firstsWord 0) s (m % 2)) ∷ (secondsWord, withBit (getD w secondsWord 0) s (m / 2 % 2)) ∷ []) w j (p, (q, tt))
+  held-other j p q = read-past stores w j (p, (q, tt))
 
   firsts : secondsWord < length w → getD (held w s m) firstsWord 0 ≡ withBit (getD w firstsWord 0) s (m % 2)
   unfolding held
-  firsts l =
-      read-nth ((firstsWord, withBit (getD w firstsWord 0) s (m % 2)) ∷ (secondsWord, withBit (getD w secondsWord 0) s (m / 2 % 2)) ∷ []) 0 w (omega arith)
-      (omega arith) (omega arith)
+  firsts l = read-nth stores 0 w (omega arith) (omega arith) (omega arith)
 
   seconds : secondsWord < length w → getD (held w s m) secondsWord 0 ≡ withBit (getD w secondsWord 0) s (m / 2 % 2)
   unfolding held
-  seconds l =
-      read-nth ((firstsWord, withBit (getD w firstsWord 0) s (m % 2)) ∷ (secondsWord, withBit (getD w secondsWord 0) s (m / 2 % 2)) ∷ []) 1 w (omega arith)
-      (omega arith) tt
+  seconds l = read-nth stores 1 w (omega arith) (omega arith) tt
 
   pub held-here : secondsWord < length w → m < 4 → holderOf (held w s m) s ≡ m
   unfolding holderOf firsts seconds
