@@ -4,7 +4,8 @@ ghost use mathlib.Core.Path.{_≡_};
 ghost use mathlib.Core.Bool.{cond};
 ghost use lib.Dec.{eqb};
 ghost use lib.ListN.{length};
-ghost use Rattle.answers.specs.Rows.{refusedRow, decisionRow, totalRow, snapshotRow, factorRow, oldRateRow, deleteRow, doneRow};
+ghost use Rattle.answers.specs.Rows.{refusedRow, decisionRow, totalRow, snapshotRow, factorRow, oldRateRow, deleteRow, doneRow, ringRow};
+ghost use Rattle.ring_length.specs.RingLength.{ringFor};
 ghost use Rattle.room.specs.Room.{fits, empty};
 ghost use Rattle.parties.specs.Parties.{sent};
 ghost use Rattle.rules.specs.declared.RoomKind.the-variants.{Absolute, Suppressed};
@@ -56,6 +57,23 @@ pub extern "C" fn frostaxle_room_words(slots: u64, ring: u64) -> usize
     let n = slots as usize;
     let r = ring as usize;
     layout::HEADER + layout::ENTRY * n + n * (layout::FIXED + layout::CELL * r)
+}
+
+// How many buckets a ring must have so that its room never meets refusal 12 with these settings.
+#[no_mangle]
+pub extern "C" fn frostaxle_sufficient_ring(
+    window: u64,
+    bucket: u64,
+    cache: u64,
+    factor: f64,
+    clock: u64,
+    row: &mut [u64; 5],
+) -> u64
+    ensures { λ n. ⌜ Given (ringRow (ringFor (settings window bucket cache factor clock))) n (now (row .exit)) ⌝ }
+{
+    let settings = inputs::settings(window, bucket, cache, factor, clock);
+    let answer = ring_length::sufficient_ring(settings);
+    rows::give(rows::ring_row(answer), row)
 }
 
 // Makes an empty room.

@@ -24,6 +24,8 @@ use Rattle.answers.specs.declared.DoneAnswer.{DoneAnswer}
 use Rattle.answers.specs.declared.DoneAnswer.the-variants as done
 use Rattle.answers.specs.declared.ReadOutAnswer.{ReadOutAnswer}
 use Rattle.answers.specs.declared.ReadOutAnswer.the-variants as readOut
+use Rattle.answers.specs.declared.RingAnswer.{RingAnswer}
+use Rattle.answers.specs.declared.RingAnswer.the-variants as ring
 use Rattle.answers.specs.declared.ShotAnswer.{ShotAnswer}
 use Rattle.answers.specs.declared.ShotAnswer.the-variants as shot
 use Rattle.common.specs.declared.units.WindowSizeAnswer.{WindowSizeAnswer}
@@ -93,6 +95,11 @@ doneRow (done.Refused n) = refusedRow n
 unfoldable pub readOutRow : ReadOutAnswer → List ℕ
 readOutRow (readOut.Buckets n) = row 0 1 n 0 0
 readOutRow (readOut.Refused n) = refusedRow n
+
+-- how many buckets
+unfoldable pub ringRow : RingAnswer → List ℕ
+ringRow (ring.Ring n) = row 0 1 n 0 0
+ringRow (ring.Refused n) = refusedRow n
 
 -- a decision's own row, and one case more: held
 unfoldable pub shotRow : ShotAnswer → List ℕ

@@ -103,6 +103,12 @@ pub enum ReadOutAnswer {
     Refused(u64),
 }
 
+// How many buckets a ring must have, for rooms with these settings.
+pub enum RingAnswer {
+    Ring(u64),
+    Refused(u64),
+}
+
 // A shot by its number: the gateway has it already, or what the limiter decided.
 pub enum ShotAnswer {
     Held,

@@ -107,7 +107,7 @@ abbrev told : (kind : RoomKind) → Settings → ℕ → List ℕ → List (Call
 told k s p w [] = []
 told k s p w (c ∷ cs) = cond (mine p (c .op)) (answerRow k s (words k s w cs) (c .reading) (c .op) ∷ told k s p w cs) (told k s p w cs)
 
-words-by : (k : RoomKind) (s : Settings) (w : List ℕ) (cs : List (Call k)) → wordsBy (verdictOf k s) w cs ≡ words k s w cs
+pub words-by : (k : RoomKind) (s : Settings) (w : List ℕ) (cs : List (Call k)) → wordsBy (verdictOf k s) w cs ≡ words k s w cs
 words-by k s w [] = refl
 words-by k s w (c ∷ cs) = ap (λ (v : List ℕ). after k s v (c .reading) (c .op)) (words-by k s w cs)
 
@@ -117,7 +117,7 @@ told-by k s p w (c ∷ cs) =
     ap₂ (λ (v : List ℕ) (more : List (List ℕ)). cond (mine p (c .op)) (answerRow k s v (c .reading) (c .op) ∷ more) more) (words-by k s w cs)
     (told-by k s p w cs)
 
-fine-after : (k : RoomKind) (s : Settings) (t u a b : ℕ) (w : List ℕ) (op : Op k) → Bytes (keyIn op .bytes) → Gives a b op → t ≤ u → Fine k s t a b w →
+pub fine-after : (k : RoomKind) (s : Settings) (t u a b : ℕ) (w : List ℕ) (op : Op k) → Bytes (keyIn op .bytes) → Gives a b op → t ≤ u → Fine k s t a b w →
     Fine k s u a b (after k s w t op)
 fine-after k s t u a b w op by g h f = record {
   sane = sane-after k s w t (f .sane) op by;

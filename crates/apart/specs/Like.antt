@@ -115,7 +115,7 @@ sound-passes k s w o = every-all (Cleanup.slotPasses k s w) (slotsOf w) (λ i h.
     go i h (no n) = passes-used k s w i n ∙ o .slots i h n
 
 -- 16, while the promises are kept
-over-is : (w : List ℕ) (c : Caller) → Kept w (c .first) (c .second) → overdrawn w c ≡ ltb (slotsOf w) (c .first + c .second)
+pub over-is : (w : List ℕ) (c : Caller) → Kept w (c .first) (c .second) → overdrawn w c ≡ ltb (slotsOf w) (c .first + c .second)
 unfolding overdrawn
 over-is w c l = ap₂ (λ (x y : Bool). ltb (slotsOf w) (c .first + c .second) || (x || y)) (le-ltb _ _ (l .first)) (le-ltb _ _ (l .second)) ∙ or-no _
   where

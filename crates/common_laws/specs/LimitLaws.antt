@@ -4,10 +4,12 @@
 use mathlib.Core.Path.{_≡_, refl, sym, ap, subst, _∙_}
 use mathlib.Core.Bool.{Bool, true, false, not, _&&_, cond, true≢false, _||_}
 use Prim.Native.Nat.{ℕ, _+_, _-_, _*_, _/_, _^_, _≤_, _<_, zero-le}
-use native.Mathlib.Nat.{le-trans, le-of-eq, le-antisymm, mul-right-comm}
+use native.Mathlib.Nat.{le-trans, le-of-eq, le-antisymm, mul-right-comm, mul-pos, zero-lt-suc}
+use native.Mathlib.Omega.{arith}
 use lib.IntN.{ℤ, pos}
-use lib.Dec.{T, eqb, eqb→eq, eqb-refl}
-use lib.Ieee.{Float, nan, inf, fin, binary64, prec, low, up, down, hid, size, mul, div, le, lt, eq, ofInt, ofBits, toBits, isNan, fits, toUnsigned}
+use lib.Dec.{T, eqb, eqb→eq, eqb-refl, lit≤}
+use lib.Pow.{pow-pos}
+use lib.Ieee.{Float, nan, inf, fin, binary64, prec, low, up, down, hid, size, mul, div, le, lt, eq, round, ofInt, ofBits, toBits, isNan, fits, toUnsigned}
 use lib.Ieee.Bits.{is-true, ofBits-toBits, toBits-ofBits, ofBits-fits}
 use lib.Ieee.Fits.{and-l, and-r, down-pos, mul-fits, div-fits}
 use lib.Ieee.Nearest.{div-mono}
@@ -16,7 +18,9 @@ use denote.Floats.{passes}
 use borrow.Author.Tests.{eq-eqb}
 use Rattle.common.specs.Ranges.{nil, one, least, most, factorOk, rateOk}
 use Rattle.common.specs.Limits.{absoluteLimit, hardLimit, absoluteWord, hardWord, cutWord, softWord, dividedBack, limitOk, rateBack}
-use Rattle.common_laws.specs.Floats.Bounds.{plain, round-shape}
+use Rattle.common_laws.specs.Floats.Bounds.{plain, round-shape, Low, held-whole, round-low, le-of-bounds}
+use Rattle.common_laws.specs.Floats.Factor.{count-shape}
+use Rattle.common_laws.specs.Floats.Ops.{mul-is}
 use Rattle.common_laws.specs.Floats.Order.{toUnsigned-mono}
 use Rattle.common_laws.specs.Floats.Soft.{ge-one, finite-of-le, divided}
 use Rattle.common_laws.specs.Floats.Stored.{window, absolute-back, hard-back}
@@ -58,6 +62,32 @@ unfolding hardWord
 hard-ok rate F W r f p q =
     let i = factor-in F f in
     stored W F (hardLimit rate F W) (mul-fits binary64 (mul binary64 rate F) _) (hard-back rate F W (rate-from rate r) (i .double) (i .finite) (i .from) p q)
+
+-- ---- a rate of 1 per second: its absolute limit is at least 1, whatever the window
+pub one-rate : rateOk one ≡ true
+unfolding rateOk le
+one-rate = refl
+
+one-low : (W : ℕ) → 1 ≤ W → W ≤ 33554432 → Low (absoluteLimit one W) 1 1
+one-low W p q =
+    let c = count-shape binary64 W p (le-trans q (lit≤ tt)) in
+    let e : absoluteLimit one W ≡ round binary64 false (1 * up (pos 0) * (c .0 * up (c .1))) (down (pos 0) * down (c .1)) =
+    ap (mul binary64 one) (c .2) ∙ mul-is binary64 1 (pos 0) (c .0) (c .1) in
+    subst (λ (x : Float). Low x 1 1) (sym e)
+    (round-low binary64 (1 * up (pos 0) * (c .0 * up (c .1))) (down (pos 0) * down (c .1)) 1 1 (mul-pos (down-pos (pos 0)) (down-pos (c .1)))
+    (zero-lt-suc 0) (held-whole binary64 1 (pow-pos (prec binary64))) (omega (arith, c .3)))
+
+one-cut : 1 ≤ toUnsigned 64 one
+unfolding toUnsigned
+one-cut = omega arith
+
+pub one-limit : (W : ℕ) → 1 ≤ W → W ≤ 33554432 → 1 ≤ cutWord (absoluteWord one W)
+unfolding absoluteWord cutWord
+one-limit W p q =
+    let x : Float = absoluteLimit one W in
+    let m : toUnsigned 64 one ≤ toUnsigned 64 x =
+    toUnsigned-mono 64 one x (le-of-bounds one x 1 1 (zero-lt-suc 0) (tt, omega arith) (one-low W p q)) in
+    subst (λ (y : Float). 1 ≤ toUnsigned 64 y) (sym (ofBits-toBits binary64 x (mul-fits binary64 one (ofInt binary64 (pos W))))) (omega (arith, one-cut, m))
 
 -- ---- numbers that are no limit: a NaN, or the sign is set
 abbrev minus : Float → Bool

@@ -1,12 +1,13 @@
 // The answer row: five words, as `answers`' specs/Rows.antt gives them for each answer.
 ghost use mathlib.Core.Path.{_≡_};
-ghost use Rattle.answers.specs.Rows.{refusedRow, said, decisionRow, totalRow, snapshotRow, factorRow, oldRateRow, deleteRow, setRow, doneRow, shotRow};
+ghost use Rattle.answers.specs.Rows.{refusedRow, said, decisionRow, totalRow, snapshotRow, factorRow, oldRateRow, deleteRow, setRow, doneRow, ringRow, shotRow};
 ghost use Rattle.rows.specs.Plain.{Given};
 use answers::DeleteAnswer;
 use answers::DoneAnswer;
 use answers::FactorAnswer;
 use answers::OldRateAnswer;
 use answers::RateLimitDecision;
+use answers::RingAnswer;
 use answers::SetAnswer;
 use answers::ShotAnswer;
 use answers::SnapshotAnswer;
@@ -118,6 +119,15 @@ pub fn done_row(a: DoneAnswer) -> [u64; 5]
     match a {
         DoneAnswer::Done => [0, 1, 0, 0, 0],
         DoneAnswer::Refused(n) => refused_row(n),
+    }
+}
+
+pub fn ring_row(a: RingAnswer) -> [u64; 5]
+    ensures { λ r. ⌜ r ≡ ringRow a ⌝ }
+{
+    match a {
+        RingAnswer::Ring(n) => [0, 1, n, 0, 0],
+        RingAnswer::Refused(n) => refused_row(n),
     }
 }
 
