@@ -4,3 +4,4 @@ pub mod Sufficient
 pub mod Row
 pub mod Zeros
 pub mod Rings
+pub mod Wrong

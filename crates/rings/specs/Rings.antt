@@ -96,11 +96,14 @@ module _ (k : RoomKind) (s : Settings) (slots ring n : ℕ) (e : fits slots ring
     unfolding empty
     empty-roomy = record { apart = from-empty s (BucketsApart s) (apart-closed s) k slots ring n e [] tt .1; ring = enough }
 
+    pub always-roomy : (calls : List (Call k)) → AllKeyed calls → Roomy s (words k s (empty slots ring) calls)
+    always-roomy calls keyed =
+        history k s (Roomy s) (roomy-keeps k s) (empty slots ring) (empty-sane k s slots ring n e) empty-roomy calls keyed .1
+
     never : (calls : List (Call k)) → AllKeyed calls → NeverFull (rows k s (empty slots ring) calls)
     never [] keyed = tt
     never (c ∷ cs) keyed =
-        let r = history k s (Roomy s) (roomy-keeps k s) (empty slots ring) (empty-sane k s slots ring n e) empty-roomy cs (keyed .1) in
-        (roomy-untold k s (words k s (empty slots ring) cs) (c .reading) (r .1) (c .op), never cs (keyed .1))
+        (roomy-untold k s (words k s (empty slots ring) cs) (c .reading) (always-roomy cs (keyed .1)) (c .op), never cs (keyed .1))
 
 pub sufficient : Sufficient sufficientRing
 sufficient k s slots ring n e enough calls keyed =
@@ -118,10 +121,10 @@ run-never-full k s slots ring n e enough made keyed ran =
 abbrev pub lone : ℕ → Sent
 lone slots = sent (record { party = 1; first = slots; second = 0 }) []
 
-lone-sends : (slots : ℕ) → 1 ≤ slots → Sender slots (lone slots)
+pub lone-sends : (slots : ℕ) → 1 ≤ slots → Sender slots (lone slots)
 lone-sends slots h = record { bytes = λ i. omega arith; short = omega arith; party = refl; within = omega arith; some = h }
 
-zeros-keyed : (k : RoomKind) (s : Settings) (slots n : ℕ) → AllKeyed (zeros k s (lone slots) n)
+pub zeros-keyed : (k : RoomKind) (s : Settings) (slots n : ℕ) → AllKeyed (zeros k s (lone slots) n)
 zeros-keyed k s slots zero = tt
 zeros-keyed kind.Absolute s slots (suc n) = (λ i. omega arith, zeros-keyed kind.Absolute s slots n)
 zeros-keyed kind.Suppressed s slots (suc n) = (λ i. omega arith, zeros-keyed kind.Suppressed s slots n)
@@ -137,7 +140,7 @@ necessary k s slots ring n e fine shorter =
     let p = proper s fine in record {
       calls = zeros k s (lone slots) (suc ring);
       keyed = zeros-keyed k s slots (suc ring);
-      rising = zeros-rising k s slots ring (windowTicks s) (zeros-within s p slots (lone slots) is k ring n e shorter ring (omega arith));
+      rising = zeros-rising k s slots ring (windowTicks s) (zeros-within s p slots (lone slots) is k ring n e ring shorter);
       told =
           ap newestNumber (rows-by k s (empty slots ring) (zeros k s (lone slots) (suc ring))) ∙
           zeros-full s p slots (lone slots) is k ring n e shorter;
@@ -145,7 +148,7 @@ necessary k s slots ring n e fine shorter =
 
 -- ---- so it is the least: whatever else suffices is no shorter, and whatever else is necessary is no longer
 
-unmet : (l : Limiters) (k : RoomKind) (s : Settings) (slots ring : ℕ) → Meets l k s slots ring →
+pub unmet : (l : Limiters) (k : RoomKind) (s : Settings) (slots ring : ℕ) → Meets l k s slots ring →
     ((calls : List (Call k)) → AllKeyed calls → NeverFull (rowsBy (l k s) (empty slots ring) calls)) → ⊥
 unmet l k s slots ring m f = go (rowsBy (l k s) (empty slots ring) (m .calls)) (m .told) (f (m .calls) (m .keyed))
   where
@@ -154,7 +157,7 @@ unmet l k s slots ring m f = go (rowsBy (l k s) (empty slots ring) (m .calls)) (
     go (row ∷ more) e n = n .0 e
 
 -- a room of one slot
-one-fits : (ring : ℕ) → 1 ≤ ring → ring ≤ 512 → fits 1 ring (lengthOf 1 ring) ≡ true
+pub one-fits : (ring : ℕ) → 1 ≤ ring → ring ≤ 512 → fits 1 ring (lengthOf 1 ring) ≡ true
 one-fits ring a b = lengths-fit 1 ring (lengthOf 1 ring) (record { one = omega arith; few = omega arith; some = a; small = b; long = refl })
 
 module _ (long : Settings → ℕ) (s : Settings) (fine : first (faults s) ≡ 0) where

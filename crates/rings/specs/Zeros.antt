@@ -290,16 +290,16 @@ module _ (s : Settings) (p : Proper s) (slots : ℕ) (key : Sent) (is : Sender s
 
   -- ---- from an empty room
 
-  module _ (k : RoomKind) (ring l : ℕ) (e : fits slots ring l ≡ true) (shorter : ring < sufficientRing s) where
+  module _ (k : RoomKind) (ring l : ℕ) (e : fits slots ring l ≡ true) where
     abbrev room : ℕ → List ℕ
     room n = words k s (empty slots ring) (zeros k s key n)
 
     -- so many are within one window
-    pub zeros-within : (n : ℕ) → n ≤ ring → n * apartTicks s ≤ windowTicks s
+    pub zeros-within : (n : ℕ) → n < sufficientRing s → n * apartTicks s ≤ windowTicks s
     zeros-within n h =
-        omega (arith, mul-left-comm n (ticksIn s) (bucketIn s + 1), mul-le-mul-left (ticksIn s) (fits-window s n (omega arith)))
+        omega (arith, mul-left-comm n (ticksIn s) (bucketIn s + 1), mul-le-mul-left (ticksIn s) (fits-window s n h))
 
-    record State (n : ℕ) : Type 0 where
+    pub record State (n : ℕ) : Type 0 where
       pub fine : Fine k s (n * apartTicks s) a b (words k s (empty slots ring) (zeros k s key n))
       pub slots-are : slotsOf (words k s (empty slots ring) (zeros k s key n)) ≡ slots
       pub ring-is : ringOf (words k s (empty slots ring) (zeros k s key n)) ≡ ring
@@ -340,22 +340,22 @@ module _ (s : Settings) (p : Proper s) (slots : ℕ) (key : Sent) (is : Sender s
       };
     }
 
-    state-more : (n : ℕ) → n < ring → State n → State (suc n)
-    state-more n h x =
+    state-more : (n : ℕ) → n < ring → n < sufficientRing s → State n → State (suc n)
+    state-more n h g x =
         let op = zeroOp k key in
         let t = n * apartTicks s in record {
           fine = fine-after k s t (suc n * apartTicks s) a b (room n) op (zero-bytes k) (zero-gives k) (omega arith) (x .fine);
           slots-are = slots-after k s (room n) t (x .fine .sane) op (zero-bytes k) ∙ x .slots-are;
           ring-is = ring-after k s (room n) t (x .fine .sane) op (zero-bytes k) ∙ x .ring-is;
-          lined = zero-more n (zeros-within n (omega arith)) (room n) (x .slots-are) k (x .fine) (x .lined) (omega (arith, h, x .ring-is));
+          lined = zero-more n (zeros-within n g) (room n) (x .slots-are) k (x .fine) (x .lined) (omega (arith, h, x .ring-is));
         }
 
-    state : (n : ℕ) → n ≤ ring → State n
-    state zero h = state-none
-    state (suc n) h = state-more n (omega arith) (state n (omega arith))
+    pub state : (n : ℕ) → n ≤ ring → n ≤ sufficientRing s → State n
+    state zero h g = state-none
+    state (suc n) h g = state-more n (omega arith) (omega arith) (state n (omega arith) (omega arith))
 
     -- the increment that finds the ring full
-    pub zeros-full : answerNumber k s (words k s (empty slots ring) (zeros k s key ring)) (ring * apartTicks s) (zeroOp k key) ≡ 12
-    zeros-full =
-        let x = state ring (omega arith) in
-        zero-full ring (zeros-within ring (omega arith)) (room ring) (x .slots-are) k (x .fine) (x .lined) (omega (arith, x .ring-is))
+    pub zeros-full : ring < sufficientRing s → answerNumber k s (words k s (empty slots ring) (zeros k s key ring)) (ring * apartTicks s) (zeroOp k key) ≡ 12
+    zeros-full h =
+        let x = state ring (omega arith) (omega arith) in
+        zero-full ring (zeros-within ring h) (room ring) (x .slots-are) k (x .fine) (x .lined) (omega (arith, x .ring-is))

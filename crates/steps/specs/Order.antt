@@ -108,7 +108,7 @@ or-true : (a : Bool) → a || true ≡ true
 or-true true = refl
 or-true false = refl
 
-first-met : (xs : List (ℕ × Bool)) → first xs ≢ 0 → met xs (first xs) ≡ true
+pub first-met : (xs : List (ℕ × Bool)) → first xs ≢ 0 → met xs (first xs) ≡ true
 unfolding met first
 first-met [] h = absurd (h refl)
 first-met (x ∷ xs) h = go (x .1) (first-met xs) h

@@ -1,3 +1,4 @@
 pub mod Shot
 pub mod Events
 pub mod Through
+pub mod Rings
