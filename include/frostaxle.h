@@ -29,6 +29,17 @@
  * memory. Words that are damaged are found by the call that meets them (refusal 5). A stored room belongs to the library
  * that wrote it: where docs/CHANGES.md says that words moved, make a new one, since an old one may be read as something else.
  *
+ * How long must a ring be? An increment or a shot that must add a bucket to a full ring is refused with 12. Rings of
+ *
+ *     1000 * window / (bucket + 1) + 1
+ *
+ * buckets, cut to a whole number, are long enough: 100 for the defaults, 1 where a bucket is as long as the window or
+ * longer, the same with both clocks. frostaxle_sufficient_ring() works it out, FROSTAXLE_SUFFICIENT_RING does for an
+ * array's size. This is promised for a room's whole life: if it was made empty with rings of at least so many buckets,
+ * and every call on it came with the settings that the number is for, no call of either party is refused with 12. With
+ * one bucket less some may be. Where the number is over 512 no room has such rings: take longer buckets or a shorter
+ * window, or live with 12, which lasts at most until the key's oldest bucket is out of the window.
+ *
  * You own all memory. Nothing is kept after a call returns: no pointer that you pass is remembered.
  *
  * Threads: calls on different rooms may run at the same time. On one room or table, one call at a time; put a lock of
@@ -135,6 +146,7 @@
  *   row[2..4] the case's values; those that it does not have are 0
  *
  *   call                     row[1]            row[2]              row[3]              row[4]
+ *   sufficient_ring          1 VALUE           buckets             -                   -
  *   inc, is_allowed          1 ALLOWED         -                   -                   -
  *                            2 REJECTED        window, seconds     wait, ms            oldest bucket's count
  *     (suppressed inc only)  3 SUPPRESSED      factor, bits        1 admitted, 0 not   -
@@ -189,7 +201,10 @@ enum {
     FROSTAXLE_TOTAL_TOO_LARGE = 10,  /* the key's total would pass 2^53, or a set's count does */
     FROSTAXLE_NO_FREE_SLOT = 11,     /* a slot is needed and the party already holds its promised number: clean up,
                                         promise it more, or make a larger room */
-    FROSTAXLE_RING_FULL = 12,        /* a bucket must be added to a full ring: take longer rings, or longer buckets */
+    FROSTAXLE_RING_FULL = 12,        /* a bucket must be added to a full ring: take longer rings, or longer buckets. A
+                                        room made empty with rings of frostaxle_sufficient_ring() buckets, or longer
+                                        ones, never meets it while its settings stay the same (a reading that falls is
+                                        refused with 6 and does no harm); with rings of one bucket less it may */
     FROSTAXLE_NO_CALL = 14,          /* comparator or preservation is none of the numbers below, and 1 to 8, 10, 15 and
                                         16 are not met */
     FROSTAXLE_BAD_PARTY = 15,        /* party is neither 1 nor 2 */
@@ -246,6 +261,9 @@ enum {
 /* The length of a room, for an array's size. slots and ring in range are yours to see to; frostaxle_make() judges them. */
 #define FROSTAXLE_ROOM_WORDS(slots, ring) (5 + (slots) * (6 + 7 + 3 * (ring)))
 
+/* How many buckets a ring must have, for an array's size. frostaxle_sufficient_ring() judges window and bucket too. */
+#define FROSTAXLE_SUFFICIENT_RING(window, bucket) (1000 * (uint64_t)(window) / ((uint64_t)(bucket) + 1) + 1)
+
 /* The double whose bits a word of the row holds. */
 static inline double frostaxle_double(uint64_t bits) {
     double x;
@@ -257,6 +275,14 @@ static inline double frostaxle_double(uint64_t bits) {
 
 /* The length of a room, or 0 if slots or ring is out of range. */
 size_t frostaxle_room_words(uint64_t slots, uint64_t ring);
+
+/*
+ * How many buckets a ring must have so that no call on its room is refused with 12, see ROOMS: VALUE, or the first of
+ * refusals 1 to 4 that the settings meet. It is the least such number, and told also where it is over 512, which no
+ * ring has. It is the same with every clock.
+ */
+uint64_t frostaxle_sufficient_ring(uint64_t window, uint64_t bucket, uint64_t cache, double factor, uint64_t clock,
+                                   uint64_t row[5]);
 
 /* Makes an empty room, whatever the words held. 0; or 5 if slots, ring or the length is wrong, and the words stay. */
 uint64_t frostaxle_make(uint64_t *room, size_t room_len, uint64_t slots, uint64_t ring);

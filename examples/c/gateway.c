@@ -11,7 +11,9 @@
 
 #include "frostaxle.h"
 
-enum { SLOTS = 8, RING = 128, WORDS = FROSTAXLE_ROOM_WORDS(SLOTS, RING) };
+/* Rings as long as the settings below need. */
+enum { RING = FROSTAXLE_SUFFICIENT_RING(FROSTAXLE_DEFAULT_WINDOW, FROSTAXLE_DEFAULT_BUCKET) };
+enum { SLOTS = 8, WORDS = FROSTAXLE_ROOM_WORDS(SLOTS, RING) };
 
 /* Two parties: the survey has the first two rooms alone, and shares the third with the lock keepers. */
 enum { SURVEY = 1, LOCKS = 2 };
@@ -31,6 +33,23 @@ static const uint64_t ticks = FROSTAXLE_DEFAULT_CLOCK;   /* readings in millisec
 
 static const uint8_t controller[] = {'c', 't', 'l', '7'};
 static const uint8_t numbering[] = {'c', 't', 'l', '8'}; /* a controller that numbers its shots */
+
+/* Whether the rings are long enough for these settings: then no shot is ever refused because one is full. */
+static int rings_suffice(void) {
+    uint64_t row[FROSTAXLE_ROW_WORDS];
+    uint64_t refusal = frostaxle_sufficient_ring(window, bucket, cache, factor, ticks, row);
+
+    if (refusal != FROSTAXLE_OK) {
+        fprintf(stderr, "the settings: refusal %" PRIu64 "\n", refusal);
+        return 0;
+    }
+    if (row[2] > RING) {
+        fprintf(stderr, "rings of %d buckets, and %" PRIu64 " are needed\n", (int)RING, row[2]);
+        return 0;
+    }
+    printf("rings of %d buckets: long enough for these settings, no shot is refused with 12\n", (int)RING);
+    return 1;
+}
 
 /* One shot at the absolute limiter, 1 a second. Gives how long to wait, 0 if it was admitted. */
 static uint64_t shot(uint64_t reading, uint64_t count) {
@@ -160,7 +179,7 @@ static void two_parties(void) {
 int main(void) {
     uint64_t row[FROSTAXLE_ROW_WORDS];
 
-    if (frostaxle_make(absolute, WORDS, SLOTS, RING) != FROSTAXLE_OK ||
+    if (!rings_suffice() || frostaxle_make(absolute, WORDS, SLOTS, RING) != FROSTAXLE_OK ||
         frostaxle_make(suppressed, WORDS, SLOTS, RING) != FROSTAXLE_OK ||
         frostaxle_make(shared, SHARED_WORDS, SHARED_SLOTS, RING) != FROSTAXLE_OK ||
         frostaxle_gateway_make_table(table, FROSTAXLE_TABLE_WORDS) != FROSTAXLE_OK)

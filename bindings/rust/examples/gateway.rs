@@ -68,7 +68,7 @@ fn send_numbered(gateway: &mut Gateway, clock: &Clock, draws: &mut Draws, number
 /// Of 3 slots 2 are promised to the survey, the first party, and 1 to the lock keepers: neither takes the other's.
 fn two_parties(settings: Settings, clock: &Clock) -> Result<(), Refusal> {
     let promises = Promises { first: 2, second: 1 };
-    let mut limiter = Absolute::new(settings, Room::new(3, 128)?).promises(promises);
+    let mut limiter = Absolute::new(settings, Room::for_settings(3, settings)?).promises(promises);
     for gate in [b"gate1", b"gate2"] {
         let name = String::from_utf8_lossy(gate);
         match limiter.party(Party::Second).inc(clock.reading(), gate, 3.0, 1) {
@@ -86,7 +86,10 @@ fn two_parties(settings: Settings, clock: &Clock) -> Result<(), Refusal> {
 
 fn main() -> Result<(), Refusal> {
     let settings = Settings { window_seconds: 1, cache_millis: 10, hard_limit_factor: 2.0, ..Settings::default() };
-    let mut gateway = Provider::new(settings, Room::new(8, 128)?, Room::new(8, 128)?);
+    // rings that are long enough for these settings: no call is refused because one is full
+    let room = Room::for_settings(8, settings)?;
+    println!("rooms for 8 keys, with rings of {} buckets", settings.sufficient_ring()?);
+    let mut gateway = Provider::new(settings, room.clone(), room.clone());
     let clock = Clock(Instant::now());
     for shot in 1..=5 {
         send(&mut gateway, &clock, shot)?;
@@ -109,7 +112,7 @@ fn main() -> Result<(), Refusal> {
     }
     gateway.cleanup(clock.reading(), 60_000)?;
 
-    let mut gateway = Gateway::new(settings, Table::new(), Room::new(8, 128)?);
+    let mut gateway = Gateway::new(settings, Table::new(), room);
     for number in 1..=3 {
         send_numbered(&mut gateway, &clock, &mut draws, number)?;
     }

@@ -7,6 +7,15 @@ pub type Row = [u64; 5];
 extern "C" {
     pub fn frostaxle_room_words(slots: u64, ring: u64) -> usize;
 
+    pub fn frostaxle_sufficient_ring(
+        window: u64,
+        bucket: u64,
+        cache: u64,
+        factor: f64,
+        clock: u64,
+        row: *mut Row,
+    ) -> u64;
+
     pub fn frostaxle_make(room: *mut u64, room_len: usize, slots: u64, ring: u64) -> u64;
 
     pub fn frostaxle_absolute_bucket(
@@ -249,6 +258,19 @@ mod tests {
                 frostaxle_absolute_get(10, 100, 100, 1.0, clock, at, len, 10_001, 1, 1, 0, key.as_ptr(), 4, &mut row);
             }
             assert_eq!(row, [0, 1, live, 0, 0]);
+        }
+    }
+
+    /// The row is written whole, its first word is given too, and no clock alters the number.
+    #[test]
+    fn sufficient_rings() {
+        for clock in [0, 1, 2, u64::MAX] {
+            for (window, row) in [(10, [0, 1, 100, 0, 0]), (0, [1, 0, 0, 0, 0])] {
+                let mut given = [9_u64; 5];
+                // SAFETY: the row is lent to this call alone.
+                let number = unsafe { frostaxle_sufficient_ring(window, 100, 100, 1.0, clock, &mut given) };
+                assert_eq!((number, given), (row[0], row));
+            }
         }
     }
 

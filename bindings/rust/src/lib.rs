@@ -4,7 +4,9 @@
 //! ```
 //! use frostaxle::{Absolute, Decision, Room, Settings};
 //!
-//! let mut limiter = Absolute::new(Settings::default(), Room::new(8, 128)?);
+//! let settings = Settings::default();
+//! // for up to 8 keys
+//! let mut limiter = Absolute::new(settings, Room::for_settings(8, settings)?);
 //! // reading 0 ms, rate 1.5 per second, count 1
 //! assert_eq!(limiter.inc(0, b"ctl7", 1.5, 1)?, Decision::Allowed);
 //! assert_eq!(limiter.get(50, b"ctl7")?, 1);
@@ -15,6 +17,10 @@
 //! milliseconds unless the settings' [`ClockMode`] says nanoseconds. In one room it may not go back. A key is 0 to 32
 //! bytes; a longer one is refused. A rate is per second; a key's limit is stored at its first increment or set. Every
 //! call returns: with its answer, or with a [`Refusal`], and then the room is as it was.
+//!
+//! A room has a slot for each key, and each slot a ring of buckets. [`Room::for_settings`] makes the rings as long as
+//! the settings need, so that none is ever too short. With [`Room::new`] their length is yours to choose, and a call
+//! that needs one more bucket than a ring has is refused with [`Refusal::RingFull`].
 //!
 //! Two parties may share a room. Each is promised a number of its slots, and its keys are its own: the same bytes under the
 //! other party are another key, and a clear forgets the caller's alone. While the [`Promises`] stay the same, nothing that

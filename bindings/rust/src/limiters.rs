@@ -27,6 +27,39 @@ impl Settings {
     pub fn clock_mode(self, clock_mode: ClockMode) -> Settings {
         Settings { clock_mode, ..self }
     }
+
+    /// How many buckets a ring must have so that no call on its room is refused with [`Refusal::RingFull`], in either
+    /// clock mode: `1000 * window_seconds / (bucket_millis + 1) + 1`. It is the least such number: with rings of one
+    /// bucket less a call may be refused. This is promised of a room that was made empty and has these settings for
+    /// its whole life.
+    ///
+    /// [`Room::for_settings`] makes a room with such rings, unless the number is over 512, which no ring has. Settings
+    /// out of range are refused.
+    ///
+    /// ```
+    /// use frostaxle::{Refusal, Settings};
+    ///
+    /// assert_eq!(Settings::default().sufficient_ring(), Ok(100));
+    /// // a bucket longer than the window
+    /// assert_eq!(Settings { bucket_millis: 20_000, ..Settings::default() }.sufficient_ring(), Ok(1));
+    /// assert_eq!(Settings { window_seconds: 0, ..Settings::default() }.sufficient_ring(), Err(Refusal::BadWindow));
+    /// ```
+    pub fn sufficient_ring(self) -> Result<u64, Refusal> {
+        let mut row: Row = [0; 5];
+        // SAFETY: takes numbers, and writes only `row`, which is lent to this call alone.
+        unsafe {
+            faces::frostaxle_sufficient_ring(
+                self.window_seconds,
+                self.bucket_millis,
+                self.cache_millis,
+                self.hard_limit_factor,
+                self.clock_mode.number(),
+                &mut row,
+            )
+        };
+        let [buckets, _, _] = answer::values(row)?;
+        Ok(buckets)
+    }
 }
 
 impl Default for Settings {

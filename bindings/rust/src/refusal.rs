@@ -26,6 +26,9 @@ pub enum Refusal {
     /// A slot is needed, and the party already holds as many as it is promised. Others may be free: they are promised to
     /// the other party, or to none. A party that is promised every slot meets this where all are in use.
     NoFreeSlot,
+    /// A bucket must be added to the key's ring, which is full. It lasts at most until the key's oldest bucket is out
+    /// of the window. A room of [`Room::for_settings`](crate::Room::for_settings) never meets it while it has those
+    /// settings; one with shorter rings may.
     RingFull,
     NoCall,
     /// A party other than the two, which [`Party`](crate::Party) cannot say.
@@ -38,6 +41,11 @@ pub enum Refusal {
     /// A reading given as a [`Duration`](std::time::Duration) has 2^64 ticks or more. The binding tells this itself, so it
     /// has no number; it goes before all refusals but those of a shot's own number and table.
     ReadingTooLarge,
+    /// The settings need rings of more than 512 buckets, which no room has: what
+    /// [`Room::for_settings`](crate::Room::for_settings) alone tells. Take longer buckets or a shorter window; or
+    /// make a room by [`Room::new`](crate::Room::new) and live with [`RingFull`](Refusal::RingFull). The binding
+    /// tells this itself, so it has no number.
+    RingTooLong,
     /// A number, or with 0 a case of an answer, that this binding has no name for: it was made for another archive.
     Other(u64),
 }
@@ -89,7 +97,7 @@ impl Refusal {
             Refusal::BadNumber => 19,
             Refusal::OldNumber => 20,
             Refusal::TableFull => 21,
-            Refusal::ReadingTooLarge => 0,
+            Refusal::ReadingTooLarge | Refusal::RingTooLong => 0,
             Refusal::Other(number) => number,
         }
     }
@@ -119,6 +127,9 @@ impl Refusal {
             Refusal::OldNumber => "the shot's number is below the last admitted of its controller",
             Refusal::TableFull => "the controller is not in the table, which has 64",
             Refusal::ReadingTooLarge => "the reading is a time of 2^64 ticks or more",
+            Refusal::RingTooLong => {
+                "the settings need rings of more than 512 buckets: take longer buckets or a shorter window"
+            }
             Refusal::Other(_) => "an answer that this binding does not know",
         }
     }
@@ -127,7 +138,7 @@ impl Refusal {
 impl fmt::Display for Refusal {
     fn fmt(&self, f: &mut fmt::Formatter<'_>) -> fmt::Result {
         match self {
-            Refusal::ReadingTooLarge => f.write_str(self.words()),
+            Refusal::ReadingTooLarge | Refusal::RingTooLong => f.write_str(self.words()),
             _ => write!(f, "{} (refusal {})", self.words(), self.number()),
         }
     }
@@ -150,7 +161,14 @@ mod tests {
         for number in [0, 13, 17, 18, 22] {
             assert_eq!(Refusal::of(number), Refusal::Other(number));
         }
-        assert_eq!(Refusal::ReadingTooLarge.number(), 0);
-        assert_eq!(Refusal::ReadingTooLarge.to_string(), "the reading is a time of 2^64 ticks or more");
+        for (refusal, words) in [
+            (Refusal::ReadingTooLarge, "the reading is a time of 2^64 ticks or more"),
+            (
+                Refusal::RingTooLong,
+                "the settings need rings of more than 512 buckets: take longer buckets or a shorter window",
+            ),
+        ] {
+            assert_eq!((refusal.number(), refusal.to_string().as_str()), (0, words));
+        }
     }
 }

@@ -1,5 +1,6 @@
 //! A room and a gateway's table that own their words.
 use crate::faces;
+use crate::limiters::Settings;
 use crate::refusal::Refusal;
 
 /// What a room and a table have alike.
@@ -43,7 +44,34 @@ impl Room {
         }
     }
 
-    /// An empty room, with a slot for each of `slots` keys and `ring` buckets to a slot.
+    /// An empty room, with a slot for each of `slots` keys, and rings as long as these settings need: while all calls
+    /// on it come with these settings, none is refused with [`Refusal::RingFull`].
+    ///
+    /// ```
+    /// use frostaxle::{Refusal, Room, Settings};
+    ///
+    /// let settings = Settings::default();
+    /// assert_eq!(Room::for_settings(8, settings)?, Room::new(8, 100)?);
+    /// // 589 buckets, and a ring has at most 512
+    /// let settings = Settings { window_seconds: 30, bucket_millis: 50, ..settings };
+    /// assert_eq!(Room::for_settings(8, settings), Err(Refusal::RingTooLong));
+    /// // longer buckets, or a shorter window
+    /// let settings = Settings { bucket_millis: 100, ..settings };
+    /// assert_eq!(Room::for_settings(8, settings)?, Room::new(8, 298)?);
+    /// # Ok::<(), Refusal>(())
+    /// ```
+    ///
+    /// Settings out of range are refused with their own refusal; then, with [`Refusal::RingTooLong`], those that need
+    /// longer rings than a room can have; then, with [`Refusal::BadRoom`], `slots` that are not 1 to 64.
+    pub fn for_settings(slots: u64, settings: Settings) -> Result<Room, Refusal> {
+        let ring = settings.sufficient_ring()?;
+        // a ring that is too long for one slot is too long for any number of them
+        Room::words_for(1, ring).ok_or(Refusal::RingTooLong)?;
+        Room::new(slots, ring)
+    }
+
+    /// An empty room, with a slot for each of `slots` keys and `ring` buckets to a slot. With fewer of them than
+    /// [`Settings::sufficient_ring`] says a call may be refused with [`Refusal::RingFull`].
     pub fn new(slots: u64, ring: u64) -> Result<Room, Refusal> {
         let len = Room::words_for(slots, ring).ok_or(Refusal::BadRoom)?;
         let mut words = vec![0; len].into_boxed_slice();

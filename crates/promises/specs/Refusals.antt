@@ -10,11 +10,12 @@ use native.Mathlib.Omega.{arith}
 use lib.Dec.{ltb}
 use lib.ListN.{length}
 use borrow.Author.Tests.{eq-eqb, ne-eqb}
-use Rattle.answers.specs.Rows.{refusedRow, doneRow, readOutRow}
+use Rattle.answers.specs.Rows.{refusedRow, doneRow, readOutRow, ringRow}
 use Rattle.common.specs.Refusals.{first}
 use Rattle.settings.specs.Settings.{faults}
 use Rattle.settings.specs.declared.Settings.{Settings}
 use Rattle.common.specs.declared.units.RateLimit.{RateLimit}
+use Rattle.ring_length.specs.RingLength.{ringFor}
 use Rattle.ring.specs.declared.Bucket.{Bucket}
 use Rattle.room.specs.Room.{sized}
 use Rattle.parties.specs.declared.Caller.{Caller}
@@ -68,6 +69,8 @@ pub record Demand1 : Type 0 where
   -- the row stays
   pub read-out : (kind : RoomKind) (s : Settings) (w : List ℕ) (key : Sent) (cells : List Bucket) →
       TurnedBy (reads kind s w key) (readOutRow (ReadOut.readOut kind s w key cells .answer)) cells (ReadOut.readOut kind s w key cells .row)
+  -- how long a ring must be: 1 to 4; nothing is lent
+  pub sufficient-ring : (s : Settings) → TurnedBy {B = Unit {0}} (faults s) (ringRow (ringFor s)) tt tt
   -- the constructors of units: 1, 2, 3 and 8
   pub units : Makes
   -- the sets over a face
@@ -91,6 +94,14 @@ read-turned kind s w key cells =
     (λ z. rw (e, eq-eqb (first (reads kind s w key)) 0 z))
     (λ z. rw (e, ne-eqb (first (reads kind s w key)) 0 z))
 
+ring-turned : (s : Settings) → TurnedBy {B = Unit {0}} (faults s) (ringRow (ringFor s)) tt tt
+unfolding ringFor ringRow faults
+ring-turned s =
+    turned-by (faults s) _ tt tt (omega arith)
+    (λ z. rw (ne-eqb (first (faults s)) 0 z))
+    (λ z. rw (eq-eqb (first (faults s)) 0 z))
+    (λ z. refl)
+
 -- a number is always given, and 14 where none is met before it
 unnamed-turned : (kind : RoomKind) (s : Settings) (w : List ℕ) (t : ℕ) (key : Sent) (rate : RateLimit) (count : ℕ) →
     TurnedBy (unnamed kind s w t key rate count) (refusedRow (Unnamed.refusal kind s w t key rate count)) w w
@@ -106,4 +117,12 @@ set-turned kind s w t key rate (compared.Named c) count chosen.Unnamed = unnamed
 set-turned kind s w t key rate compared.Unnamed count m = unnamed-turned kind s w t key rate count
 
 pub demand1 : Demand1
-demand1 = record { calls = turned; provider-cleanup = both-turned; read-out = read-turned; units = makes; set-shown = set-turned; gateway = turns-shots }
+demand1 = record {
+  calls = turned;
+  provider-cleanup = both-turned;
+  read-out = read-turned;
+  sufficient-ring = ring-turned;
+  units = makes;
+  set-shown = set-turned;
+  gateway = turns-shots;
+}

@@ -11,11 +11,12 @@ use native.Mathlib.Omega.{arith}
 use lib.Dec.{eqb, ltb}
 use lib.ListN.{length, getD}
 use borrow.Author.Tests.{eq-eqb, ne-eqb}
-use Rattle.answers.specs.Rows.{row, refusedRow, doneRow, readOutRow, shotRow, numberOf}
+use Rattle.answers.specs.Rows.{row, refusedRow, doneRow, readOutRow, ringRow, shotRow, numberOf}
 use Rattle.common.specs.Refusals.{first}
 use Rattle.common.specs.declared.units.RateLimit.{RateLimit}
 use Rattle.settings.specs.Settings.{faults}
 use Rattle.settings.specs.declared.Settings.{Settings}
+use Rattle.ring_length.specs.RingLength.{ringFor}
 use Rattle.ring.specs.declared.Bucket.{Bucket}
 use Rattle.ring.specs.Ring.{noBucket}
 use Rattle.room.specs.Room.{empty}
@@ -74,6 +75,8 @@ pub record NeverGiven (n : ℕ) : Type 0 where
   pub provider-cleanup : (s : Settings) (a b : List ℕ) (t : ℕ) (c d : Caller) (stale : ℕ) → numberOf (doneRow (Provider.cleanup s a b t c d stale .answer)) ≢ n
   pub read-out : (kind : RoomKind) (s : Settings) (w : List ℕ) (key : Sent) (cells : List Bucket) →
       numberOf (readOutRow (ReadOut.readOut kind s w key cells .answer)) ≢ n
+  -- how long a ring must be
+  pub sufficient-ring : (s : Settings) → numberOf (ringRow (ringFor s)) ≢ n
   -- the gateway
   pub shots : (s : Settings) (w r : List ℕ) (t : ℕ) (key : Sent) (number : ℕ) (rate : RateLimit) (draw : ℕ) →
       numberOf (shotRow (shot s w r t key number rate draw .answer)) ≢ n
@@ -89,6 +92,7 @@ pub record NeverGiven (n : ℕ) : Type 0 where
       Faced (shownGateway (shot s w r t key number rate draw)) m a v → NotTold n m a
   pub face-season : (w : List ℕ) (m : ℕ) (a v : List ℕ) → Faced (shown doneRow (newSeason w)) m a v → NotTold n m a
   pub face-bucket : (kind : RoomKind) (s : Settings) (w : List ℕ) (key : Sent) (i m : ℕ) (a : List ℕ) → Given (bucketRow kind s w key i) m a → NotTold n m a
+  pub face-ring : (s : Settings) (m : ℕ) (a : List ℕ) → Given (ringRow (ringFor s)) m a → NotTold n m a
   -- making a room or a table
   pub face-make : (made : Bool) → makeNumber made ≢ n
   -- all that the programs print, for any input
@@ -195,6 +199,7 @@ module _ (n : ℕ) (z : n ≢ 0) (h : Numbered n → ⊥) where
     calls = by-calls;
     provider-cleanup = λ s a b t c d stale. from _ _ _ _ (demand1 .provider-cleanup s a b t c d stale);
     read-out = λ kind s w key cells. from _ _ _ _ (demand1 .read-out kind s w key cells);
+    sufficient-ring = λ s. from _ _ _ _ (demand1 .sufficient-ring s);
     shots = by-shots;
     new-season = λ w. from _ _ _ _ (demand1 .gateway .new-season w);
     face-calls = λ kind s w t op m a v. faced _ m a v (by-calls kind s w t op);
@@ -203,6 +208,7 @@ module _ (n : ℕ) (z : n ≢ 0) (h : Numbered n → ⊥) where
     face-shot = λ s w r t key number rate draw m a v. faced _ m a v (by-shots s w r t key number rate draw);
     face-season = λ w m a v. faced _ m a v (from _ _ _ _ (demand1 .gateway .new-season w));
     face-bucket = λ kind s w key i m a g. not-told _ m a (from _ _ _ _ (bucket-turned kind s w key i)) (g .number) (g .answer);
+    face-ring = λ s m a g. not-told _ m a (from _ _ _ _ (demand1 .sufficient-ring s)) (g .number) (g .answer);
     face-make = make;
     desk = λ hold xs e. input-lines program.Desk (empty 8 128) (empty 8 128) xs _ (desk-prints hold xs e);
     shots-lines = λ hold xs e. input-lines program.Shots emptyTable (empty 64 128) xs _ (shots-prints hold xs e);

@@ -12,7 +12,7 @@ use Rattle.answers.specs.declared.RingAnswer.{RingAnswer}
 use Rattle.answers.specs.declared.RingAnswer.the-variants.{Ring, Refused}
 use Rattle.common.specs.Refusals.{first}
 use Rattle.settings.specs.Clock.{windowInMilliseconds}
-use Rattle.settings.specs.Settings.{windowIn, bucketIn, defaults, faults, Proper, proper}
+use Rattle.settings.specs.Settings.{windowIn, bucketIn, defaults, withWindow, withBucket, faults, Proper, proper}
 use Rattle.settings.specs.declared.Settings.{Settings}
 
 -- "floor(1000 W / (b + 1)) + 1"
@@ -23,9 +23,25 @@ sufficientRing s = windowInMilliseconds (windowIn s) / (bucketIn s + 1) + 1
 unfoldable pub ringFor : Settings → RingAnswer
 ringFor s = cond (eqb (first (faults s)) 0) (Ring (sufficientRing s)) (Refused (first (faults s)))
 
--- "100 for the defaults"
-pub default-ring : sufficientRing defaults ≡ 100
-default-ring = refl
+-- of so many seconds and milliseconds
+abbrev pub sized : ℕ → ℕ → Settings
+sized window bucket = withBucket (withWindow defaults (record { 0 = window })) (record { 0 = bucket })
+
+pub record Cases : Type 0 where
+  -- "100 for the defaults"
+  pub default : sufficientRing defaults ≡ 100
+  -- where b + 1 divides the window both its ends count
+  pub divides : sufficientRing (sized 10 99) ≡ 101
+  pub longer-window : sufficientRing (sized 30 100) ≡ 298
+  -- one bucket where it is as long as the window, or longer
+  pub as-long : sufficientRing (sized 1 1000) ≡ 1
+  pub longer : sufficientRing (sized 1 4294967296) ≡ 1
+  pub shorter : sufficientRing (sized 1 999) ≡ 2
+  -- the most that any settings have
+  pub most : sufficientRing (sized 33554432 1) ≡ 16777216001
+
+pub cases : Cases
+cases = record { default = refl; divides = refl; longer-window = refl; as-long = refl; longer = refl; shorter = refl; most = refl }
 
 module _ (s : Settings) (n : ℕ) where
   pos : 0 < bucketIn s + 1
