@@ -1,7 +1,7 @@
 #!/bin/sh
 # mistakes.sh [calls] [pattern] [broken]: plants each mistake of mistakes/ in a copy of the twin, one at a time, and tells whether the
-# comparison with the original, of two parties and of one, finds it, or the comparison of shots one in the gateway; with `broken`, whether
-# that many damaged rooms beside the Rattle code do. Needs a judge built by build.sh.
+# comparison with the original, of two parties and of one, or of rings that suffice finds it, or the comparison of shots one in the gateway;
+# with `broken`, whether that many damaged rooms beside the Rattle code do. Needs a judge built by build.sh.
 set -eu
 cd "$(dirname "$0")"
 calls=${1:-300000}

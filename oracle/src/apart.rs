@@ -4,9 +4,9 @@
 use std::fmt;
 
 use twin::calls::{Answer, Call, Limiters, Op, Rooms, Row, Twin};
-use twin::rules::{ClockMode, Kind, Settings};
+use twin::rules::{ClockMode, Settings};
 
-use crate::callers::{Callers, Promise};
+use crate::callers::Callers;
 use crate::compare::{UNTOUCHED, clock_word, who};
 use crate::expected::{held, kind};
 use crate::others;
@@ -78,12 +78,8 @@ impl Pair {
             true => &LONG_KEY,
             false => KEY_POOL[source.dice.below(self.keys) as usize],
         };
-        let mut op = source.op(&self.settings, rooms, party, key);
-        if let Op::CleanupBoth { stale, .. } = op {
-            let Promise { first, second } = source.callers.promise(Kind::Suppressed);
-            op = Op::CleanupBoth { stale, first, second };
-        }
-        let caller = source.callers.promise(kind(&op)).to(party);
+        let op = source.op(&self.settings, rooms, party, key);
+        let (caller, op) = source.callers.usual(party, op);
         let settings = match source.dice.once_in(150) {
             true => bad_settings(&mut source.dice, &self.settings),
             false => self.settings,

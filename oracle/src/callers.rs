@@ -142,7 +142,20 @@ impl Callers {
         next
     }
 
-    /// The caller of a call of this party, and the call with what it has of the suppressed room's promise.
+    /// The caller of a call of this party with the promises that are usual, and the call with what it has of the suppressed room's.
+    pub fn usual(&self, party: u64, op: Op) -> (Caller, Op) {
+        let caller = self.promise(kind(&op)).to(party);
+        let op = match op {
+            Op::CleanupBoth { stale, .. } => {
+                let Promise { first, second } = self.promise(Kind::Suppressed);
+                Op::CleanupBoth { stale, first, second }
+            }
+            op => op,
+        };
+        (caller, op)
+    }
+
+    /// The same with promises that change now and then.
     pub fn of(&mut self, dice: &mut Dice, rooms: &Rooms, party: u64, op: Op) -> (Caller, Op) {
         let caller = self.given(dice, rooms, kind(&op)).to(party);
         let op = match op {

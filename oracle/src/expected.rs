@@ -56,7 +56,7 @@ impl At<'_> {
     }
 
     /// Not expired at a first look, to which the ticks beyond are nothing.
-    fn looks_live(&self, bucket: &Bucket) -> bool {
+    pub fn looks_live(&self, bucket: &Bucket) -> bool {
         self.age(bucket.time).0 <= 1000 * self.settings.window
     }
 

@@ -45,6 +45,7 @@ mod random;
 mod rate_zero;
 #[cfg(archive)]
 mod rattle;
+mod rings;
 mod sample;
 mod seasons;
 mod short_seasons;
@@ -66,6 +67,7 @@ use std::io::Write;
 use apart::Apart;
 use compare::{Comparison, Shared};
 use input_lines::Program;
+use rings::Rings;
 use shots::Shots;
 use twin::calls::Limiters;
 use twin::rules::ClockMode;
@@ -104,6 +106,17 @@ fn main() {
             apart.pair(number(seed));
             println!("{apart}");
         }
+        ["rings", calls, seed, ref wishes @ ..] if wishes.iter().all(|wish| *wish == "first") => {
+            let most_differing = if wishes.is_empty() { 100 } else { 1 };
+            let both = compare_rings(most_differing, number(calls), number(seed));
+            show(&both);
+            end(both.iter().map(Rings::differed).sum());
+        }
+        ["ring", seed, ref mode @ ..] => {
+            let mut rings = Rings::new(clock(mode), 1);
+            rings.history(number(seed));
+            println!("{rings}");
+        }
         ["broken", rooms, seed] => break_rooms(number(rooms), number(seed)),
         [calls, seed, ref wishes @ ..]
             if wishes.iter().all(|wish| ["tally", "first", "few"].contains(wish)) =>
@@ -112,7 +125,7 @@ fn main() {
         }
         _ => panic!(
             "CALLS SEED [tally] [first] [few], history|parties|apart SEED [nanoseconds], broken ROOMS SEED, \
-             shots CALLS SEED [first], season SEED [nanoseconds], sample CALLS SEED, desk LINES SEED, or shot-lines LINES SEED"
+             shots|rings CALLS SEED [first], season|ring SEED [nanoseconds], sample CALLS SEED, desk LINES SEED, or shot-lines LINES SEED"
         ),
     }
 }
@@ -163,6 +176,16 @@ fn compare_shots(most_differing: u64, calls: u64, seed: u64) -> [Shots; 2] {
         }
         tables::run(&mut shots, calls / 10, seed);
         shots
+    })
+}
+
+/// In each clock mode the length that a ring must have, so many calls of histories in such rings, and zero counts in shorter ones.
+fn compare_rings(most_differing: u64, calls: u64, seed: u64) -> [Rings; 2] {
+    CLOCKS.map(|clock| {
+        let mut rings = Rings::new(clock, most_differing);
+        rings.numbers(calls / 30, seed);
+        rings.run(calls, seed);
+        rings
     })
 }
 
@@ -233,51 +256,59 @@ impl TwoParties {
 struct Compared {
     both: [Comparison; 2],
     two: [TwoParties; 2],
+    rings: [Rings; 2],
 }
 
 impl Compared {
     /// Where the first difference is asked for, one is enough.
     fn goes_on(&self) -> bool {
-        self.both.iter().all(Comparison::goes_on) && self.two.iter().all(TwoParties::goes_on)
+        self.both.iter().all(Comparison::goes_on)
+            && self.two.iter().all(TwoParties::goes_on)
+            && self.rings.iter().all(Rings::goes_on)
     }
 
     /// One part in each clock mode. Nanoseconds mostly have the first difference.
-    fn each(&mut self, part: impl Fn(&mut Comparison, &mut TwoParties)) {
+    fn each(&mut self, part: impl Fn(&mut Comparison, &mut TwoParties, &mut Rings)) {
         for at in (0..self.both.len()).rev() {
             if self.goes_on() {
-                part(&mut self.both[at], &mut self.two[at]);
+                part(&mut self.both[at], &mut self.two[at], &mut self.rings[at]);
             }
         }
     }
 
     fn differed(&self) -> u64 {
         let both: u64 = self.both.iter().map(|one| one.differed).sum();
-        both + self.two.iter().map(TwoParties::differed).sum::<u64>()
+        let two: u64 = self.two.iter().map(TwoParties::differed).sum();
+        both + two + self.rings.iter().map(Rings::differed).sum::<u64>()
     }
 }
 
-/// All parts, two parties, and the shots; for each two lines.
+/// All parts, two parties, the length of rings, and the shots; for each two lines.
 fn compare(calls: u64, seed: u64, wishes: &[&str]) -> ! {
     let both = CLOCKS.map(|clock| comparison(clock, wishes));
     let two = CLOCKS.map(|clock| TwoParties::new(clock, wishes));
-    let mut compared = Compared { both, two };
-    compared.each(|one, _| compare_desk(one, calls, seed));
-    compared.each(|_, two| two.run(calls, seed));
-    compared.each(|one, _| random::run(one, calls, seed));
+    let rings = both.each_ref().map(|one| Rings::new(one.clock, one.most_differing));
+    let mut compared = Compared { both, two, rings };
+    compared.each(|one, _, _| compare_desk(one, calls, seed));
+    compared.each(|_, _, rings| rings.numbers(calls / 60, seed));
+    compared.each(|_, two, _| two.run(calls, seed));
+    compared.each(|one, _, _| random::run(one, calls, seed));
+    compared.each(|_, _, rings| rings.run(calls / 2, seed));
     let shots = match compared.goes_on() {
         true => compare_shots(compared.both[0].most_differing, calls / 5, seed),
         false => CLOCKS.map(Shots::new),
     };
     // The short histories come last, since they are many.
     if shots.iter().all(Shots::goes_on) {
-        compared.each(|one, two| {
+        compared.each(|one, two, _| {
             all_short::run_shared(&mut two.shared, seed);
             all_short::run(one, seed);
         });
     }
-    let Compared { both, two } = &compared;
+    let Compared { both, two, rings } = &compared;
     two.iter().map(|two| &two.shared).chain(both).for_each(Comparison::show_tally);
     show(&shots);
+    show(&rings.each_ref());
     show(&two.each_ref().map(|two| &two.apart));
     show(&two.each_ref().map(|two| &two.shared));
     show(&both.each_ref());

@@ -324,7 +324,7 @@ impl Source {
     }
 
     /// A set whose numbers name nothing, now and then with a count or a rate at fault.
-    fn nameless_set(&mut self) -> Op {
+    pub fn nameless_set(&mut self) -> Op {
         let kind = if self.is_suppressed { Kind::Suppressed } else { Kind::Absolute };
         let count = self.dice.pick(&[0, 1, TOP, TOP + 1, u64::MAX]);
         let (rate, nameless) = (self.rate(), nameless(&mut self.dice));

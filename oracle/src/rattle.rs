@@ -4,7 +4,7 @@ use twin::calls::{Answer, Asked, Call, Limiters, Nameless, Op, Rooms, Row};
 use twin::gateway::Shot;
 use twin::parties::Caller;
 use twin::room::Bucket;
-use twin::rules::{ClockMode, Comparator, Kind, Mode, Settings};
+use twin::rules::{ClockMode, Comparator, Kind, Mode, Refusal, Settings};
 use twin::set::Wanted;
 
 /// The archive's functions: settings, a room, what the call asks for, mostly with a reading and a caller first, and the row of five
@@ -95,6 +95,14 @@ unsafe extern "C" {
     fn frostaxle_make(room: *mut u64, words: usize, slots: u64, ring: u64) -> u64;
     fn frostaxle_gateway_new_season(table: *mut u64, words: usize, row: *mut u64) -> u64;
     fn frostaxle_gateway_make_table(table: *mut u64, words: usize) -> u64;
+    fn frostaxle_sufficient_ring(
+        window: u64,
+        bucket: u64,
+        cache: u64,
+        factor: f64,
+        clock: u64,
+        row: *mut u64,
+    ) -> u64;
 }
 
 /// How many words a room needs, 0 where there is no such room.
@@ -141,6 +149,14 @@ impl Lent {
     }
 }
 
+/// The row back, once a function returned this number.
+fn row_back(row: Lent, number: u64) -> [u64; ROW] {
+    let mut told = [0; ROW];
+    row.give_back(&mut told);
+    assert_eq!(number, told[0], "what is returned is the row's first word");
+    told
+}
+
 /// A comparator's number and operand.
 fn comparator_numbers(comparator: Comparator) -> (u64, u64) {
     match comparator {
@@ -152,14 +168,18 @@ fn comparator_numbers(comparator: Comparator) -> (u64, u64) {
     }
 }
 
-/// What stands for nanoseconds on the C face: any number but 0, by turns.
-const NANOSECONDS: [u64; 4] = [1, 256, 1 << 32, u64::MAX];
-
-fn clock_number(clock: ClockMode, reading: u64) -> u64 {
+/// What stands for a clock mode on the C face: for nanoseconds any number but 0.
+fn clock_numbers(clock: ClockMode) -> &'static [u64] {
     match clock {
-        ClockMode::Milliseconds => 0,
-        ClockMode::Nanoseconds => NANOSECONDS[reading as usize % NANOSECONDS.len()],
+        ClockMode::Milliseconds => &[0],
+        ClockMode::Nanoseconds => &[1, 256, 1 << 32, u64::MAX],
     }
+}
+
+/// One of them, by turns.
+fn clock_number(clock: ClockMode, reading: u64) -> u64 {
+    let numbers = clock_numbers(clock);
+    numbers[reading as usize % numbers.len()]
 }
 
 /// One call under way: its settings, reading, caller and key, the lent rooms and the row.
@@ -500,10 +520,7 @@ fn gateway_row(
             number
         }
     };
-    let mut told = [0; ROW];
-    row.give_back(&mut told);
-    assert_eq!(number, told[0], "what is returned is the row's first word");
-    told
+    row_back(row, number)
 }
 
 /// The answer that a gateway's row stands for, if it stands for one of the call's.
@@ -518,6 +535,15 @@ fn gateway_answer(asked: Asked, row: [u64; ROW]) -> Option<Answer> {
         (Asked::NewSeason | Asked::MakeTable, [0, 1, 0, 0, 0]) => Answer::Done,
         _ => return None,
     })
+}
+
+/// The row with the length that a ring must have, for one of the numbers that stand for a clock mode.
+fn ring_row(settings: &Settings, clock: u64) -> [u64; ROW] {
+    let Settings { window, bucket, cache, factor, clock: _ } = *settings;
+    let mut row = Lent::new(&[GUARD; ROW]);
+    let told = row.words().as_mut_ptr();
+    let number = unsafe { frostaxle_sufficient_ring(window, bucket, cache, factor, clock, told) };
+    row_back(row, number)
 }
 
 /// The Rattle code.
@@ -564,5 +590,19 @@ impl Limiters for Rattle {
         lent_room.give_back(room);
         gateway_answer(asked, row)
             .unwrap_or_else(|| panic!("no answer to {asked:?} has the row {row:?}"))
+    }
+
+    /// Every number that stands for the clock mode must tell the same.
+    fn sufficient_ring(&self, settings: &Settings) -> Result<u64, Refusal> {
+        let numbers = clock_numbers(settings.clock);
+        let rows: Vec<[u64; ROW]> =
+            numbers.iter().map(|clock| ring_row(settings, *clock)).collect();
+        let is_one = rows.iter().all(|row| *row == rows[0]);
+        assert!(is_one, "{settings:?} has rings of {rows:?} by the clock's number");
+        match rows[0] {
+            [0, 1, buckets, 0, 0] => Ok(buckets),
+            [number, 0, 0, 0, 0] if number != 0 => Err(Refusal(number)),
+            row => panic!("no length of a ring has the row {row:?}"),
+        }
     }
 }

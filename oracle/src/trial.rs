@@ -80,6 +80,10 @@ impl Trials {
         self.calls
     }
 
+    pub fn with_others(&self) -> u64 {
+        self.with_others
+    }
+
     /// A room that no call made is about to be tried.
     pub fn count_room(&mut self, kind: Kind, room: &[u64]) {
         let mut hasher = DefaultHasher::new();

@@ -140,6 +140,9 @@ pub trait Limiters {
         reading: u64,
         asked: Asked,
     ) -> Answer;
+
+    /// How many buckets a ring must have so that no call meets 12.
+    fn sufficient_ring(&self, settings: &Settings) -> Result<u64, Refusal>;
 }
 
 /// The words of the two rooms.
@@ -246,5 +249,9 @@ impl Limiters for Twin {
             Asked::MakeTable if gateway::make_table(table) => Answer::Done,
             Asked::MakeTable => Answer::Refused(5),
         }
+    }
+
+    fn sufficient_ring(&self, settings: &Settings) -> Result<u64, Refusal> {
+        settings.sufficient_ring()
     }
 }

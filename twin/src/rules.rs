@@ -1,4 +1,4 @@
-//! The rules on plain values: settings, limits, the fresh factor, the draw.
+//! The rules on plain values: settings, the ring that suffices, limits, the fresh factor, the draw.
 
 /// The top of a key's total, and the number of draws.
 pub const TOP: u64 = 1 << 53;
@@ -87,6 +87,13 @@ impl Settings {
     /// 1000 W, in milliseconds.
     pub fn window_ms(&self) -> u64 {
         1000 * self.window
+    }
+
+    /// So many buckets in a ring, and from an empty room no call meets 12 while readings do not fall; with one less, zero counts meet it.
+    /// Buckets stand b + 1 ms apart or more in either clock mode, since a join cuts the age. It may be more than a ring can have.
+    pub fn sufficient_ring(&self) -> Result<u64, Refusal> {
+        self.judge()?;
+        Ok(self.window_ms() / (self.bucket + 1) + 1)
     }
 
     /// The greatest age of a live bucket. A bucket is expired when its age, to the tick, is over 1000 W ms.

@@ -8,7 +8,6 @@ use mathlib.Core.Logic.{_≢_}
 use Prim.Native.Nat.{ℕ, zero, suc, _+_, _-_, _*_, _/_, _≤_, _<_}
 use native.Mathlib.Decide.{decLe}
 use native.Mathlib.Omega.{arith}
-use lib.ListN.{length}
 use Rattle.answers.specs.Rows.{numberOf}
 use Rattle.common.specs.Refusals.{first}
 use Rattle.settings.specs.Clock.{windowInMilliseconds, windowTicks}
@@ -19,17 +18,15 @@ use Rattle.rules.specs.declared.RoomKind.{RoomKind}
 use Rattle.rules.specs.declared.RoomKind.the-variants as kind
 use Rattle.room.specs.Room.{lengthOf, fits, empty}
 use Rattle.room.specs.Laws.{lengths-fit, fit-lengths}
-use Rattle.frame.specs.Keys.{Bytes}
-use Rattle.parties.specs.declared.Caller.{Caller}
 use Rattle.parties.specs.Parties.{Sent, sent}
 use Rattle.judge.specs.Held.{heldIn}
-use Rattle.steps.specs.Ops.{Op, Call, rowOf, verdictOf, answerRow, words, rows, AllKeyed}
+use Rattle.steps.specs.Ops.{Call, rowOf, verdictOf, answerRow, words, rows, AllKeyed}
 use Rattle.steps.specs.History.{empty-sane, history, from-empty}
 use Rattle.steps.specs.Runs.{Made, callsOf, rowsOf, Ran, run-history}
 use Rattle.apart.specs.Apart.{Limiter, wordsBy, words-by, Rising}
 use Rattle.rings.specs.Window.{apartTicks, BucketsApart}
 use Rattle.rings.specs.Sufficient.{apart-closed, Roomy, roomy-keeps, key-apart, roomy-untold}
-use Rattle.rings.specs.Zeros.{zeroOp, zeros, Sender, zeros-within, zeros-full}
+use Rattle.rings.specs.Zeros.{zeros, Sender, zeros-within, zeros-full}
 
 -- ---- what a history is told
 

@@ -81,9 +81,6 @@ spaced-times d lo (x ∷ xs) f (suc i) (suc j) h l = spaced-times d (x .time + d
 -- ---- the rules keep it
 
 module _ (d b : ℕ) (is : d ≡ b + 1) where
-  abbrev pub Kept : List Bucket → Type 0
-  Kept xs = Spaced d 0 xs
-
   raised-kept : (i c e : ℕ) (xs : List Bucket) → Spaced d 0 xs → Spaced d 0 (raised i c e xs)
   unfolding raised
   raised-kept i c e xs f = spaced-set i d 0 xs _ _ f

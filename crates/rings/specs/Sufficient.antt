@@ -1,14 +1,13 @@
 -- In a room whose ring is long enough and in which every key's buckets lie b + 1 milliseconds apart no call is told 12, and every call leaves it so.
 -- Assumes nothing.
 use mathlib.Core.Path.{_≡_, refl, sym, ap, subst, _∙_}
-use mathlib.Core.Bool.{Bool, true, false, _&&_, _||_, cond}
-use mathlib.Core.List.{List, [], _∷_}
+use mathlib.Core.Bool.{Bool, false, _&&_, _||_, cond}
+use mathlib.Core.List.{List, []}
 use mathlib.Core.Logic.{_≢_}
 use Prim.Native.Nat.{ℕ, _≤_, _<_}
 use native.Mathlib.Decide.{decLt}
 use native.Mathlib.Omega.{arith}
 use Rattle.common.specs.Ranges.{and-no}
-use Rattle.common.specs.declared.units.RateLimit.{RateLimit}
 use Rattle.settings.specs.Clock.{windowTicks, joinTicks}
 use Rattle.settings.specs.Settings.{faults}
 use Rattle.settings.specs.declared.Settings.{Settings}
@@ -71,7 +70,8 @@ key-apart s w p key = go (decLt (addressed w key) (slotsOf w))
 
 -- ---- 12
 
-both-unmet : (k : RoomKind) (s : Settings) (w : List ℕ) (who : Caller) (other : List ℕ) (whose : Caller) (t : ℕ) → met (bothTable k s w who other whose t) 12 ≡ false
+both-unmet : (k : RoomKind) (s : Settings) (w : List ℕ) (who : Caller) (other : List ℕ) (whose : Caller) (t : ℕ) →
+    met (bothTable k s w who other whose t) 12 ≡ false
 unfolding faults met
 both-unmet kind.Absolute s w who other whose t = refl
 both-unmet kind.Suppressed s w who other whose t = refl

@@ -2,22 +2,22 @@
 -- enough: those that a suppressed increment's first look leaves, and those that an absolute increment finds.
 -- s are the settings, t the reading, r the ring, xs a key's buckets.
 -- Assumes nothing.
-use mathlib.Core.Path.{_≡_, refl, sym, ap, subst, _∙_}
+use mathlib.Core.Path.{_≡_, refl, subst}
 use mathlib.Core.Bool.{Bool, true, false, not, _&&_, _||_, cond, true≢false}
 use mathlib.Core.List.{List, [], _∷_}
 use Prim.Native.Nat.{ℕ, suc, _+_, _-_, _*_, _≤_, _<_}
 use native.Mathlib.Nat.{mul-left-comm, lt-of-mul-lt-mul-left}
 use native.Mathlib.Omega.{arith}
 use lib.Dec.{leb, ltb}
-use lib.ListN.{length, getD, drop}
+use lib.ListN.{length, getD}
 use borrow.Author.Tests.{lt-leb, ltb-false}
 use Rattle.settings.specs.Settings.{windowIn, bucketIn}
-use Rattle.settings.specs.Clock.{age, ticksIn, longest, windowInMilliseconds, windowTicks, lookTicks, joinTicks, ticks-some}
+use Rattle.settings.specs.Clock.{age, ticksIn, windowInMilliseconds, windowTicks, lookTicks, joinTicks, ticks-some}
 use Rattle.settings.specs.declared.Settings.{Settings}
 use Rattle.ring_length.specs.RingLength.{sufficientRing, window-holds}
 use Rattle.ring.specs.declared.Bucket.{Bucket}
 use Rattle.ring.specs.Ring.{noBucket, counts}
-use Rattle.rules.specs.Buckets.{older, ahead, gone, live, outIf, newest, joins}
+use Rattle.rules.specs.Buckets.{older, ahead, gone, live, outIf, joins}
 use Rattle.rules.specs.Held.{Held}
 use Rattle.rules.specs.Both.{overdue, lookedOf, passes, ringFull}
 use Rattle.rules.specs.Ages.{looked-oldest}

@@ -97,7 +97,9 @@ stored n h =
 
 -- the first is counted, and the second finds its bucket expired
 same-first : wordsBy (hasty Absolute single) (empty 1 1) (zeros Absolute single key 1) ≡ room 1
-same-first = ap (λ (z : Bool). hastily z (room 0) (verdictOf Absolute single (room 0) (0 * apartTicks single) (zeroOp Absolute key)) .words) (stored 0 (omega arith))
+same-first =
+    let v = verdictOf Absolute single (room 0) (0 * apartTicks single) (zeroOp Absolute key) in
+    ap (λ (z : Bool). hastily z (room 0) v .words) (stored 0 (omega arith))
 
 told-second : newestNumber (rowsBy (hasty Absolute single) (empty 1 1) (zeros Absolute single key 2)) ≡ 12
 unfolding decisionRow

@@ -5,7 +5,6 @@
 use mathlib.Core.Path.{_≡_, refl, sym, ap, ap₂, subst, _∙_}
 use mathlib.Core.Bool.{Bool, true, false, not, _&&_, _||_, cond, false≢true}
 use mathlib.Core.List.{List, [], _∷_}
-use mathlib.Core.Logic.{_≢_}
 use Prim.Native.Nat.{ℕ, zero, suc, _+_, _*_, _≤_, _<_}
 use native.Mathlib.Nat.{mul-left-comm, mul-le-mul-left}
 use native.Mathlib.Decide.{decLt}
@@ -21,14 +20,14 @@ use Rattle.common.specs.Ranges.{rateOk, and-no}
 use Rattle.common.specs.Refusals.{first}
 use Rattle.common.specs.declared.units.RateLimit.{RateLimit}
 use Rattle.common_laws.specs.LimitLaws.{one-rate, one-limit}
-use Rattle.settings.specs.Clock.{windowTicks, joinTicks, ticksIn, windowInMilliseconds}
+use Rattle.settings.specs.Clock.{windowTicks, joinTicks, ticksIn}
 use Rattle.settings.specs.Settings.{windowIn, bucketIn, Proper}
 use Rattle.settings.specs.declared.Settings.{Settings}
 use Rattle.ring_length.specs.RingLength.{sufficientRing, fits-window}
 use Rattle.layout.specs.Layout.{firstMark, secondMark, longestKey, mostTotal}
 use Rattle.ring.specs.declared.Bucket.{Bucket}
 use Rattle.ring.specs.Ring.{bucket, counts}
-use Rattle.rules.specs.Buckets.{gone, outIf, joined}
+use Rattle.rules.specs.Buckets.{outIf, joined}
 use Rattle.rules.specs.Held.{Held, nothing, lacksSlot}
 use Rattle.rules.specs.Both.{limitIn, overdue, overdueIn, lookedOf, passes, ringFull}
 use Rattle.rules.specs.Absolute as absolute
@@ -37,10 +36,10 @@ use Rattle.rules.specs.Suppressed as suppressed
 use Rattle.rules.specs.Suppressed.{admits, declinedBy}
 use Rattle.rules.specs.declared.RoomKind.{RoomKind}
 use Rattle.rules.specs.declared.RoomKind.the-variants as kind
-use Rattle.room.specs.Room.{slotsOf, ringOf, lastOf, sized, fits, empty}
+use Rattle.room.specs.Room.{slotsOf, ringOf, sized, fits, empty}
 use Rattle.frame.specs.Keys.{Bytes}
 use Rattle.frame.specs.Whole.{empty-free}
-use Rattle.parties.specs.Parties.{Sent, isParty, ours, slotsHeld, promised, holding, overdrawn, noneLeft, keyFor}
+use Rattle.parties.specs.Parties.{Sent, isParty, ours, slotsHeld, promised, holding, noneLeft}
 use Rattle.opened.specs.Sound.{addressed}
 use Rattle.judge.specs.Held.{heldIn, held-none}
 use Rattle.judge.specs.Judge.{Passed}
@@ -48,7 +47,7 @@ use Rattle.judge.specs.Laws.{early-none, refused-own}
 use Rattle.places.specs.SoundRoom.{addressed-held, five-unmet}
 use Rattle.steps.specs.Ops.{Op, inc, draws, Call, after, words, answerNumber}
 use Rattle.steps.specs.Table.{tableOf}
-use Rattle.apart.specs.Holds.{heldFor, held-short, addressed-short}
+use Rattle.apart.specs.Holds.{held-short}
 use Rattle.apart.specs.One.{plainly, leftBy, keyIn}
 use Rattle.apart.specs.Step.{own-held, slots-after, ring-after}
 use Rattle.apart.specs.Told.{rowFor, told-row}
@@ -142,7 +141,8 @@ module _ (s : Settings) (n : ℕ) (within : n * apartTicks s ≤ windowTicks s) 
     absolute-number : (h .known ≡ true → 1 ≤ wholeLimit h) → first (absolute.incTurns s r full t one 0 h) ≡ cond (leb r n) 12 0
     absolute-number f =
         let ten : allowed s t h && passes 0 (counts (foundFor s r t 0 h)) ≡ false =
-        ap (λ (ys : List Bucket). allowed s t h && passes 0 (counts ys)) (found-is r) ∙ ap (λ (z : Bool). allowed s t h && z) none-passes ∙ and-no (allowed s t h) in
+        ap (λ (ys : List Bucket). allowed s t h && passes 0 (counts ys)) (found-is r) ∙ ap (λ (z : Bool). allowed s t h && z) none-passes ∙
+        and-no (allowed s t h) in
         let twelve : allowed s t h && ringFull r (joinTicks s) t (foundFor s r t 0 h) ≡ leb r n =
         ap₂ (λ (z : Bool) (ys : List Bucket). z && ringFull r (joinTicks s) t ys) (allowed-is f) (found-is r) ∙ full-is r in
         first-past 8 _ _ unrated-not ∙ first-past 10 _ _ ten ∙ first-past 11 _ _ slot ∙ first-last 12 _ _ twelve

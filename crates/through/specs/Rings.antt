@@ -27,7 +27,7 @@ use Rattle.judge.specs.Judge.{misfits}
 use Rattle.judge.specs.Verdict as Room
 use Rattle.gateway.specs.Gateway.{isHeld, gateTurns, limiterTurns, unlessHeld, shotTurns, passed, unlessRefused, newSeason}
 use Rattle.gateway.specs.Gateway as Gateway
-use Rattle.steps.specs.Ops.{draws, Call, words, Keyed, AllKeyed, answerNumber}
+use Rattle.steps.specs.Ops.{draws, Call, Keyed, AllKeyed, answerNumber}
 use Rattle.steps.specs.Order.{met, first-met}
 use Rattle.rings.specs.Window.{looked-room}
 use Rattle.rings.specs.Sufficient.{Roomy, key-apart, roomy-untold}
