@@ -1,6 +1,6 @@
 pub mod Spaced
 pub mod Window
-pub mod Sufficient
+pub mod Roomy
 pub mod Row
 pub mod Zeros
 pub mod Rings

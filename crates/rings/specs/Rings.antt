@@ -25,7 +25,7 @@ use Rattle.steps.specs.History.{empty-sane, history, from-empty}
 use Rattle.steps.specs.Runs.{Made, callsOf, rowsOf, Ran, run-history}
 use Rattle.apart.specs.Apart.{Limiter, wordsBy, words-by, Rising}
 use Rattle.rings.specs.Window.{apartTicks, BucketsApart}
-use Rattle.rings.specs.Sufficient.{apart-closed, Roomy, roomy-keeps, key-apart, roomy-untold}
+use Rattle.rings.specs.Roomy.{apart-closed, Roomy, roomy-keeps, key-apart, roomy-untold}
 use Rattle.rings.specs.Zeros.{zeros, Sender, zeros-within, zeros-full}
 
 -- ---- what a history is told

@@ -1,10 +1,10 @@
--- What wrong limiters break of it. One that gives 12 while its ring is full of expired buckets, which document 01 names among the easy slips, is told so
--- with a ring that suffices (`hasty-full`). One that gives 12 nowhere, as by overwriting the oldest bucket, is not the limiter of which the ring is
--- necessary (`never-full`).
+-- What wrong limiters break of it. One that gives 12 while its ring is full of expired buckets, which document 01 names among the easy slips, does so with a
+-- ring that suffices (`hasty-full`). One that gives 12 nowhere, as by overwriting the oldest bucket, is not the limiter of which the ring is necessary
+-- (`never-full`). And a set that gave a surplus a bucket of its own would not leave a key's buckets apart (`surplus-anew`).
 -- Assumes nothing.
 use mathlib.Core.Path.{_≡_, refl, ap, ap₂, _∙_}
 use mathlib.Core.Bool.{Bool, true, cond}
-use mathlib.Core.List.{List, [], _∷_}
+use mathlib.Core.List.{List, [], _∷_, _++_}
 use mathlib.Core.Logic.{_≢_}
 use Prim.Native.Nat.{ℕ, _*_, _≤_}
 use native.Mathlib.Omega.{arith}
@@ -16,10 +16,11 @@ use Rattle.answers.specs.declared.RateLimitDecision.the-variants.{Refused}
 use Rattle.common.specs.Ranges as Ranges
 use Rattle.common.specs.Refusals.{first}
 use Rattle.settings.specs.Clock.{joinTicks}
-use Rattle.settings.specs.Settings.{defaults, withWindow, withBucket, faults, proper, defaults-unrefused}
+use Rattle.settings.specs.Settings.{defaults, faults, proper, defaults-unrefused}
 use Rattle.settings.specs.declared.Settings.{Settings}
-use Rattle.ring_length.specs.RingLength.{sufficientRing}
+use Rattle.ring_length.specs.RingLength.{sufficientRing, sized}
 use Rattle.ring.specs.declared.Bucket.{Bucket}
+use Rattle.ring.specs.Ring.{bucket}
 use Rattle.rules.specs.Both.{ringFull}
 use Rattle.rules.specs.declared.RoomKind.{RoomKind}
 use Rattle.rules.specs.declared.RoomKind.the-variants.{Absolute, Suppressed}
@@ -47,7 +48,7 @@ use Rattle.steps.specs.Ops.{
   words,
 }
 use Rattle.apart.specs.Apart.{Limiter, wordsBy}
-use Rattle.rings.specs.Window.{apartTicks, apart-joins}
+use Rattle.rings.specs.Window.{apartTicks, apart-joins, BucketsApart}
 use Rattle.rings.specs.Row.{row-full}
 use Rattle.rings.specs.Zeros.{zeroOp, zeros, state}
 use Rattle.rings.specs.Rings.{Limiters, rowsBy, newestNumber, SufficientBy, Meets, NecessaryBy, lone, lone-sends, zeros-keyed, one-fits}
@@ -73,7 +74,7 @@ hasty Suppressed s = verdictOf Suppressed s
 
 -- a window of 1 s and buckets of 1,000 ms: one bucket suffices
 abbrev pub single : Settings
-single = withBucket (withWindow defaults (record { 0 = 1 })) (record { 0 = 1000 })
+single = sized 1 1000
 
 single-unrefused : first (faults single) ≡ 0
 unfolding faults first Ranges.factorOk Ieee.le Ieee.fits
@@ -121,3 +122,13 @@ never-full l n f = go (m .calls) (m .told)
     go : (calls : List (Call Absolute)) → newestNumber (rowsBy (l Absolute defaults) (empty 1 99) calls) ≡ 12 → ⊥
     go [] e = omega (arith, e)
     go (c ∷ cs) e = n Absolute defaults _ (c .reading) (c .op) e
+
+-- ---- a set that adds a bucket
+
+-- what it would have to keep, whatever the reading and the surplus
+abbrev pub AddsApart : Type 0
+AddsApart = (s : Settings) (t m : ℕ) (xs : List Bucket) → BucketsApart s xs → BucketsApart s (xs ++ (bucket m 0 t ∷ []))
+
+-- at once after an increment, that is two buckets of one time
+pub surplus-anew : AddsApart → ⊥
+surplus-anew f = omega (arith, f single 0 1 (bucket 0 0 0 ∷ []) (omega arith, tt) .1 .0)

@@ -30,7 +30,7 @@ use Rattle.gateway.specs.Gateway as Gateway
 use Rattle.steps.specs.Ops.{draws, Call, Keyed, AllKeyed, answerNumber}
 use Rattle.steps.specs.Order.{met, first-met}
 use Rattle.rings.specs.Window.{looked-room}
-use Rattle.rings.specs.Sufficient.{Roomy, key-apart, roomy-untold}
+use Rattle.rings.specs.Roomy.{Roomy, key-apart, roomy-untold}
 use Rattle.rings.specs.Rings.{always-roomy}
 use Rattle.through.specs.Shot.{asks}
 use Rattle.through.specs.Events.{Event, shot, call, season, Lent, lent, left, asking, asked, same-room}
