@@ -137,7 +137,7 @@ necessary k s slots ring n e fine shorter =
     let p = proper s fine in record {
       calls = zeros k s (lone slots) (suc ring);
       keyed = zeros-keyed k s slots (suc ring);
-      rising = zeros-rising k s slots ring (windowTicks s) (zeros-within s p slots (lone slots) is k ring n e ring shorter);
+      rising = zeros-rising k s slots ring (windowTicks s) (zeros-within s ring shorter);
       told =
           ap newestNumber (rows-by k s (empty slots ring) (zeros k s (lone slots) (suc ring))) ∙
           zeros-full s p slots (lone slots) is k ring n e shorter;

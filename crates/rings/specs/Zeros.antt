@@ -71,6 +71,10 @@ abbrev pub zeros : (k : RoomKind) → Settings → Sent → ℕ → List (Call k
 zeros k s key zero = []
 zeros k s key (suc n) = record { reading = n * apartTicks s; op = zeroOp k key } ∷ zeros k s key n
 
+-- the nth comes within one window, where n are fewer than suffice
+pub zeros-within : (s : Settings) (n : ℕ) → n < sufficientRing s → n * apartTicks s ≤ windowTicks s
+zeros-within s n h = omega (arith, mul-left-comm n (ticksIn s) (bucketIn s + 1), mul-le-mul-left (ticksIn s) (fits-window s n h))
+
 -- a key that gets a slot in a room of so many: the promises fit, and its party is promised one
 pub record Sender (slots : ℕ) (key : Sent) : Type 0 where
   pub bytes : Bytes (key .bytes)
@@ -294,11 +298,7 @@ module _ (s : Settings) (p : Proper s) (slots : ℕ) (key : Sent) (is : Sender s
     abbrev room : ℕ → List ℕ
     room n = words k s (empty slots ring) (zeros k s key n)
 
-    -- so many are within one window
-    pub zeros-within : (n : ℕ) → n < sufficientRing s → n * apartTicks s ≤ windowTicks s
-    zeros-within n h =
-        omega (arith, mul-left-comm n (ticksIn s) (bucketIn s + 1), mul-le-mul-left (ticksIn s) (fits-window s n h))
-
+    -- after n of them
     pub record State (n : ℕ) : Type 0 where
       pub fine : Fine k s (n * apartTicks s) a b (words k s (empty slots ring) (zeros k s key n))
       pub slots-are : slotsOf (words k s (empty slots ring) (zeros k s key n)) ≡ slots
@@ -347,7 +347,7 @@ module _ (s : Settings) (p : Proper s) (slots : ℕ) (key : Sent) (is : Sender s
           fine = fine-after k s t (suc n * apartTicks s) a b (room n) op (zero-bytes k) (zero-gives k) (omega arith) (x .fine);
           slots-are = slots-after k s (room n) t (x .fine .sane) op (zero-bytes k) ∙ x .slots-are;
           ring-is = ring-after k s (room n) t (x .fine .sane) op (zero-bytes k) ∙ x .ring-is;
-          lined = zero-more n (zeros-within n g) (room n) (x .slots-are) k (x .fine) (x .lined) (omega (arith, h, x .ring-is));
+          lined = zero-more n (zeros-within s n g) (room n) (x .slots-are) k (x .fine) (x .lined) (omega (arith, h, x .ring-is));
         }
 
     pub state : (n : ℕ) → n ≤ ring → n ≤ sufficientRing s → State n
@@ -358,4 +358,4 @@ module _ (s : Settings) (p : Proper s) (slots : ℕ) (key : Sent) (is : Sender s
     pub zeros-full : ring < sufficientRing s → answerNumber k s (words k s (empty slots ring) (zeros k s key ring)) (ring * apartTicks s) (zeroOp k key) ≡ 12
     zeros-full h =
         let x = state ring (omega arith) (omega arith) in
-        zero-full ring (zeros-within ring h) (room ring) (x .slots-are) k (x .fine) (x .lined) (omega (arith, x .ring-is))
+        zero-full ring (zeros-within s ring h) (room ring) (x .slots-are) k (x .fine) (x .lined) (omega (arith, x .ring-is))
