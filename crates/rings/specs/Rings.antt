@@ -143,11 +143,12 @@ necessary k s slots ring n e fine shorter =
           zeros-full s p slots (lone slots) is k ring n e shorter;
     }
 
--- ---- so it is the least: whatever else suffices is no shorter, and whatever else is necessary is no longer
+-- ---- so it is the least: what else suffices, where that is 1 to 512, is no shorter; what else is necessary is no longer, where this is within 512
 
-pub unmet : (l : Limiters) (k : RoomKind) (s : Settings) (slots ring : ℕ) → Meets l k s slots ring →
+-- a history that meets it, and none does
+meets-never : (l : Limiters) (k : RoomKind) (s : Settings) (slots ring : ℕ) → Meets l k s slots ring →
     ((calls : List (Call k)) → AllKeyed calls → NeverFull (rowsBy (l k s) (empty slots ring) calls)) → ⊥
-unmet l k s slots ring m f = go (rowsBy (l k s) (empty slots ring) (m .calls)) (m .told) (f (m .calls) (m .keyed))
+meets-never l k s slots ring m f = go (rowsBy (l k s) (empty slots ring) (m .calls)) (m .told) (f (m .calls) (m .keyed))
   where
     go : (more : List (List ℕ)) → newestNumber more ≡ 12 → NeverFull more → ⊥
     go [] e n = omega (arith, e)
@@ -167,7 +168,7 @@ module _ (long : Settings → ℕ) (s : Settings) (fine : first (faults s) ≡ 0
       go : Dec (sufficientRing s ≤ long s) → sufficientRing s ≤ long s
       go (yes h) = h
       go (no h) =
-          absurd (unmet verdictOf kind.Absolute s 1 (long s) (necessary kind.Absolute s 1 (long s) (lengthOf 1 (long s)) e fine (omega arith))
+          absurd (meets-never verdictOf kind.Absolute s 1 (long s) (necessary kind.Absolute s 1 (long s) (lengthOf 1 (long s)) e fine (omega arith))
           (f kind.Absolute s 1 (long s) (lengthOf 1 (long s)) e (omega arith)))
 
   pub greatest : Necessary long → sufficientRing s ≤ 512 → long s ≤ sufficientRing s
@@ -179,7 +180,7 @@ module _ (long : Settings → ℕ) (s : Settings) (fine : first (faults s) ≡ 0
       go : Dec (long s ≤ sufficientRing s) → long s ≤ sufficientRing s
       go (yes h) = h
       go (no h) =
-          absurd (unmet verdictOf kind.Absolute s 1 (sufficientRing s)
+          absurd (meets-never verdictOf kind.Absolute s 1 (sufficientRing s)
           (f kind.Absolute s 1 (sufficientRing s) (lengthOf 1 (sufficientRing s)) e fine (omega arith))
           (sufficient kind.Absolute s 1 (sufficientRing s) (lengthOf 1 (sufficientRing s)) e (omega arith)))
 

@@ -83,9 +83,6 @@ module _ (s : Settings) (w r : List ℕ) (t : ℕ) (key : Sent) (number : ℕ) (
   unfolding Gateway.shot unlessRefused shotRow
   shot-untold e = go (eqb (first (shotTurns s w r t key number rate draw)) 0) refl e
     where
-      n : ℕ
-      n = first (shotTurns s w r t key number rate draw)
-
       go : (z : Bool) → eqb (first (shotTurns s w r t key number rate draw)) 0 ≡ z →
           numberOf (shotRow (cond z (passed (isHeld w (key .bytes) number) s w r t key number rate draw .answer)
           (Refused (first (shotTurns s w r t key number rate draw))))) ≡ 12 → ⊥
