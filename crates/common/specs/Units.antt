@@ -123,7 +123,7 @@ perPeriod p x = mul binary64 x (real p)
 
 -- seconds, and twice milliseconds
 abbrev pub defaultWindow : ℕ
-defaultWindow = 10
+defaultWindow = 30
 
 abbrev pub defaultBucket : ℕ
 defaultBucket = 100

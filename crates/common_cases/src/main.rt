@@ -218,7 +218,7 @@ fn units_11() {
 fn settings_1() {
     head(b"settings");
     case(b"defaults", Settings::default().refusal(), 0);
-    case(b"default window", Settings::default().window_size.0, 10);
+    case(b"default window", Settings::default().window_size.0, 30);
     case(b"default bucket", Settings::default().bucket_size.0, 100);
 }
 

@@ -19,7 +19,7 @@ use Rattle.common.specs.Ranges.{nil, one}
 use Rattle.common.specs.Refusals as Refusals
 use Rattle.common.specs.Refusals.{first}
 use Rattle.settings.specs.Settings as Settings
-use Rattle.settings.specs.Settings.{defaults, withWindow}
+use Rattle.settings.specs.Settings.{defaults, tenSeconds, withWindow}
 use Rattle.share.specs.Share as Share
 use Rattle.answers.specs.declared.DoneAnswer.the-variants as done
 use Rattle.answers.specs.declared.FactorAnswer.the-variants as factor
@@ -217,7 +217,7 @@ pub record Further : Type 0 where
   pub absolute-unknown : heldIn room key .known ≡ false
   pub absolute-first : vacant room ≡ 0
   pub absolute-known : heldIn (single kind.Absolute) key .known ≡ true
-  pub absolute-below : AbsoluteRules.allowed defaults 0 (heldIn (single kind.Absolute) key) ≡ true
+  pub absolute-below : AbsoluteRules.allowed tenSeconds 0 (heldIn (single kind.Absolute) key) ≡ true
   pub absolute-same : addressed (single kind.Absolute) key ≡ 0
   pub suppressed : Fills kind.Suppressed
   pub suppressed-first : placeOf room (lookedIn (hardBy 2) room 0 key) ≡ 0

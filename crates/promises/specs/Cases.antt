@@ -6,7 +6,7 @@ use Prim.Native.Nat.{ℕ, _+_, _*_}
 use lib.IntN.{pos, negsuc}
 use lib.Ieee.{Float, fin, binary64, div, ofInt}
 use Rattle.common.specs.Ranges.{one}
-use Rattle.settings.specs.Settings.{defaults, withFactor, withClock}
+use Rattle.settings.specs.Settings.{tenSeconds, withFactor, withClock}
 use Rattle.settings.specs.declared.ClockMode.the-variants.{Nanoseconds}
 use Rattle.answers.specs.declared.DoneAnswer.{DoneAnswer}
 use Rattle.answers.specs.declared.FactorAnswer.{FactorAnswer}
@@ -46,9 +46,9 @@ ratio m n = div binary64 (whole m) (whole n)
 abbrev pub half : Float
 half = fin false 1 (negsuc 0)
 
--- the defaults, W = 10 and b = C = 100, with hard limit factor n
+-- W = 10 and b = C = 100, with hard limit factor n
 abbrev pub hardBy : ℕ → Settings
-hardBy n = withFactor defaults (whole n)
+hardBy n = withFactor tenSeconds (whole n)
 
 abbrev pub perSecond : Float → RateLimit
 perSecond x = record { 0 = x }
@@ -66,10 +66,10 @@ key = sent who (97 ∷ [])
 -- ---- the absolute limiter at rate 1: the limit is 10
 
 abbrev pub ainc : ℕ → ℕ → List ℕ → Verdict RateLimitDecision
-ainc t count w = Absolute.inc defaults w t key (perSecond one) count
+ainc t count w = Absolute.inc tenSeconds w t key (perSecond one) count
 
 abbrev pub aget : ℕ → List ℕ → Verdict TotalAnswer
-aget t w = Absolute.get defaults w t key
+aget t w = Absolute.get tenSeconds w t key
 
 -- 10 at reading 0
 abbrev pub ten : List ℕ
@@ -100,7 +100,7 @@ clean t stale w = Cleanup.cleanup kind.Suppressed (hardBy 2) w t who stale
 -- ---- either limiter at rate 1, and any function in its place, by words, reading and count
 
 abbrev pub settingsFor : RoomKind → Settings
-settingsFor kind.Absolute = defaults
+settingsFor kind.Absolute = tenSeconds
 settingsFor kind.Suppressed = hardBy 2
 
 abbrev pub askAt : RoomKind → Inc → List ℕ → ℕ → ℕ → Verdict RateLimitDecision
@@ -128,14 +128,14 @@ inSlot w = buckets (ringOf w) (bodyOf w 0)
 -- ---- the suppressed limiter at rate 1/4 and F = 1: H = S = 2, so that 2 are admitted and 5 more declined
 
 abbrev pub quarter : ℕ → List ℕ → Verdict RateLimitDecision
-quarter count w = Suppressed.inc defaults w 0 key (perSecond (ratio 1 4)) count 0
+quarter count w = Suppressed.inc tenSeconds w 0 key (perSecond (ratio 1 4)) count 0
 
 abbrev pub sevenFive : List ℕ
 sevenFive = quarter 5 (quarter 2 room .words) .words
 
 -- a set that makes the total n and preserves the newest
 abbrev pub preserve : ℕ → List ℕ → Verdict SetAnswer
-preserve n w = Sets.set kind.Suppressed defaults w 0 key (perSecond (ratio 1 4)) comparator.Always n (mode.Preserve PreserveNewest)
+preserve n w = Sets.set kind.Suppressed tenSeconds w 0 key (perSecond (ratio 1 4)) comparator.Always n (mode.Preserve PreserveNewest)
 
 -- ---- the suppressed limiter at rate 1/20 and F = 4: H = 2, S = 0
 
@@ -157,13 +157,13 @@ abbrev pub nano : Settings → Settings
 nano s = withClock s Nanoseconds
 
 abbrev pub ninc : ℕ → ℕ → List ℕ → Verdict RateLimitDecision
-ninc t count w = Absolute.inc (nano defaults) w t key (perSecond one) count
+ninc t count w = Absolute.inc (nano tenSeconds) w t key (perSecond one) count
 
 abbrev pub nask : ℕ → List ℕ → Verdict RateLimitDecision
-nask t w = Absolute.isAllowed (nano defaults) w t key
+nask t w = Absolute.isAllowed (nano tenSeconds) w t key
 
 abbrev pub nget : ℕ → List ℕ → Verdict TotalAnswer
-nget t w = Absolute.get (nano defaults) w t key
+nget t w = Absolute.get (nano tenSeconds) w t key
 
 abbrev pub ndraws : ℕ → ℕ → List ℕ → Verdict RateLimitDecision
 ndraws t count w = Suppressed.inc (nano (hardBy 2)) w t key (perSecond one) count 0
@@ -201,11 +201,11 @@ abbrev pub sentBy : ℕ → ℕ → ℕ → ℕ → Sent
 sentBy party first second byte = sent (record { party = party; first = first; second = second }) (byte ∷ [])
 
 abbrev pub pinc : Sent → ℕ → List ℕ → Verdict RateLimitDecision
-pinc k count w = Absolute.inc defaults w 0 k (perSecond one) count
+pinc k count w = Absolute.inc tenSeconds w 0 k (perSecond one) count
 
 -- a clear by a party with promises of one slot each
 abbrev pub pclear : ℕ → List ℕ → Verdict DoneAnswer
-pclear party w = Clear.clear defaults w 0 (record { party = party; first = 1; second = 1 })
+pclear party w = Clear.clear tenSeconds w 0 (record { party = party; first = 1; second = 1 })
 
 -- 3 of party 1, and 5 of party 2 under the same byte
 abbrev pub ofOne : List ℕ

@@ -12,7 +12,7 @@ use Rattle.answers.specs.declared.RingAnswer.{RingAnswer}
 use Rattle.answers.specs.declared.RingAnswer.the-variants.{Ring, Refused}
 use Rattle.common.specs.Refusals.{first}
 use Rattle.settings.specs.Clock.{windowInMilliseconds}
-use Rattle.settings.specs.Settings.{windowIn, bucketIn, defaults, withWindow, withBucket, faults, Proper, proper}
+use Rattle.settings.specs.Settings.{windowIn, bucketIn, defaults, tenSeconds, withWindow, withBucket, faults, Proper, proper}
 use Rattle.settings.specs.declared.Settings.{Settings}
 
 -- "floor(1000 W / (b + 1)) + 1"
@@ -28,11 +28,12 @@ abbrev pub sized : ℕ → ℕ → Settings
 sized window bucket = withBucket (withWindow defaults (record { 0 = window })) (record { 0 = bucket })
 
 pub record Cases : Type 0 where
-  -- "100 for the defaults"
-  pub default : sufficientRing defaults ≡ 100
+  -- of a window of 30 s and buckets of 100 ms
+  pub default : sufficientRing defaults ≡ 298
+  -- document 02, ticket 4, of the 10 s that were the default then: 100
+  pub ten-seconds : sufficientRing tenSeconds ≡ 100
   -- where b + 1 divides the window both its ends count
   pub divides : sufficientRing (sized 10 99) ≡ 101
-  pub longer-window : sufficientRing (sized 30 100) ≡ 298
   -- one bucket where it is as long as the window, or longer
   pub as-long : sufficientRing (sized 1 1000) ≡ 1
   pub longer : sufficientRing (sized 1 4294967296) ≡ 1
@@ -41,7 +42,7 @@ pub record Cases : Type 0 where
   pub most : sufficientRing (sized 33554432 1) ≡ 16777216001
 
 pub cases : Cases
-cases = record { default = refl; divides = refl; longer-window = refl; as-long = refl; longer = refl; shorter = refl; most = refl }
+cases = record { default = refl; ten-seconds = refl; divides = refl; as-long = refl; longer = refl; shorter = refl; most = refl }
 
 module _ (s : Settings) (n : ℕ) where
   pos : 0 < bucketIn s + 1

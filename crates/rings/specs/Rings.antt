@@ -184,7 +184,7 @@ module _ (long : Settings → ℕ) (s : Settings) (fine : first (faults s) ≡ 0
           (f kind.Absolute s 1 (sufficientRing s) (lengthOf 1 (sufficientRing s)) e fine (omega arith))
           (sufficient kind.Absolute s 1 (sufficientRing s) (lengthOf 1 (sufficientRing s)) e (omega arith)))
 
--- one less does not suffice, and with b in the place of b + 1 it is more than is necessary: 99 and 101 of the defaults
+-- one less does not suffice, and with b in the place of b + 1 it is more than is necessary: 297 and 301 of the defaults
 pub one-less : Sufficient (λ s. sufficientRing s - 1) → ⊥
 one-less f = omega (arith, least (λ s. sufficientRing s - 1) defaults defaults-unrefused f (omega arith) (omega arith))
 

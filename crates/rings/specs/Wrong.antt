@@ -116,10 +116,10 @@ pub never-full : (l : Limiters) → ((k : RoomKind) (s : Settings) (w : List ℕ
     NecessaryBy l sufficientRing → ⊥
 never-full l n f = go (m .calls) (m .told)
   where
-    m : Meets l Absolute defaults 1 99
-    m = f Absolute defaults 1 99 (lengthOf 1 99) (one-fits 99 (omega arith) (omega arith)) defaults-unrefused (omega arith)
+    m : Meets l Absolute defaults 1 297
+    m = f Absolute defaults 1 297 (lengthOf 1 297) (one-fits 297 (omega arith) (omega arith)) defaults-unrefused (omega arith)
 
-    go : (calls : List (Call Absolute)) → newestNumber (rowsBy (l Absolute defaults) (empty 1 99) calls) ≡ 12 → ⊥
+    go : (calls : List (Call Absolute)) → newestNumber (rowsBy (l Absolute defaults) (empty 1 297) calls) ≡ 12 → ⊥
     go [] e = omega (arith, e)
     go (c ∷ cs) e = n Absolute defaults _ (c .reading) (c .op) e
 

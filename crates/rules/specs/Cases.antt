@@ -1,4 +1,4 @@
--- The rules tried on small keys, computed. Default settings: a window of 10 s, buckets of 100 ms, a cache period of 100 ms; readings in milliseconds, and then
+-- The rules tried on small keys, computed. Settings: a window of 10 s, buckets of 100 ms, a cache period of 100 ms; readings in milliseconds, and then
 -- in nanoseconds.
 -- Assumes nothing.
 use mathlib.Core.Path.{_≡_, refl}
@@ -10,7 +10,7 @@ use Rattle.answers.specs.declared.HistoryPreservation.the-variants.{PreserveNew
 use Rattle.answers.specs.declared.HistoryUpdateMode.the-variants as mode
 use Rattle.common.specs.declared.comparator.RateLimitComparator.the-variants as comparator
 use Rattle.answers.specs.declared.RateLimitDecision.the-variants.{Rejected}
-use Rattle.settings.specs.Settings.{defaults, withClock}
+use Rattle.settings.specs.Settings.{tenSeconds, withClock}
 use Rattle.settings.specs.Clock.{joinTicks}
 use Rattle.settings.specs.declared.ClockMode.the-variants.{Nanoseconds}
 use Rattle.settings.specs.declared.Settings.{Settings}
@@ -39,7 +39,7 @@ held = record { known = true; limit = 7; buckets = two; cached = true; factor = 
 
 -- the same in nanoseconds: 3 at 0 and 4 at 200 ms, with a factor cached at 200 ms
 abbrev nano : Settings
-nano = withClock defaults Nanoseconds
+nano = withClock tenSeconds Nanoseconds
 
 abbrev nanoTwo : List Bucket
 nanoTwo = bucket 3 2 0 ∷ bucket 4 0 200000000 ∷ []
@@ -49,8 +49,8 @@ nanoHeld = record { known = true; limit = 7; buckets = nanoTwo; cached = true; f
 
 pub record Cases : Type 0 where
   -- an age of one window is live, one more is expired
-  pub live-10000 : liveOf defaults 10000 held ≡ two
-  pub gone-10001 : liveOf defaults 10001 held ≡ bucket 4 0 200 ∷ []
+  pub live-10000 : liveOf tenSeconds 10000 held ≡ two
+  pub gone-10001 : liveOf tenSeconds 10001 held ≡ bucket 4 0 200 ∷ []
   -- an age of b joins, one more adds
   pub joins-300 : joined 100 300 1 0 two ≡ bucket 3 2 0 ∷ bucket 5 0 200 ∷ []
   pub adds-301 : joined 100 301 1 0 two ≡ bucket 3 2 0 ∷ bucket 4 0 200 ∷ bucket 1 0 301 ∷ []
@@ -61,21 +61,21 @@ pub record Cases : Type 0 where
   pub newest-kept : preserved PreserveNewest 300 5 two ≡ bucket 1 0 0 ∷ bucket 4 0 200 ∷ []
   pub oldest-kept : preserved PreserveOldest 300 5 two ≡ bucket 3 2 0 ∷ bucket 2 0 200 ∷ []
   -- the cached factor is used at an age below the period, and forgotten where a bucket is expired
-  pub used-99 : usable defaults 299 true held ≡ true
-  pub fresh-100 : usable defaults 300 true held ≡ false
-  pub forgotten : stays defaults 10001 true held ≡ false
+  pub used-99 : usable tenSeconds 299 true held ≡ true
+  pub fresh-100 : usable tenSeconds 300 true held ≡ false
+  pub forgotten : stays tenSeconds 10001 true held ≡ false
   -- the fresh factor of a slow key, S = 0 and H = 2: 0 where an empty call is all that counted; 1 where something did, though not in the last second
   pub empty-call : freshOn 0 2 10 1 1 (bucket 0 0 0 ∷ []) .factor ≡ nil
   pub quiet-second : freshOn 0 2 10 1 1001 (bucket 1 0 0 ∷ []) .factor ≡ one
   -- a forecast equal to H is allowed, even when it is also at most S
   pub at-hard : reachOf 10 10 10 ≡ Hard
   -- delete gives what is live less what is declined of it
-  pub deletes : sets.deleted defaults 300 held ≡ delete.Deleted 5
+  pub deletes : sets.deleted tenSeconds 300 held ≡ delete.Deleted 5
   -- a set that finds what it asks for changes nothing; with an expired bucket it does
-  pub still : sets.idle defaults 300 7 comparator.Always 7 (mode.Preserve PreserveNewest) held ≡ true
-  pub stirs : sets.idle defaults 10001 7 comparator.Always 4 (mode.Preserve PreserveNewest) held ≡ false
+  pub still : sets.idle tenSeconds 300 7 comparator.Always 7 (mode.Preserve PreserveNewest) held ≡ true
+  pub stirs : sets.idle tenSeconds 10001 7 comparator.Always 4 (mode.Preserve PreserveNewest) held ≡ false
   -- a set that changes nothing needs no slot: an unknown key, set to 0, in a room where none is free
-  pub needs-none : condition 11 (sets.setTurns Absolute defaults true 0 (record { 0 = one }) comparator.Always 0 mode.Replace nothing) ≡ false
+  pub needs-none : condition 11 (sets.setTurns Absolute tenSeconds true 0 (record { 0 = one }) comparator.Always 0 mode.Replace nothing) ≡ false
   -- cleanup at an age equal to the stale time: the series stays, the factor goes
   pub series-500 : seriesStays two 700 1 500 ≡ true
   pub factor-500 : factorStays 200 700 1 500 ≡ false

@@ -1,4 +1,4 @@
--- Short seasons, of the gateway and of wrong ones, and what each answers, computed by the calls themselves: defaults (window 10 s, bucket 100 ms, factor 1)
+-- Short seasons, of the gateway and of wrong ones, and what each answers, computed by the calls themselves: window 10 s, bucket 100 ms, factor 1
 -- and 1 per second, so that H = 10, on a room of one slot, promised to party 1, and a ring of one. Newest first.
 -- Assumes nothing.
 use mathlib.Core.Path.{_≡_, refl}
@@ -64,11 +64,11 @@ abbrev pub idle : List ℕ
 idle = Room.empty 1 1
 
 abbrev pub busy : List ℕ
-busy = Calls.inc Settings.defaults idle 0 (sent caller []) rate 10 0 .words
+busy = Calls.inc Settings.tenSeconds idle 0 (sent caller []) rate 10 0 .words
 
 abbrev pub shotOf : List ℕ → ℕ → List ℕ → Shot
 shotOf key n room =
-    record { settings = Settings.defaults; room = room; reading = 0; caller = caller; controller = key; number = n; rate = rate; draw = 0 }
+    record { settings = Settings.tenSeconds; room = room; reading = 0; caller = caller; controller = key; number = n; rate = rate; draw = 0 }
 
 -- shot n of one controller, as the limiter lets through, and as it turns away
 abbrev pub goes : ℕ → Shot
@@ -80,7 +80,7 @@ stays n = shotOf [] n busy
 -- the same controller's, sent by party 2, to which the slot is promised then
 abbrev pub goesByOther : ℕ → Shot
 goesByOther n = record {
-  settings = Settings.defaults;
+  settings = Settings.tenSeconds;
   room = idle;
   reading = 0;
   caller = record { party = 2; first = 0; second = 1 };
@@ -92,7 +92,7 @@ goesByOther n = record {
 
 -- a cleanup with stale time 0
 abbrev pub cleans : Event
-cleans = calls (record { settings = Settings.defaults; room = idle; reading = 0; op = cleanup caller 0 })
+cleans = calls (record { settings = Settings.tenSeconds; room = idle; reading = 0; op = cleanup caller 0 })
 
 -- ---- the seasons
 

@@ -56,6 +56,10 @@ withWindow s v = record {
   «clock_mode» = s .«clock_mode»;
 }
 
+-- the settings of document 01's boundary values: W = 10, which is named, b = C = 100
+abbrev pub tenSeconds : Settings
+tenSeconds = withWindow defaults (record { 0 = 10 })
+
 abbrev pub withBucket : Settings → BucketSize → Settings
 withBucket s v = record {
   «window_size» = s .«window_size»;

@@ -5,7 +5,7 @@ use mathlib.Core.Path.{refl, sym, ap, _∙_}
 use mathlib.Core.List.{List, [], _∷_}
 use Prim.Native.Nat.{ℕ, zero, suc}
 use native.Mathlib.Omega.{arith}
-use Rattle.settings.specs.Settings.{defaults}
+use Rattle.settings.specs.Settings.{tenSeconds}
 use Rattle.rules.specs.declared.RoomKind.the-variants as kind
 use Rattle.frame.specs.Keys.{Bytes}
 use Rattle.steps.specs.Ops.{Call, verdictOf}
@@ -28,13 +28,13 @@ a-byte (suc i) = omega arith
 abbrev Any : List (Call kind.Suppressed) → Type 0
 Any calls = Unit {0}
 
-pub promises-stay : ApartBy kind.Suppressed defaults (verdictOf kind.Suppressed defaults) Any 1 2 2 → ⊥
+pub promises-stay : ApartBy kind.Suppressed tenSeconds (verdictOf kind.Suppressed tenSeconds) Any 1 2 2 → ⊥
 promises-stay f =
     let e = f quiet overrun (no-byte, tt) (no-byte, (a-byte, (no-byte, tt))) 0 (omega arith, tt) (omega arith, (omega arith, (omega arith, tt))) tt tt
     (refl, itself _, tt) in
     omega (arith, ap newest (sym (computed .quiet-told) ∙ ap numbers e ∙ computed .overrun-told))
 
-pub by-free-slots : ApartBy kind.Suppressed defaults byFree (AllGive 1 1) 1 2 2 → ⊥
+pub by-free-slots : ApartBy kind.Suppressed tenSeconds byFree (AllGive 1 1) 1 2 2 → ⊥
 by-free-slots f =
     let e = f twice twiceAmong (a-byte, (no-byte, tt)) (a-byte, (no-byte, (no-byte, tt))) 0 (omega arith, (omega arith, tt))
     (omega arith, (omega arith, (omega arith, tt))) ((refl, refl), ((refl, refl), tt)) ((refl, refl), ((refl, refl), ((refl, refl), tt)))

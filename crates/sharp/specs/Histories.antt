@@ -1,5 +1,5 @@
 -- Short histories of one key on a room of one slot and a ring of two buckets, and what each admits, computed by the calls themselves. Party 1 is promised the
--- slot. Default settings (window 10 s, bucket 100 ms, factor 1, readings in milliseconds) and 1 per second, so that H = S = 10, unless something else is said.
+-- slot. Window 10 s, bucket 100 ms, factor 1, readings in milliseconds, and 1 per second, so that H = S = 10, unless something else is said.
 -- Newest first.
 -- Assumes nothing.
 use mathlib.Core.Path.{_≡_, refl}
@@ -75,13 +75,13 @@ one = record { 0 = Ranges.one }
 abbrev pub two : RateLimit
 two = record { 0 = Ieee.ofInt Ieee.binary64 (pos 2) }
 
--- the defaults with hard limit factor 2: H = 20, S = 10
+-- with hard limit factor 2: H = 20, S = 10
 abbrev pub doubled : settings.Settings
-doubled = Settings.withFactor Settings.defaults (two .0)
+doubled = Settings.withFactor Settings.tenSeconds (two .0)
 
--- the defaults with readings in nanoseconds
+-- with readings in nanoseconds
 abbrev pub nano : settings.Settings
-nano = Settings.withClock Settings.defaults Nanoseconds
+nano = Settings.withClock Settings.tenSeconds Nanoseconds
 
 abbrev pub room : List ℕ
 room = Room.empty 1 2
@@ -185,15 +185,15 @@ sharing w k =
     (sent (record { party = k .caller .party; first = a; second = Room.slotsOf w - a }) (k .bytes))
 
 abbrev pub byFree : Limiter kind.Suppressed
-byFree w t (draws k rate n draw) = Calls.inc Settings.defaults w t (sharing w k) rate n draw
-byFree w t (snapshot k) = verdictOf kind.Suppressed Settings.defaults w t (snapshot k)
-byFree w t (getFactor k) = Calls.getFactor Settings.defaults w t (sharing w k)
-byFree w t (setRate k rate) = verdictOf kind.Suppressed Settings.defaults w t (setRate k rate)
-byFree w t (set k rate comparator n mode) = Set.set kind.Suppressed Settings.defaults w t (sharing w k) rate comparator n mode
-byFree w t (delete k) = verdictOf kind.Suppressed Settings.defaults w t (delete k)
-byFree w t (cleanup who stale) = verdictOf kind.Suppressed Settings.defaults w t (cleanup who stale)
-byFree w t (cleanupBoth who other whose stale) = verdictOf kind.Suppressed Settings.defaults w t (cleanupBoth who other whose stale)
-byFree w t (clear who) = verdictOf kind.Suppressed Settings.defaults w t (clear who)
+byFree w t (draws k rate n draw) = Calls.inc Settings.tenSeconds w t (sharing w k) rate n draw
+byFree w t (snapshot k) = verdictOf kind.Suppressed Settings.tenSeconds w t (snapshot k)
+byFree w t (getFactor k) = Calls.getFactor Settings.tenSeconds w t (sharing w k)
+byFree w t (setRate k rate) = verdictOf kind.Suppressed Settings.tenSeconds w t (setRate k rate)
+byFree w t (set k rate comparator n mode) = Set.set kind.Suppressed Settings.tenSeconds w t (sharing w k) rate comparator n mode
+byFree w t (delete k) = verdictOf kind.Suppressed Settings.tenSeconds w t (delete k)
+byFree w t (cleanup who stale) = verdictOf kind.Suppressed Settings.tenSeconds w t (cleanup who stale)
+byFree w t (cleanupBoth who other whose stale) = verdictOf kind.Suppressed Settings.tenSeconds w t (cleanupBoth who other whose stale)
+byFree w t (clear who) = verdictOf kind.Suppressed Settings.tenSeconds w t (clear who)
 
 -- the numbers that party 1 is told, newest first
 abbrev pub numbers : List (List ℕ) → List ℕ
@@ -211,38 +211,38 @@ spent s from to calls = inSpan from to (admitted s key room calls)
 
 -- of the room of two slots, from 0 to 9,900
 abbrev pub sharedSpent : Sent → List (Call kind.Suppressed) → ℕ
-sharedSpent k calls = inSpan 0 9900 (admitted Settings.defaults k sharedRoom calls)
+sharedSpent k calls = inSpan 0 9900 (admitted Settings.tenSeconds k sharedRoom calls)
 
 -- what n counted at reading t after the calls are answered
 abbrev pub answerTo : settings.Settings → List (Call kind.Suppressed) → ℕ → ℕ → RateLimitDecision
 answerTo s calls t n = Calls.inc s (words kind.Suppressed s room calls) t key one n 0 .answer
 
 pub record Computed : Type 0 where
-  pub hard : hardOf Settings.defaults one ≡ 10
-  pub reaches : spent Settings.defaults 0 9900 tenOnce ≡ 10
-  pub expires : spent Settings.defaults 100 10001 expired ≡ 20
+  pub hard : hardOf Settings.tenSeconds one ≡ 10
+  pub reaches : spent Settings.tenSeconds 0 9900 tenOnce ≡ 10
+  pub expires : spent Settings.tenSeconds 100 10001 expired ≡ 20
   pub nano-hard : hardOf nano one ≡ 10
   pub nano-expires : spent nano 100999999 10000000001 nanoExpired ≡ 20
-  pub cleans : spent Settings.defaults 100 10000 cleaned ≡ 20
-  pub sets : spent Settings.defaults 0 9900 (around lowers 1) ≡ 11
-  pub deletes : spent Settings.defaults 0 9900 (around (delete key) 10) ≡ 20
-  pub clears : spent Settings.defaults 0 9900 (around (clear caller) 10) ≡ 20
-  pub rates : spent Settings.defaults 0 9900 (around (setRate key two) 10) ≡ 20
-  pub begins : spent Settings.defaults 0 9900 begun ≡ 20
+  pub cleans : spent Settings.tenSeconds 100 10000 cleaned ≡ 20
+  pub sets : spent Settings.tenSeconds 0 9900 (around lowers 1) ≡ 11
+  pub deletes : spent Settings.tenSeconds 0 9900 (around (delete key) 10) ≡ 20
+  pub clears : spent Settings.tenSeconds 0 9900 (around (clear caller) 10) ≡ 20
+  pub rates : spent Settings.tenSeconds 0 9900 (around (setRate key two) 10) ≡ 20
+  pub begins : spent Settings.tenSeconds 0 9900 begun ≡ 20
   -- the clear of party 2 lets party 2's 10 more in, and not party 1's
   pub other-clears : sharedSpent ours clearedByOther ≡ 10
   pub own-clears : sharedSpent theirs clearedByOther ≡ 20
   -- party 1 is told another number where the promises given change, and where 11 is given by free slots alone; else the same
-  pub quiet-told : toldFirst (verdictOf kind.Suppressed Settings.defaults) quiet ≡ 0 ∷ []
-  pub overrun-told : toldFirst (verdictOf kind.Suppressed Settings.defaults) overrun ≡ 16 ∷ []
-  pub twice-told : toldFirst (verdictOf kind.Suppressed Settings.defaults) twice ≡ 11 ∷ 0 ∷ []
-  pub among-told : toldFirst (verdictOf kind.Suppressed Settings.defaults) twiceAmong ≡ 11 ∷ 0 ∷ []
+  pub quiet-told : toldFirst (verdictOf kind.Suppressed Settings.tenSeconds) quiet ≡ 0 ∷ []
+  pub overrun-told : toldFirst (verdictOf kind.Suppressed Settings.tenSeconds) overrun ≡ 16 ∷ []
+  pub twice-told : toldFirst (verdictOf kind.Suppressed Settings.tenSeconds) twice ≡ 11 ∷ 0 ∷ []
+  pub among-told : toldFirst (verdictOf kind.Suppressed Settings.tenSeconds) twiceAmong ≡ 11 ∷ 0 ∷ []
   pub twice-by-free : toldFirst byFree twice ≡ 0 ∷ 0 ∷ []
   pub among-by-free : toldFirst byFree twiceAmong ≡ 11 ∷ 0 ∷ []
   -- 1 more at 10,000, when the 10 are as old as the window, is over H
-  pub soft : softOf Settings.defaults one ≡ 10
-  pub past : aged 9999 10000 (admitted Settings.defaults key room tenOnce) ≡ 0
-  pub over : answerTo Settings.defaults tenOnce 10000 1 ≡ decided.Suppressed Ranges.one false
+  pub soft : softOf Settings.tenSeconds one ≡ 10
+  pub past : aged 9999 10000 (admitted Settings.tenSeconds key room tenOnce) ≡ 0
+  pub over : answerTo Settings.tenSeconds tenOnce 10000 1 ≡ decided.Suppressed Ranges.one false
   -- in nanoseconds 1 more at 10,000 ms and 999,999 ns is, when the 10 are as old as a first look takes for the window
   pub nano-soft : softOf nano one ≡ 10
   pub nano-past : aged 10000999998 10000999999 (admitted nano key room tenOnce) ≡ 0

@@ -16,7 +16,7 @@ use Rattle.answers.specs.declared.RateLimitDecision.{RateLimitDecision}
 use Rattle.answers.specs.declared.RateLimitDecision.the-variants as decided
 use Rattle.common.specs.declared.comparator.RateLimitComparator.the-variants.{Always}
 use Rattle.common.specs.declared.units.RateLimit.{RateLimit}
-use Rattle.settings.specs.Settings.{defaults, windowIn}
+use Rattle.settings.specs.Settings.{tenSeconds, windowIn}
 use Rattle.settings.specs.Clock.{windowInMilliseconds, windowTicks, joinTicks}
 use Rattle.settings.specs.declared.ClockMode.{ClockMode}
 use Rattle.settings.specs.declared.ClockMode.the-variants.{Milliseconds, Nanoseconds}
@@ -45,8 +45,8 @@ breaksIn s span limit Q calls from n le p e h f =
     absurd (omega (arith, e, h, g))
 
 breaks : (span : Settings → ℕ) (limit : Settings → RateLimit → ℕ) (Q : Clause) (calls : List (Call kind.Suppressed)) (from n : ℕ) →
-    AllBy Q defaults key one room calls → spent defaults from (from + span defaults) calls ≡ n → limit defaults one < n → Ceiling span limit Q → ⊥
-breaks span limit Q calls from n = breaksIn defaults span limit Q calls from n (omega arith)
+    AllBy Q tenSeconds key one room calls → spent tenSeconds from (from + span tenSeconds) calls ≡ n → limit tenSeconds one < n → Ceiling span limit Q → ⊥
+breaks span limit Q calls from n = breaksIn tenSeconds span limit Q calls from n (omega arith)
 
 -- n counted after the calls, at most the limit with what is admitted, that are answered Suppressed
 falls : (back : Settings → ℕ) (limit : Settings → RateLimit → ℕ) (Q : Clause) (s : Settings) (calls : List (Call kind.Suppressed)) (t n : ℕ) (x : Float)
@@ -116,8 +116,8 @@ module _ (P : Clause) (less : Gives LeavesAlone P) where
       (inl counts, (inr refl, (inl counts, (inl counts, tt)))) (computed .cleans) (omega (arith, computed .hard))
 
   -- a call between 10 counted and n more, with which the key is admitted m
-  between-sharp : (Q : Clause) (op : Op kind.Suppressed) (n m : ℕ) → Q defaults key one (words kind.Suppressed defaults room tenOnce) 0 op →
-      spent defaults 0 9900 (around op n) ≡ m → 10 < m → Ceiling lessBucket hardOf (Or P Q) → ⊥
+  between-sharp : (Q : Clause) (op : Op kind.Suppressed) (n m : ℕ) → Q tenSeconds key one (words kind.Suppressed tenSeconds room tenOnce) 0 op →
+      spent tenSeconds 0 9900 (around op n) ≡ m → 10 < m → Ceiling lessBucket hardOf (Or P Q) → ⊥
   between-sharp Q op n m q e h =
       breaks lessBucket hardOf (Or P Q) (around op n) 0 m (inl counts, (inr q, (inl counts, tt))) e (omega (arith, h, computed .hard))
 
@@ -140,7 +140,8 @@ module _ (P : Clause) (less : Gives LeavesAlone P) where
   -- the floor's look back: one tick less, of either clock mode alone
   pub window-sharp : (mode : ClockMode) → Floor (λ s. lookBack s - oneIn mode (s .«clock_mode»)) softOf P → ⊥
   window-sharp Milliseconds =
-      falls (λ s. lookBack s - oneIn Milliseconds (s .«clock_mode»)) softOf P defaults tenOnce 10000 1 _ _ (omega arith) (counts, (counts, tt)) (computed .over)
+      falls (λ s. lookBack s - oneIn Milliseconds (s .«clock_mode»)) softOf P tenSeconds tenOnce 10000 1 _ _ (omega arith) (counts, (counts, tt))
+      (computed .over)
       (omega (arith, computed .past, computed .soft))
   window-sharp Nanoseconds =
       falls (λ s. lookBack s - oneIn Nanoseconds (s .«clock_mode»)) softOf P nano tenOnce 10000999999 1 _ _ (omega arith) (counts, (counts, tt))

@@ -8,7 +8,7 @@ use native.Mathlib.Omega.{arith}
 use lib.ListN.{getD, set}
 use Rattle.answers.specs.Rows.{refusedRow, snapshotRow, totalRow}
 use Rattle.common.specs.Refusals.{first}
-use Rattle.settings.specs.Settings.{defaults, faults}
+use Rattle.settings.specs.Settings.{tenSeconds, faults}
 use Rattle.answers.specs.declared.SnapshotAnswer.{SnapshotAnswer}
 use Rattle.answers.specs.declared.TotalAnswer.{TotalAnswer}
 use Rattle.settings.specs.declared.Settings.{Settings}
@@ -28,18 +28,18 @@ use Rattle.wrong.specs.Limiters.{key-bytes}
 -- ---- given: the total is the third number of a row
 
 -- of the 10 at reading 0, at an age of one window
-ten-passes : first (plain Absolute defaults ten 10000 key) ≡ 0
+ten-passes : first (plain Absolute tenSeconds ten 10000 key) ≡ 0
 unfolding faults misfits turns totalRow
 ten-passes =
-    taken (plain Absolute defaults ten 10000 key) (omega arith) _ _ _ (demand1 .calls Absolute defaults ten 10000 (get key))
+    taken (plain Absolute tenSeconds ten 10000 key) (omega arith) _ _ _ (demand1 .calls Absolute tenSeconds ten 10000 (get key))
     (ap (λ (a : TotalAnswer). getD (totalRow a) 0 0) (boundary .live-10000))
 
 pub telling-breaks-the-absolute-sums : (g : Settings → List ℕ → ℕ → Sent → Verdict TotalAnswer) →
-    getD (totalRow (g defaults ten 10000 key .answer)) 2 0 ≢ 10 → TotalByRules g → ⊥
+    getD (totalRow (g tenSeconds ten 10000 key .answer)) 2 0 ≢ 10 → TotalByRules g → ⊥
 unfolding totalRow
 telling-breaks-the-absolute-sums g h p =
-    h (ap (λ (a : TotalAnswer). getD (totalRow a) 2 0) (p defaults ten 10000 key ten-passes .answer ∙
-    sym (demand2 .absolute-get defaults ten 10000 key ten-passes .answer) ∙ boundary .live-10000))
+    h (ap (λ (a : TotalAnswer). getD (totalRow a) 2 0) (p tenSeconds ten 10000 key ten-passes .answer ∙
+    sym (demand2 .absolute-get tenSeconds ten 10000 key ten-passes .answer) ∙ boundary .live-10000))
 
 -- of the 20 at reading 0, at the same reading
 twenty-passes : first (plain Suppressed (hardBy 2) twenty 0 key) ≡ 0
