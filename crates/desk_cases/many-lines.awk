@@ -24,7 +24,7 @@ BEGIN {
         if (next_below(25) == 0) { print bad(next_below(8)); continue }
         t += next_below(8) ? next_below(40) : next_below(3000)
         now = next_below(40) ? t : t - (t > 99 ? next_below(100) : 0)
-        key = next_below(30) ? "c" next_below(7) : "spare" digits(2)
+        key = next_below(30) ? "c" next_below(3) : "spare" digits(2)
         draw = next_below(3) ? digits(15) : (next_below(40) ? 0 : "9007199254740992")
         printf "t=%.0f op=%s key=%s rate=%s n=%s draw=%s\n", now, ops[1 + next_below(7)], key, rates[1 + next_below(7)], counts[1 + next_below(7)], draw
     }

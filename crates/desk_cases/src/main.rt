@@ -30,8 +30,9 @@ fn main() {
     run(b"long-lines");
     run(b"many-lines");
     run(b"two-rooms");
-    run(b"nine-keys");
+    run(b"five-keys");
     run(b"full-ring");
+    run(b"thirty-seconds");
     run(b"refusals");
     run(b"after-an-empty-call");
     run(b"no-last-newline");

@@ -34,24 +34,28 @@ pub record Feeding (w : Whole) (block old : List ℕ) (r : Progress) (a b h new 
 
 -- ---- the memories that a program makes
 
--- `desk`: "One absolute and one suppressed room; 8 slots each, rings of 128". `shots`: a table, and a room with a slot for each controller that it can know.
+-- `desk`: "One absolute and one suppressed room", with 4 slots each. `shots`: a table, and a room with a slot for each controller that it can know.
 abbrev pub slotsOf : Program → ℕ
-slotsOf program.Desk = 8
+slotsOf program.Desk = 4
 slotsOf program.Shots = mostControllers
 
+-- the rings of all these rooms: they suffice for a window of 30 s and buckets of 100 ms (document 02, ticket 5)
+abbrev pub ringLength : ℕ
+ringLength = 298
+
 abbrev pub fitsFirst : Program → List ℕ → Bool
-fitsFirst program.Desk w = fits (slotsOf program.Desk) 128 (length w)
+fitsFirst program.Desk w = fits (slotsOf program.Desk) ringLength (length w)
 fitsFirst program.Shots w = eqb (length w) tableWords
 
 abbrev pub newFirst : Program → List ℕ
-newFirst program.Desk = empty (slotsOf program.Desk) 128
+newFirst program.Desk = empty (slotsOf program.Desk) ringLength
 newFirst program.Shots = emptyTable
 
 abbrev pub fitsSecond : Program → List ℕ → Bool
-fitsSecond g w = fits (slotsOf g) 128 (length w)
+fitsSecond g w = fits (slotsOf g) ringLength (length w)
 
 abbrev pub newSecond : Program → List ℕ
-newSecond g = empty (slotsOf g) 128
+newSecond g = empty (slotsOf g) ringLength
 
 -- lent words that fit
 pub record Fitting (g : Program) (a b : List ℕ) : Type 0 where

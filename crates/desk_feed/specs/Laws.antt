@@ -21,7 +21,7 @@ use Rattle.desk_feed.specs.declared.Progress.{Progress}
 use Rattle.desk_turn.specs.declared.Turn.{Turn}
 use Rattle.desk_feed.specs.Feed.{Whole, whole, After, afterLine, rested, keeping, byte, andThen, feed, takes}
 use Rattle.desk_turn.specs.Lines.{roomy, Effect}
-use Rattle.desk_feed.specs.Contracts.{Kept, Gone, Feeding, slotsOf, fitsFirst, FirstMade, BothMade}
+use Rattle.desk_feed.specs.Contracts.{Kept, Gone, Feeding, slotsOf, ringLength, fitsFirst, FirstMade, BothMade}
 use Rattle.desk_turn.specs.Taking.{Took}
 
 -- ---- bytes
@@ -59,7 +59,7 @@ pub byte-gone : (w : Whole) (b : ℕ) (r : Desk) (h new : List ℕ) (at : ℕ) �
     Gone (record { whole = keeping w b; prints = [] }) new at (record { desk = r; next = at }) (w .first) (w .second) h new
 byte-gone w b r h new at k = record { after = whole-path (k .desk) refl refl (k .hold); put = put-none new at }
 
-pub both-made : (g : Program) (a b : List ℕ) (x y z : Bool) (a′ b′ : List ℕ) → FirstMade g a x a′ → Made (slotsOf g) 128 b y b′ → z ≡ (x && y) →
+pub both-made : (g : Program) (a b : List ℕ) (x y z : Bool) (a′ b′ : List ℕ) → FirstMade g a x a′ → Made (slotsOf g) ringLength b y b′ → z ≡ (x && y) →
     BothMade g a b z a′ b′
 both-made g a b x y z a′ b′ p q e =
     record { answer = e ∙ ap (λ (t : Bool). t && y) (p .answer) ∙ ap (λ (t : Bool). fitsFirst g a && t) (q .answer); first = p .words; second = q .words }

@@ -16,11 +16,12 @@ use desk_turn::take_line;
 pub const LONGEST_LINE: usize = 241;
 
 // The slots of each room of `desk`, and of the room of `shots`: there each controller of a full table has one.
-const DESK_SLOTS: u64 = 8;
+const DESK_SLOTS: u64 = 4;
 
 const SHOTS_SLOTS: u64 = 64;
 
-const RING: u64 = 128;
+// Rings that are never full at a window of 30 s and buckets of 100 ms.
+const RING: u64 = 298;
 
 // ---- bytes
 

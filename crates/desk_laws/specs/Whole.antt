@@ -13,8 +13,6 @@ use lib.Seq.{length-take-le, take-all, take-nil, take-suc-set, take-append-le, s
 use lib.Dec.{ltb, eqb}
 use borrow.Author.Tests.{lt-ltb, le-ltb, eq-eqb, ne-eqb}
 use Rattle.settings.specs.declared.Settings.{Settings}
-use Rattle.room.specs.Room.{empty}
-use Rattle.table.specs.Table.{emptyTable}
 use Rattle.fields.specs.Numbers.{show-short}
 use Rattle.lines.specs.Shown.{opText, showCall, showSettings, CallFits, SettingsFit}
 use Rattle.lines.specs.Laws.{keyIn, CallRead, SettingsRead, call-read, settings-read}
@@ -41,6 +39,7 @@ use Rattle.desk_turn.specs.declared.Program.the-variants.{Desk, Shots}
 use Rattle.desk_turn.specs.declared.Phase.{Phase}
 use Rattle.desk_turn.specs.declared.Phase.the-variants.{Waiting, Open, Ended}
 use Rattle.desk_feed.specs.Feed.{Whole, whole, fresh, After, afterLine, byteAs, byte, feed, isOver, finishing, running}
+use Rattle.desk_feed.specs.Contracts.{newFirst, newSecond}
 use Rattle.desk_turn.specs.Lines.{newline, roomy, shown, Effect, phaseIn, printsIn, steppedBy, called, turn}
 
 -- ---- the definition
@@ -311,16 +310,13 @@ pub whole-input : (g : Program) (a b h xs : List ℕ) (l : ℕ) → longestRead 
     runOut (whole (fresh g) a b h) xs l ≡ turns (Waiting g) a b (inputLines [] xs)
 whole-input g a b h xs l k m = first-run g xs a b h [] 0 l k m (holds-none h)
 
--- so at the memories that a program makes, what its run prints is what the input's lines print, for every input, with 200 bytes to hold a line and 65,536 to
--- put lines (`desk_run`'s contracts speak of this run). `desk`: rooms of 8 slots with rings of 128
-pub desk-prints : (h xs : List ℕ) → length h ≡ 200 → running 65536 (whole (fresh Desk) (empty 8 128) (empty 8 128) h) xs .prints ≡
-    turns (Waiting Desk) (empty 8 128) (empty 8 128) (inputLines [] xs)
-desk-prints h xs e = whole-input Desk (empty 8 128) (empty 8 128) h xs 65536 (omega arith) (omega arith)
+-- all that a program prints for the input xs, at the memories that it makes, with 65,536 bytes to put lines: `desk_run`'s contracts speak of this run
+abbrev pub printed : Program → List ℕ → List ℕ → List ℕ
+printed g h xs = running 65536 (whole (fresh g) (newFirst g) (newSecond g) h) xs .prints
 
--- `shots`: a table that knows nobody, and a room of 64 slots with rings of 128
-pub shots-prints : (h xs : List ℕ) → length h ≡ 200 → running 65536 (whole (fresh Shots) emptyTable (empty 64 128) h) xs .prints ≡
-    turns (Waiting Shots) emptyTable (empty 64 128) (inputLines [] xs)
-shots-prints h xs e = whole-input Shots emptyTable (empty 64 128) h xs 65536 (omega arith) (omega arith)
+-- so it is what the input's lines print, for every input, with 200 bytes to hold a line
+pub program-prints : (g : Program) (h xs : List ℕ) → length h ≡ 200 → printed g h xs ≡ turns (Waiting g) (newFirst g) (newSecond g) (inputLines [] xs)
+program-prints g h xs e = whole-input g (newFirst g) (newSecond g) h xs 65536 (omega arith) (omega arith)
 
 -- ---- bad lines
 

@@ -21,7 +21,7 @@ use Rattle.desk_turn.specs.Lines.{Effect, idle, roomy}
 use Rattle.desk_feed.specs.declared.Desk.{Desk}
 use Rattle.desk_feed.specs.declared.Progress.{Progress}
 use Rattle.desk_feed.specs.Feed.{Whole, whole, fresh, After, andThen, feed, overIn, isOver, finishAs, finishing, finished, running, endedIn, hasEnded}
-use Rattle.desk_feed.specs.Contracts.{Feeding, newFirst, newSecond, Fitting, BothMade}
+use Rattle.desk_feed.specs.Contracts.{Feeding, slotsOf, ringLength, newFirst, newSecond, Fitting, BothMade}
 use Rattle.desk_feed.specs.Laws.{feed-blocks, feeding-inside, progress}
 use Rattle.desk_run.specs.declared.Pumped.{Pumped}
 use Rattle.desk_run.specs.declared.Served.{Served}
@@ -243,13 +243,13 @@ ends-closed l m w xs d a₀ b₀ h last read put r a b e s n c = go (r .ending) 
 -- ---- the memories made anew
 
 -- the words that are lent are as many as each program's memories need
-pub desk-fits : (a b : List ℕ) → length a ≡ 3181 → length b ≡ 3181 → Fitting program.Desk a b
+pub desk-fits : (a b : List ℕ) → length a ≡ 3633 → length b ≡ 3633 → Fitting program.Desk a b
 unfolding fits
-desk-fits a b e f = record { first = ap (fits 8 128) e; second = ap (fits 8 128) f }
+desk-fits a b e f = record { first = ap (fits (slotsOf program.Desk) ringLength) e; second = ap (fits (slotsOf program.Desk) ringLength) f }
 
-pub shots-fit : (a b : List ℕ) → length a ≡ 389 → length b ≡ 25413 → Fitting program.Shots a b
+pub shots-fit : (a b : List ℕ) → length a ≡ 389 → length b ≡ 58053 → Fitting program.Shots a b
 unfolding fits
-shots-fit a b e f = record { first = ap (λ (n : ℕ). eqb n 389) e; second = ap (fits 64 128) f }
+shots-fit a b e f = record { first = ap (λ (n : ℕ). eqb n 389) e; second = ap (fits (slotsOf program.Shots) ringLength) f }
 
 pub serves-new : (l : ℕ) (g : Program) (a b : List ℕ) (x : Bool) (a₁ b₁ : List ℕ) (d : Desk) (h : List ℕ) (r : Served) (a₂ b₂ h₂ : List ℕ) → Fitting g a b →
     BothMade g a b x a₁ b₁ → d ≡ fresh g → Serves l (whole d a₁ b₁ h) r a₂ b₂ h₂ → Serves l (whole (fresh g) (newFirst g) (newSecond g) h) r a₂ b₂ h₂

@@ -12,13 +12,13 @@ use desk_turn::Program;
 use libc::STDERR_FILENO;
 use libc::STDOUT_FILENO;
 
-// The words of a room of 8 slots with rings of 128.
-const DESK_ROOM: usize = 3181;
+// The words of a room of 4 slots with rings of 298.
+const DESK_ROOM: usize = 3633;
 
-// The words of a table, and of a room of 64 slots with rings of 128.
+// The words of a table, and of a room of 64 slots with rings of 298.
 const TABLE: usize = 389;
 
-const SHOTS_ROOM: usize = 25413;
+const SHOTS_ROOM: usize = 58053;
 
 // The bytes that are held of a line that a block cuts: more than any line has that is not bad.
 const HOLD: usize = 200;

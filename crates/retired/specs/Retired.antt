@@ -8,7 +8,7 @@ use mathlib.Core.List.{List, []}
 use mathlib.Core.Logic.{_≢_}
 use Prim.Native.Nat.{ℕ}
 use native.Mathlib.Omega.{arith}
-use lib.Dec.{eqb, ltb}
+use lib.Dec.{ltb}
 use lib.ListN.{length, getD}
 use borrow.Author.Tests.{eq-eqb, ne-eqb}
 use Rattle.answers.specs.Rows.{row, refusedRow, doneRow, readOutRow, ringRow, shotRow, numberOf}
@@ -19,12 +19,9 @@ use Rattle.settings.specs.declared.Settings.{Settings}
 use Rattle.ring_length.specs.RingLength.{ringFor}
 use Rattle.ring.specs.declared.Bucket.{Bucket}
 use Rattle.ring.specs.Ring.{noBucket}
-use Rattle.room.specs.Room.{empty}
 use Rattle.parties.specs.declared.Caller.{Caller}
 use Rattle.parties.specs.Parties.{Sent, sent}
-use Rattle.table.specs.Table.{emptyTable}
 use Rattle.rules.specs.declared.RoomKind.{RoomKind}
-use Rattle.rules.specs.declared.RoomKind.the-variants as kind
 use Rattle.provider.specs.Provider as Provider
 use Rattle.readout.specs.ReadOut as ReadOut
 use Rattle.finding.specs.Finding.{bucketsOf}
@@ -35,33 +32,26 @@ use Rattle.rows.specs.Plain.{Given}
 use Rattle.abi.specs.Faces.{Face, Faced, shown, shownBoth, shownGateway, shownSet, makeNumber}
 use Rattle.abi.specs.ReadOut.{cellRow, bucketRow}
 use Rattle.lines.specs.Laws.{keyIn}
-use Rattle.lines.specs.Reading.{readCall, readSettings}
+use Rattle.lines.specs.Reading.{readCall}
 use Rattle.lines.specs.declared.CallLine.{CallLine}
 use Rattle.lines.specs.declared.CallLine.the-variants as call
-use Rattle.lines.specs.declared.Op as lineOp
-use Rattle.lines.specs.declared.Op.the-variants.{AbsoluteInc, AbsoluteGet, SuppressedInc, SuppressedGet}
-use Rattle.lines.specs.declared.SettingsLine.{SettingsLine}
-use Rattle.lines.specs.declared.SettingsLine.the-variants as settings
 use Rattle.shot_lines.specs.Reading.{readShot}
 use Rattle.shot_lines.specs.declared.ShotLine.{ShotLine}
 use Rattle.shot_lines.specs.declared.ShotLine.the-variants as shotLine
 use Rattle.desk_lines.specs.Lines.{alone, badLine, perMinute}
 use Rattle.desk_step.specs.Desk as Calls
-use Rattle.desk_step.specs.Desk.{settingsOf, openWith, openingIn, openingOf}
-use Rattle.desk_step.specs.declared.Opening.the-variants as opening
 use Rattle.shots_step.specs.Shots as Shots
 use Rattle.desk_turn.specs.declared.Program.{Program}
 use Rattle.desk_turn.specs.declared.Program.the-variants as program
-use Rattle.desk_turn.specs.declared.Phase.{Phase}
-use Rattle.desk_turn.specs.declared.Phase.the-variants.{Waiting, Open, Ended}
-use Rattle.desk_turn.specs.Lines.{printsIn, steppedBy, turn}
-use Rattle.desk_feed.specs.Feed.{whole, fresh, running}
-use Rattle.desk_laws.specs.Whole.{inputLines, turns, desk-prints, shots-prints}
+use Rattle.desk_turn.specs.declared.Phase.the-variants.{Waiting}
+use Rattle.desk_turn.specs.Lines.{steppedBy}
+use Rattle.desk_feed.specs.Contracts.{newFirst, newSecond}
+use Rattle.desk_laws.specs.Whole.{inputLines, printed, program-prints}
 use Rattle.steps.specs.Order.{Numbered, TurnedBy, turned-by, not-numbered}
-use Rattle.steps.specs.Ops as Ops
 use Rattle.steps.specs.Ops.{Op, rowOf, verdictOf, answerNumber}
 use Rattle.promises.specs.Refusals.{reads, reads-number, demand1}
-use Rattle.retired.specs.Lines.{Without, decision-code, shot-code, total-code, snapshot-code, no-line, one-line, all-lines}
+use Rattle.desk_laws.specs.Lines.{Without, Stand, shot-code, all-lines}
+use Rattle.desk_laws.specs.Asks.{kindOf, roomOf, opOf, call-code, turn-line}
 
 -- ---- the statement
 
@@ -96,8 +86,7 @@ pub record NeverGiven (n : ℕ) : Type 0 where
   -- making a room or a table
   pub face-make : (made : Bool) → makeNumber made ≢ n
   -- all that the programs print, for any input
-  pub desk : (h xs : List ℕ) → length h ≡ 200 → Without n (running 65536 (whole (fresh program.Desk) (empty 8 128) (empty 8 128) h) xs .prints)
-  pub shots-lines : (h xs : List ℕ) → length h ≡ 200 → Without n (running 65536 (whole (fresh program.Shots) emptyTable (empty 64 128) h) xs .prints)
+  pub lines : (g : Program) (h xs : List ℕ) → length h ≡ 200 → Without n (printed g h xs)
 
 -- ---- n is no number of the order, and it is not 0
 
@@ -142,19 +131,11 @@ module _ (n : ℕ) (z : n ≢ 0) (h : Numbered n → ⊥) where
 
   -- ---- the lines
 
-  desk-call : (s : Settings) (a b : List ℕ) (t : ℕ) (op : lineOp.Op) (key : List ℕ) (rate c draw : ℕ) →
-      Calls.callOf s a b t op key rate c draw .answer .code ≢ n
-  unfolding Calls.callOf Calls.absoluteInc Calls.absoluteGet Calls.suppressedInc Calls.suppressedGet
-  desk-call s a b t AbsoluteInc key rate c draw e =
-      by-calls kind.Absolute s a t (Ops.inc (sent (alone a) key) (perMinute rate) c) (sym (decision-code t _ _) ∙ e)
-  desk-call s a b t AbsoluteGet key rate c draw e = by-calls kind.Absolute s a t (Ops.get (sent (alone a) key)) (sym (total-code t _) ∙ e)
-  desk-call s a b t SuppressedInc key rate c draw e =
-      by-calls kind.Suppressed s b t (Ops.draws (sent (alone b) key) (perMinute rate) c draw) (sym (decision-code t _ _) ∙ e)
-  desk-call s a b t SuppressedGet key rate c draw e = by-calls kind.Suppressed s b t (Ops.snapshot (sent (alone b) key)) (sym (snapshot-code t _ _) ∙ e)
-
   desk-step : (s : Settings) (a b line : List ℕ) (c : CallLine) → Calls.stepOf s a b line c .answer .code ≢ n
   desk-step s a b line call.Bad = other badLine (omega arith)
-  desk-step s a b line (call.Call t op start end rate c draw) = desk-call s a b t op (keyIn line start end) rate c draw
+  desk-step s a b line (call.Call t op start end rate c draw) = λ e.
+      by-calls (kindOf op) s (roomOf op a b) t (opOf op (roomOf op a b) (keyIn line start end) rate c draw)
+      (sym (call-code s a b t op (keyIn line start end) rate c draw) ∙ e)
 
   shot-step : (s : Settings) (w r line : List ℕ) (c : ShotLine) → Shots.stepOf s w r line c .answer .code ≢ n
   unfolding Shots.shotOf
@@ -167,32 +148,19 @@ module _ (n : ℕ) (z : n ≢ 0) (h : Numbered n → ⊥) where
   stepped program.Desk s a b line = desk-step s a b line (readCall line)
   stepped program.Shots s a b line = shot-step s a b line (readShot line)
 
-  -- "A bad or missing settings line prints one line, with t 0 and code 14 or 1 to 4"
   faulty : (s : Settings) → first (faults s) ≢ n
   unfolding faults
   faulty s =
       from (faults s) (refusedRow (first (faults s))) [] [] (turned-by {B = List ℕ} (faults s) _ [] [] (omega arith) (λ k. refl) (λ k. k) (λ k. refl))
 
-  opened : (s : Settings) → Without n (printsIn (openWith s))
-  unfolding openWith
-  opened s = go (eqb (first (faults s)) 0)
-    where
-      go : (b : Bool) → Without n (printsIn (cond b (opening.Open s) (opening.Refused (first (faults s)))))
-      go true = no-line n
-      go false = one-line n _ (faulty s)
+  abbrev Anywhere : Stand
+  Anywhere p a b = Unit {0}
 
-  opening-lines : (c : SettingsLine) → Without n (printsIn (openingIn c))
-  opening-lines settings.Bad = one-line n _ (other badLine (omega arith))
-  opening-lines (settings.Settings window bucket factor cache) = opened (settingsOf window bucket factor cache)
-
-  turn-lines : (p : Phase) (a b line : List ℕ) → Without n (turn p a b line .prints)
-  unfolding turn openingOf
-  turn-lines (Waiting g) a b line = opening-lines (readSettings line)
-  turn-lines (Open g s) a b line = one-line n _ (stepped g s a b line)
-  turn-lines Ended a b line = no-line n
-
-  input-lines : (g : Program) (a b xs bytes : List ℕ) → bytes ≡ turns (Waiting g) a b (inputLines [] xs) → Without n bytes
-  input-lines g a b xs bytes e = subst (Without n) (sym e) (all-lines n turn-lines (Waiting g) a b (inputLines [] xs))
+  input-lines : (g : Program) (h xs : List ℕ) → length h ≡ 200 → Without n (printed g h xs)
+  input-lines g h xs e =
+      subst (Without n) (sym (program-prints g h xs e))
+      (all-lines n Anywhere (turn-line n (other badLine (omega arith)) faulty Anywhere (λ g s a b line u. stepped g s a b line)) (λ p a b line u. u)
+      (Waiting g) (newFirst g) (newSecond g) (inputLines [] xs) tt)
 
   pub unnumbered : NeverGiven n
   unnumbered = record {
@@ -210,8 +178,7 @@ module _ (n : ℕ) (z : n ≢ 0) (h : Numbered n → ⊥) where
     face-bucket = λ kind s w key i m a g. not-told _ m a (from _ _ _ _ (bucket-turned kind s w key i)) (g .number) (g .answer);
     face-ring = λ s m a g. not-told _ m a (from _ _ _ _ (demand1 .sufficient-ring s)) (g .number) (g .answer);
     face-make = make;
-    desk = λ hold xs e. input-lines program.Desk (empty 8 128) (empty 8 128) xs _ (desk-prints hold xs e);
-    shots-lines = λ hold xs e. input-lines program.Shots emptyTable (empty 64 128) xs _ (shots-prints hold xs e);
+    lines = input-lines;
   }
 
 -- "its number is not used again"

@@ -25,6 +25,8 @@ fn main() {
     run(b"lower");
     run(b"sixty-five");
     run(b"no-slot-free");
+    run(b"full-ring");
+    run(b"thirty-seconds");
     run(b"held");
     run(b"long-after");
     run(b"turned-away");

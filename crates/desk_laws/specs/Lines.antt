@@ -153,11 +153,17 @@ more-lines n xs ys p q = record {
   codes = none-both n (p .lines) (q .lines) (p .codes) (q .codes);
 }
 
--- a whole input: where each turn prints such lines, all do
-pub all-lines : (n : ℕ) → ((p : Phase) (a b line : List ℕ) → Without n (Turn.turn p a b line .prints)) →
-    (p : Phase) (a b : List ℕ) (ls : List (List ℕ)) → Without n (turns p a b ls)
+-- where a program stands between two lines: the phase, and its two memories
+abbrev pub Stand : Type 1
+Stand = Phase → List ℕ → List ℕ → Type 0
+
+-- a whole input: where each turn prints such lines, and leaves what makes it so, all do
+pub all-lines : (n : ℕ) (P : Stand) → ((p : Phase) (a b line : List ℕ) → P p a b → Without n (Turn.turn p a b line .prints)) →
+    ((p : Phase) (a b line : List ℕ) → P p a b → let e = Turn.turn p a b line in P (e .phase) (e .first) (e .second)) →
+    (p : Phase) (a b : List ℕ) (ls : List (List ℕ)) → P p a b → Without n (turns p a b ls)
 unfolding turns
-all-lines n each p a b [] = no-line n
-all-lines n each p a b (l ∷ ls) =
+all-lines n P each keeps p a b [] h = no-line n
+all-lines n P each keeps p a b (l ∷ ls) h =
     let e = Turn.turn p a b l in
-    more-lines n (e .prints) (turns (e .phase) (e .first) (e .second) ls) (each p a b l) (all-lines n each (e .phase) (e .first) (e .second) ls)
+    more-lines n (e .prints) (turns (e .phase) (e .first) (e .second) ls) (each p a b l h)
+    (all-lines n P each keeps (e .phase) (e .first) (e .second) ls (keeps p a b l h))
