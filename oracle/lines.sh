@@ -1,11 +1,12 @@
 #!/bin/sh
-# lines.sh desk|shots OTHER [inputs] [lines] [seed]: compares another program of that name with the twin's, byte for byte.
+# lines.sh desk|shots OTHER [inputs] [lines] [seed]: compares another program of that name with the twin's, byte for byte. Of 400 lines or
+# more, one input in eight fills a ring.
 set -eu
 here=$(cd "$(dirname "$0")" && pwd)
 program=$1
 other=$2
 inputs=${3:-200}
-lines=${4:-300}
+lines=${4:-400}
 seed=${5:-1}
 case $program in
 desk) makes=desk ;;

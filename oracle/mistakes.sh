@@ -1,6 +1,6 @@
 #!/bin/sh
 # mistakes.sh [calls] [pattern] [broken]: plants each mistake of mistakes/ in a copy of the twin, one at a time, and tells whether the
-# comparison with the original, of two parties and of one, or of rings that suffice finds it, or the comparison of shots one in the gateway;
+# comparison with the original, of two parties and of one, of rings that suffice or of the defaults finds it, or that of shots one in the gateway;
 # with `broken`, whether that many damaged rooms beside the Rattle code do. Needs a judge built by build.sh.
 set -eu
 cd "$(dirname "$0")"

@@ -37,17 +37,17 @@ impl Clock {
     }
 }
 
-/// The default window, in seconds, and a longer one.
-const DEFAULT_WINDOW: u64 = 10;
-const LONG_WINDOW: u64 = 30;
+/// The default window, in seconds, and the default before ticket 5, which most loads keep: their figures stay comparable.
+const DEFAULT_WINDOW: u64 = 30;
+const SHORT_WINDOW: u64 = 10;
 
 /// The default bucket, in milliseconds, and a smaller one.
 const DEFAULT_BUCKET: u64 = 100;
 const SMALL_BUCKET: u64 = 10;
 
-/// The most default buckets that the default window holds, and the longer one: they are 101 ms apart.
-const MOST_BUCKETS: u64 = 100;
-const MOST_BUCKETS_OF_LONG: u64 = 298;
+/// The most default buckets that the default window holds, and the shorter one: they are 101 ms apart.
+const MOST_BUCKETS: u64 = 298;
+const MOST_BUCKETS_OF_SHORT: u64 = 100;
 
 /// What is asked of a key.
 #[derive(Clone, Copy, Debug, PartialEq, Eq)]
@@ -146,12 +146,12 @@ pub struct Shape {
 }
 
 impl Shape {
-    /// Full rings: of default buckets where they just fill a window, else of small ones in the default window. Readings are milliseconds.
+    /// Full rings: of default buckets where they just fill a window, else of small ones in the shorter window. Readings are milliseconds.
     pub fn full(keys: usize, live: u64) -> Self {
         let (window, bucket) = match live {
-            ..=MOST_BUCKETS => (DEFAULT_WINDOW, DEFAULT_BUCKET),
-            MOST_BUCKETS_OF_LONG => (LONG_WINDOW, DEFAULT_BUCKET),
-            _ => (DEFAULT_WINDOW, SMALL_BUCKET),
+            ..=MOST_BUCKETS_OF_SHORT => (SHORT_WINDOW, DEFAULT_BUCKET),
+            MOST_BUCKETS => (DEFAULT_WINDOW, DEFAULT_BUCKET),
+            _ => (SHORT_WINDOW, SMALL_BUCKET),
         };
         let (deed, parties, clock) = (Deed::Increments, Parties::One, Clock::Milliseconds);
         Shape { deed, keys, parties, live, ring: live as usize, window, bucket, clock }

@@ -15,7 +15,7 @@ use crate::random::{Dice, bad_rate, bad_settings, key_pool, nameless, rate, room
 use crate::state::Key;
 use crate::together;
 use crate::trial::Trials;
-use crate::{Others, others};
+use crate::{Others, SHORT_WINDOW, others};
 
 const TOP: u64 = 1 << 53;
 const FIXED: usize = 7;
@@ -509,7 +509,7 @@ pub fn run(clock: ClockMode, rooms: u64, seed: u64) -> Trials {
     let mut histories = Comparison::new(clock, Others::new());
     let mut shared =
         Comparison { shared: Some(Shared::default()), ..Comparison::new(clock, Others::new()) };
-    let settings = Settings { clock, ..Settings::default() };
+    let settings = Settings { window: SHORT_WINDOW, clock, ..Settings::default() };
     for kind in [Kind::Absolute, Kind::Suppressed] {
         let beside = twin::room::empty_room(2, 2);
         let dice = &mut dice;

@@ -171,7 +171,7 @@ pub struct History<'a> {
     pub settings: Settings,
     pub keys: &'a [Key],
     pub rooms: Rooms,
-    original: Original,
+    pub original: Original,
     /// After a factor at perceived rate zero, or in nanoseconds an eviction for 10 or 12: the original is asked no more.
     is_past_original: bool,
     /// From an absolute increment that took expired buckets out: they are left out of both states.

@@ -11,6 +11,16 @@ use crate::input_lines::{Program, input};
 use crate::lines_check::{begun, differs, fields, key, lines, number, rate, refused, stored, told};
 use crate::state::Key;
 
+/// The rooms that desk holds.
+const SLOTS: usize = 4;
+const RING: usize = 298;
+
+/// Refusals that the lines of a run must meet: each slot is another key's, and the ring is full.
+const COMES: [&str; 2] = ["code=11", "code=12"];
+
+/// So many inputs at least, for both to come.
+const LEAST: u64 = 24;
+
 fn call(line: &str) -> Option<(u64, String, Op)> {
     let names = ["t", "op", "key", "rate", "n", "draw"];
     let [t, op, name, per_minute, n, draw] = fields(line, names)?;
@@ -40,8 +50,8 @@ fn wanted(comparison: &mut Comparison, lines: &[String], keys: &[Key]) -> String
         Ok(settings) => settings,
         Err(line) => return line,
     };
-    let mut history = History::new(settings, 8, 128, keys);
-    let caller = Caller { party: SOLE, first: 8, second: 0 };
+    let mut history = History::new(settings, SLOTS, RING, keys);
+    let caller = Caller { party: SOLE, first: SLOTS as u64, second: 0 };
     comparison.begin(&history);
     let mut out = String::new();
     let mut is_compared = true;
@@ -67,7 +77,8 @@ fn wanted(comparison: &mut Comparison, lines: &[String], keys: &[Key]) -> String
 
 /// So many inputs.
 pub fn run(comparison: &mut Comparison, inputs: u64, seed: u64) {
-    for at in 0..inputs {
+    let mut met = [false; COMES.len()];
+    for at in 0..inputs.max(LEAST) {
         if !comparison.goes_on() {
             return;
         }
@@ -78,9 +89,16 @@ pub fn run(comparison: &mut Comparison, inputs: u64, seed: u64) {
         names.dedup();
         let keys: Vec<Key> = names.iter().map(|name| Key::new(SOLE, name.as_bytes())).collect();
         let wanted = wanted(comparison, &lines, &keys);
+        for (met, code) in met.iter_mut().zip(COMES) {
+            *met |= wanted.contains(code);
+        }
         if let Some(fault) = differs("desk", &input, &desk(&input), &wanted) {
             comparison.differed += 1;
             eprintln!("{fault}");
         }
+    }
+    for (_, code) in met.iter().zip(COMES).filter(|(met, _)| !**met) {
+        comparison.differed += 1;
+        eprintln!("differs: no line of desk was told {code}");
     }
 }

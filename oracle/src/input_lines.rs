@@ -60,7 +60,7 @@ fn key(dice: &mut Dice, most_keys: u64) -> String {
 /// The reading of the next line, which mostly rises.
 fn reading(dice: &mut Dice, now: &mut u64, most_keys: u64) -> u64 {
     let rises = [0, 0, 1, 2, 10, 50, 99, 100, 101, 500, 999, 1000, 1001, 9999, 10_000, 10_001];
-    // With one key the reading mostly rises little, so that a ring can fill.
+    // With one key the reading mostly rises little, so that it gathers buckets.
     let is_long = most_keys > 1 || dice.once_in(100);
     *now += dice.pick(if is_long { &rises } else { &rises[..9] });
     match dice.below(50) {
@@ -135,11 +135,11 @@ struct Choice {
 }
 
 impl Program {
-    /// Shots count 1: they come between limits that are not too near.
+    /// Desk has slots for 4 keys. Shots count 1: they come between limits that are not too near.
     fn choice(self) -> Choice {
         match self {
             Program::Desk => Choice {
-                keys: [1, 2, 5, 10],
+                keys: [1, 2, 3, 5],
                 windows: [1, 1, 2, 10, 10, 10, 60, 33_554_432],
                 factors: [1, 1, 2, 2, 3, 4, 1000, TOP],
             },
@@ -170,8 +170,46 @@ fn damaged(dice: &mut Dice, line: String) -> Vec<u8> {
     bytes
 }
 
+/// One input in so many fills a ring.
+const FILLING: u64 = 8;
+
+/// Its windows and buckets, by turns. The programs' rings of 298 just suffice for the first, the defaults; with the others 12 is met.
+const SPANS: [(u64, u64); 3] = [(30, 100), (30, 99), (60, 100)];
+
+/// A key's ring fills, which takes some 350 lines: increments of one limiter, or shots, come b + 1 ms after one another; now and then a line
+/// more stands at the same reading.
+fn filling(program: Program, lines: u64, turn: u64) -> Vec<u8> {
+    let mut dice = Dice::new(turn);
+    let (window, bucket) = SPANS[turn as usize % SPANS.len()];
+    let usual = if turn.is_multiple_of(2) { "ainc" } else { "sinc" };
+    let any = ["ainc", "sinc", "aget", "sget"];
+    let (mut now, mut shot) = (0, 0);
+    let mut input = format!("window={window} bucket={bucket} factor=2 cache=100\n");
+    for _ in 0..lines {
+        let (op, key) = match dice.once_in(8) {
+            true => (dice.pick(&any), dice.pick(&["a", "b"])),
+            false => {
+                now += bucket + 1;
+                shot += 1;
+                (usual, "a")
+            }
+        };
+        let (count, draw) = (dice.below(3), dice.below(TOP));
+        input += &match program {
+            Program::Desk => {
+                format!("t={now} op={op} key={key} rate={TOP} n={count} draw={draw}\n")
+            }
+            Program::Shots => format!("t={now} ctl={key} shot={shot} rate={TOP} draw={draw}\n"),
+        };
+    }
+    input.into_bytes()
+}
+
 /// A whole input of so many call lines.
 pub fn input(program: Program, lines: u64, seed: u64) -> Vec<u8> {
+    if seed.is_multiple_of(FILLING) {
+        return filling(program, lines, seed / FILLING);
+    }
     let mut dice = Dice::new(seed);
     if dice.once_in(50) {
         return Vec::new();

@@ -32,6 +32,7 @@ mod apart;
 mod broken;
 mod callers;
 mod compare;
+mod defaults;
 mod desk_check;
 mod expected;
 #[cfg(archive)]
@@ -66,6 +67,7 @@ use std::io::Write;
 
 use apart::Apart;
 use compare::{Comparison, Shared};
+use defaults::Defaults;
 use input_lines::Program;
 use rings::Rings;
 use shots::Shots;
@@ -117,6 +119,12 @@ fn main() {
             rings.history(number(seed));
             println!("{rings}");
         }
+        ["defaults", calls, seed] => {
+            let mut both = CLOCKS.map(|clock| Defaults::new(clock, 100));
+            both.iter_mut().for_each(|one| one.run(number(calls), number(seed)));
+            show(&both);
+            end(both.iter().map(|Defaults(one)| one.differed).sum());
+        }
         ["broken", rooms, seed] => break_rooms(number(rooms), number(seed)),
         [calls, seed, ref wishes @ ..]
             if wishes.iter().all(|wish| ["tally", "first", "few"].contains(wish)) =>
@@ -125,10 +133,14 @@ fn main() {
         }
         _ => panic!(
             "CALLS SEED [tally] [first] [few], history|parties|apart SEED [nanoseconds], broken ROOMS SEED, \
-             shots|rings CALLS SEED [first], season|ring SEED [nanoseconds], sample CALLS SEED, desk LINES SEED, or shot-lines LINES SEED"
+             shots|rings CALLS SEED [first], season|ring SEED [nanoseconds], defaults CALLS SEED, sample CALLS SEED, \
+             desk LINES SEED, or shot-lines LINES SEED"
         ),
     }
 }
+
+/// The window, in seconds, of checks whose rates and readings are made for it.
+const SHORT_WINDOW: u64 = 10;
 
 const CLOCKS: [ClockMode; 2] = [ClockMode::Milliseconds, ClockMode::Nanoseconds];
 
@@ -257,6 +269,7 @@ struct Compared {
     both: [Comparison; 2],
     two: [TwoParties; 2],
     rings: [Rings; 2],
+    defaults: [Defaults; 2],
 }
 
 impl Compared {
@@ -265,6 +278,7 @@ impl Compared {
         self.both.iter().all(Comparison::goes_on)
             && self.two.iter().all(TwoParties::goes_on)
             && self.rings.iter().all(Rings::goes_on)
+            && self.defaults.iter().all(|Defaults(one)| one.goes_on())
     }
 
     /// One part in each clock mode. Nanoseconds mostly have the first difference.
@@ -276,24 +290,36 @@ impl Compared {
         }
     }
 
+    /// The default settings in each clock mode.
+    fn run_defaults(&mut self, calls: u64, seed: u64) {
+        for at in 0..self.defaults.len() {
+            if self.goes_on() {
+                self.defaults[at].run(calls, seed);
+            }
+        }
+    }
+
     fn differed(&self) -> u64 {
         let both: u64 = self.both.iter().map(|one| one.differed).sum();
         let two: u64 = self.two.iter().map(TwoParties::differed).sum();
-        both + two + self.rings.iter().map(Rings::differed).sum::<u64>()
+        let defaults: u64 = self.defaults.iter().map(|Defaults(one)| one.differed).sum();
+        both + two + defaults + self.rings.iter().map(Rings::differed).sum::<u64>()
     }
 }
 
-/// All parts, two parties, the length of rings, and the shots; for each two lines.
+/// All parts, two parties, the length of rings, the defaults, and the shots; for each two lines.
 fn compare(calls: u64, seed: u64, wishes: &[&str]) -> ! {
     let both = CLOCKS.map(|clock| comparison(clock, wishes));
     let two = CLOCKS.map(|clock| TwoParties::new(clock, wishes));
     let rings = both.each_ref().map(|one| Rings::new(one.clock, one.most_differing));
-    let mut compared = Compared { both, two, rings };
+    let defaults = both.each_ref().map(|one| Defaults::new(one.clock, one.most_differing));
+    let mut compared = Compared { both, two, rings, defaults };
     compared.each(|one, _, _| compare_desk(one, calls, seed));
     compared.each(|_, _, rings| rings.numbers(calls / 60, seed));
     compared.each(|_, two, _| two.run(calls, seed));
     compared.each(|one, _, _| random::run(one, calls, seed));
     compared.each(|_, _, rings| rings.run(calls / 2, seed));
+    compared.run_defaults(calls / 10, seed);
     let shots = match compared.goes_on() {
         true => compare_shots(compared.both[0].most_differing, calls / 5, seed),
         false => CLOCKS.map(Shots::new),
@@ -305,10 +331,11 @@ fn compare(calls: u64, seed: u64, wishes: &[&str]) -> ! {
             all_short::run(one, seed);
         });
     }
-    let Compared { both, two, rings } = &compared;
+    let Compared { both, two, rings, defaults } = &compared;
     two.iter().map(|two| &two.shared).chain(both).for_each(Comparison::show_tally);
     show(&shots);
     show(&rings.each_ref());
+    show(&defaults.each_ref());
     show(&two.each_ref().map(|two| &two.apart));
     show(&two.each_ref().map(|two| &two.shared));
     show(&both.each_ref());

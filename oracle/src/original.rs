@@ -110,8 +110,17 @@ impl Original {
             )
             .expect("a cache period"),
         };
+        Original::of(config, settings.clock)
+    }
+
+    /// With this window; the rest is what the original has where nothing is named.
+    pub fn with_window(window_size: WindowSize, clock: ClockMode) -> Self {
+        Original::of(ProviderConfig { window_size, ..ProviderConfig::default() }, clock)
+    }
+
+    fn of(config: ProviderConfig, clock: ClockMode) -> Self {
         let provider = LocalRateLimiterProvider::new(config, CleanupConfig::default());
-        Original { provider, clock: settings.clock }
+        Original { provider, clock }
     }
 
     /// The answer to a call that was not refused.

@@ -421,10 +421,10 @@ fn start<'a>(
 }
 
 /// How a random history goes on: with how many keys, for how many calls, and whether they go to both rooms.
-struct Course {
-    keys: u64,
-    calls: u64,
-    both: bool,
+pub struct Course {
+    pub keys: u64,
+    pub calls: u64,
+    pub both: bool,
 }
 
 /// A random history before its first call.
@@ -493,6 +493,17 @@ fn step(
     goes_on
 }
 
+/// The calls of a random history; false where the comparison ends it.
+pub fn play(
+    comparison: &mut Comparison,
+    history: &mut History,
+    source: &mut Source,
+    course: &Course,
+) -> bool {
+    comparison.begin(history);
+    (0..course.calls).all(|_| step(comparison, history, source, course))
+}
+
 /// A random history, unless the comparison ends it.
 fn played<'a>(
     comparison: &mut Comparison,
@@ -500,13 +511,7 @@ fn played<'a>(
     seed: u64,
 ) -> Option<(History<'a>, Source)> {
     let (mut history, mut source, course) = begun(comparison, keys, seed);
-    comparison.begin(&history);
-    for _ in 0..course.calls {
-        if !step(comparison, &mut history, &mut source, &course) {
-            return None;
-        }
-    }
-    Some((history, source))
+    play(comparison, &mut history, &mut source, &course).then_some((history, source))
 }
 
 /// One more call, once words are damaged.

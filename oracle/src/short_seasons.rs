@@ -5,6 +5,7 @@ use twin::gateway::{Shot, empty_table};
 use twin::parties::Caller;
 use twin::rules::{ClockMode, Kind, Settings};
 
+use crate::SHORT_WINDOW;
 use crate::callers::Promise;
 use crate::expected::ticks;
 use crate::seasons::{Log, rooms};
@@ -12,7 +13,7 @@ use crate::shots::{ALLOWED, DONE, HELD, Memory, NO, RESENT, Shots, YES};
 
 /// S is 1 and H 3: of one controller the second shot is admitted by its draw, and the fourth is too many.
 fn settings(clock: ClockMode) -> Settings {
-    Settings { factor: 3.0, clock, ..Settings::default() }
+    Settings { window: SHORT_WINDOW, factor: 3.0, clock, ..Settings::default() }
 }
 
 const RATE: f64 = 0.1;
@@ -52,7 +53,7 @@ fn letters(clock: ClockMode) -> Vec<Letter> {
     ];
     for controller in [&b"a"[..], b"b"] {
         for number in 1..4 {
-            let past_window = 10_000 * n + n.div_ceil(3);
+            let past_window = 1000 * SHORT_WINDOW * n + n.div_ceil(3);
             for (draw, rise) in [(0, 0), (TOP - 1, 101 * n), (0, past_window)] {
                 letters.push(Letter::Shot { controller, number, draw, rise });
             }

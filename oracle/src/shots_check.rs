@@ -11,10 +11,10 @@ use crate::seasons::rooms;
 use crate::shots::{ALLOWED, HELD, Memory, NO, Shots, YES};
 
 /// What the lines of a run must come to.
-const COMES: [usize; 7] = [HELD, ALLOWED, YES, NO, 19, 20, 21];
+const COMES: [usize; 8] = [HELD, ALLOWED, YES, NO, 12, 19, 20, 21];
 
 /// How many lines an input has.
-const LINES: u64 = 250;
+const LINES: u64 = 400;
 
 /// So many inputs at least, for all of that to come.
 const LEAST: u64 = 24;
@@ -31,7 +31,7 @@ fn wanted(shots: &mut Shots, lines: &[String]) -> String {
         Ok(settings) => settings,
         Err(line) => return line,
     };
-    let mut memory = Memory { table: empty_table(), rooms: rooms(64, 128) };
+    let mut memory = Memory { table: empty_table(), rooms: rooms(64, 298) };
     let caller = Caller { party: SOLE, first: 64, second: 0 };
     let mut out = String::new();
     for line in &lines[1..] {

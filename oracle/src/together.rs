@@ -8,6 +8,7 @@ use twin::room::empty_room;
 use twin::rules::{ClockMode, Comparator, Kind, Mode, Settings};
 use twin::set::Wanted;
 
+use crate::SHORT_WINDOW;
 use crate::callers::{NO_PARTIES, Promise};
 use crate::expected::{ENTRY, HEADER, HOLDERS, has_key, kind, set_holder, ticks};
 use crate::random::{Dice, bad_rate, nameless};
@@ -24,7 +25,7 @@ pub const ORDER: [u64; 14] = [1, 2, 3, 4, 5, 6, 7, 15, 16, 8, 9, 10, 11, 12];
 
 /// S is 0 and H over 2^53, so that one count can meet 10 and ask for a factor.
 const SETTINGS: Settings = Settings {
-    window: 10,
+    window: SHORT_WINDOW,
     bucket: 100,
     cache: 100,
     factor: (1u64 << 60) as f64,

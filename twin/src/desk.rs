@@ -6,8 +6,9 @@ use crate::room::empty_room;
 use crate::rules::{Refusal, Settings};
 use crate::{absolute, suppressed};
 
-const SLOTS: usize = 8;
-const RING: usize = 128;
+const SLOTS: usize = 4;
+/// Suffices for the default settings.
+const RING: usize = 298;
 
 #[derive(Clone, Copy)]
 enum DeskOp {

@@ -1,5 +1,5 @@
 //! The two limiters and the gateway above them as an ordinary Rust program over the same fixed words, written from document 01
-//! and tickets 2, 4, 6, 7, 8 and 12.
+//! and tickets 2, 4, 5, 6, 7, 8 and 12.
 //! docs/WORDS.md says which words each call writes.
 
 pub mod absolute;

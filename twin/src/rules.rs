@@ -70,8 +70,9 @@ pub struct Settings {
 }
 
 impl Default for Settings {
+    /// The window is ticket 5's, of 30 s where the original has 10; the others are the original's.
     fn default() -> Self {
-        Settings { window: 10, bucket: 100, cache: 100, factor: 1.0, clock: ClockMode::default() }
+        Settings { window: 30, bucket: 100, cache: 100, factor: 1.0, clock: ClockMode::default() }
     }
 }
 

@@ -7,7 +7,8 @@ use crate::room::empty_room;
 use crate::rules::{Refusal, Settings};
 
 const SLOTS: usize = 64;
-const RING: usize = 128;
+/// Suffices for the default settings.
+const RING: usize = 298;
 
 struct ShotWish {
     number: u64,
