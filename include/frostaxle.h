@@ -33,7 +33,7 @@
  *
  *     1000 * window / (bucket + 1) + 1
  *
- * buckets, cut to a whole number, are long enough: 100 for the defaults, 1 where a bucket is as long as the window or
+ * buckets, cut to a whole number, are long enough: 298 for the defaults, 1 where a bucket is as long as the window or
  * longer, the same with both clocks. frostaxle_sufficient_ring() works it out, FROSTAXLE_SUFFICIENT_RING does for an
  * array's size. This is promised for a room's whole life: if it was made empty with rings of at least so many buckets,
  * and every call on it came with the settings that the number is for, no call of either party is refused with 12. With
@@ -247,7 +247,11 @@ enum {
     FROSTAXLE_PRESERVE_OLDEST = 1  /* the other way round */
 };
 
-#define FROSTAXLE_DEFAULT_WINDOW 10
+/*
+ * Settings for a new room. The window was 10 before: a room that was kept from then goes on with 10, which its caller
+ * names.
+ */
+#define FROSTAXLE_DEFAULT_WINDOW 30
 #define FROSTAXLE_DEFAULT_BUCKET 100
 #define FROSTAXLE_DEFAULT_CACHE 100
 #define FROSTAXLE_DEFAULT_FACTOR 1.0

@@ -14,8 +14,8 @@ use std::time::Duration;
 /// ```
 /// use frostaxle::{ClockMode, Room, Settings, Suppressed};
 ///
-/// let settings = Settings::default().clock_mode(ClockMode::Nanoseconds);
-/// let mut limiter = Suppressed::new(settings, Room::new(8, 128)?);
+/// let settings = Settings { window_seconds: 10, ..Settings::default() }.clock_mode(ClockMode::Nanoseconds);
+/// let mut limiter = Suppressed::new(settings, Room::for_settings(8, settings)?);
 /// limiter.inc(0, b"ctl7", 1.5, 1, 0)?;
 /// // 10,000.4 ms later the increment leaves the bucket, and `get` takes it out
 /// limiter.inc(10_000_400_000, b"ctl7", 1.5, 1, 0)?;
@@ -67,7 +67,8 @@ impl ClockMode {
 /// use std::time::{Duration, Instant};
 ///
 /// let start = Instant::now();
-/// let mut limiter = Absolute::new(Settings::default(), Room::new(8, 128)?);
+/// let settings = Settings::default();
+/// let mut limiter = Absolute::new(settings, Room::for_settings(8, settings)?);
 /// limiter.inc(5, b"ctl7", 1.5, 1)?;
 /// // the same reading, cut to whole milliseconds
 /// limiter.inc(Duration::from_micros(5_900), b"ctl7", 1.5, 1)?;

@@ -265,7 +265,7 @@ mod tests {
     #[test]
     fn sufficient_rings() {
         for clock in [0, 1, 2, u64::MAX] {
-            for (window, row) in [(10, [0, 1, 100, 0, 0]), (0, [1, 0, 0, 0, 0])] {
+            for (window, row) in [(10, [0, 1, 100, 0, 0]), (30, [0, 1, 298, 0, 0]), (0, [1, 0, 0, 0, 0])] {
                 let mut given = [9_u64; 5];
                 // SAFETY: the row is lent to this call alone.
                 let number = unsafe { frostaxle_sufficient_ring(window, 100, 100, 1.0, clock, &mut given) };

@@ -14,7 +14,8 @@ use std::borrow::BorrowMut;
 /// ```
 /// use frostaxle::{Gateway, Room, Settings, Shot, Table};
 ///
-/// let mut gateway = Gateway::new(Settings::default(), Table::new(), Room::new(8, 128)?);
+/// let settings = Settings::default();
+/// let mut gateway = Gateway::new(settings, Table::new(), Room::for_settings(8, settings)?);
 /// // reading 0 ms, shot 1, rate 1.5 per second, draw 0; the answer is lost on its way to the controller
 /// assert_eq!(gateway.shot(0, b"ctl7", 1, 1.5, 0)?, Shot::Allowed);
 /// // so it sends the shot again, and the survey has the point once
@@ -30,7 +31,8 @@ use std::borrow::BorrowMut;
 /// use frostaxle::{Gateway, Party, Promises, Room, Settings, Shot, Table};
 ///
 /// let promises = Promises { first: 6, second: 2 };
-/// let mut gateway = Gateway::new(Settings::default(), Table::new(), Room::new(8, 128)?).promises(promises);
+/// let settings = Settings::default();
+/// let mut gateway = Gateway::new(settings, Table::new(), Room::for_settings(8, settings)?).promises(promises);
 /// assert_eq!(gateway.shot(0, b"boat7", 1, 1.5, 0)?, Shot::Allowed);
 /// assert_eq!(gateway.party(Party::Second).shot(0, b"gate1", 1, 1.5, 0)?, Shot::Allowed);
 /// assert_eq!(gateway.party(Party::Second).suppressed().get(0, b"gate1")?.total, 1);

@@ -32,7 +32,8 @@
 //!
 //! // of 8 slots the survey, the first party, is promised 6, and the lock keepers 2
 //! let promises = Promises { first: 6, second: 2 };
-//! let mut survey = Absolute::new(Settings::default(), Room::new(8, 128)?).promises(promises);
+//! let settings = Settings::default();
+//! let mut survey = Absolute::new(settings, Room::for_settings(8, settings)?).promises(promises);
 //! assert_eq!(survey.inc(0, b"gate1", 1.5, 1)?, Decision::Allowed);
 //!
 //! let mut locks = survey.party(Party::Second);

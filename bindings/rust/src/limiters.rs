@@ -7,7 +7,9 @@ use crate::refusal::Refusal;
 use crate::room::Room;
 use std::borrow::BorrowMut;
 
-/// A room's settings: the same for its whole life.
+/// A room's settings: the same for its whole life. By default a window of 30 s, buckets and a cache period of 100 ms, a
+/// hard limit that is the soft one, and readings in milliseconds. The window was 10 s before: a room that was kept from
+/// then goes on with `window_seconds: 10`.
 #[derive(Clone, Copy, Debug, PartialEq)]
 pub struct Settings {
     /// How far back counts are added up: 1 to 33,554,432 seconds.
@@ -39,9 +41,10 @@ impl Settings {
     /// ```
     /// use frostaxle::{Refusal, Settings};
     ///
-    /// assert_eq!(Settings::default().sufficient_ring(), Ok(100));
+    /// assert_eq!(Settings::default().sufficient_ring(), Ok(298));
+    /// assert_eq!(Settings { window_seconds: 10, ..Settings::default() }.sufficient_ring(), Ok(100));
     /// // a bucket longer than the window
-    /// assert_eq!(Settings { bucket_millis: 20_000, ..Settings::default() }.sufficient_ring(), Ok(1));
+    /// assert_eq!(Settings { bucket_millis: 40_000, ..Settings::default() }.sufficient_ring(), Ok(1));
     /// assert_eq!(Settings { window_seconds: 0, ..Settings::default() }.sufficient_ring(), Err(Refusal::BadWindow));
     /// ```
     pub fn sufficient_ring(self) -> Result<u64, Refusal> {
@@ -65,7 +68,7 @@ impl Settings {
 impl Default for Settings {
     fn default() -> Self {
         Settings {
-            window_seconds: 10,
+            window_seconds: 30,
             bucket_millis: 100,
             cache_millis: 100,
             hard_limit_factor: 1.0,

@@ -32,7 +32,8 @@ impl Party {
 ///
 /// // of 3 slots 2 are for the survey, the first party, and 1 for the lock keepers
 /// let promises = Promises { first: 2, second: 1 };
-/// let mut limiter = Suppressed::new(Settings::default(), Room::new(3, 128)?).promises(promises);
+/// let settings = Settings::default();
+/// let mut limiter = Suppressed::new(settings, Room::for_settings(3, settings)?).promises(promises);
 /// limiter.party(Party::Second).inc(0, b"gate1", 1.5, 1, 0)?;
 /// // two slots are free, and both are the survey's
 /// assert_eq!(limiter.party(Party::Second).inc(0, b"gate2", 1.5, 1, 0), Err(Refusal::NoFreeSlot));

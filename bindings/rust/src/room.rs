@@ -51,13 +51,13 @@ impl Room {
     /// use frostaxle::{Refusal, Room, Settings};
     ///
     /// let settings = Settings::default();
-    /// assert_eq!(Room::for_settings(8, settings)?, Room::new(8, 100)?);
+    /// assert_eq!(Room::for_settings(8, settings)?, Room::new(8, 298)?);
     /// // 589 buckets, and a ring has at most 512
-    /// let settings = Settings { window_seconds: 30, bucket_millis: 50, ..settings };
+    /// let settings = Settings { bucket_millis: 50, ..settings };
     /// assert_eq!(Room::for_settings(8, settings), Err(Refusal::RingTooLong));
     /// // longer buckets, or a shorter window
-    /// let settings = Settings { bucket_millis: 100, ..settings };
-    /// assert_eq!(Room::for_settings(8, settings)?, Room::new(8, 298)?);
+    /// let settings = Settings { window_seconds: 10, ..settings };
+    /// assert_eq!(Room::for_settings(8, settings)?, Room::new(8, 197)?);
     /// # Ok::<(), Refusal>(())
     /// ```
     ///

@@ -1,7 +1,7 @@
 //! Every call through the archive, and every refusal that the safe types can meet.
 use frostaxle::{
-    Absolute, Bucket, Comparator, Decision, Preservation, Provider, Refusal, Room, SetOutcome, Settings, Snapshot,
-    Suppressed,
+    Absolute, Bucket, ClockMode, Comparator, Decision, Preservation, Provider, Refusal, Room, SetOutcome, Settings,
+    Snapshot, Suppressed,
 };
 use std::time::Duration;
 
@@ -13,8 +13,13 @@ fn room() -> Room {
     Room::new(2, 4).unwrap()
 }
 
+/// The readings and limits here are for a window of 10 s, which is not the default.
+fn ten_seconds() -> Settings {
+    Settings { window_seconds: 10, ..Settings::default() }
+}
+
 fn absolute() -> Absolute {
-    Absolute::new(Settings::default(), room())
+    Absolute::new(ten_seconds(), room())
 }
 
 fn suppressed() -> Suppressed {
@@ -23,7 +28,7 @@ fn suppressed() -> Suppressed {
 
 /// The hard limit is twice the soft one.
 fn double() -> Settings {
-    Settings { hard_limit_factor: 2.0, ..Settings::default() }
+    Settings { hard_limit_factor: 2.0, ..ten_seconds() }
 }
 
 fn rejected(wait: u64, left: u64) -> Decision {
@@ -36,6 +41,36 @@ fn rejected(wait: u64, left: u64) -> Decision {
 
 fn outcome(matched: bool, previous_total: u64, current_total: u64) -> SetOutcome {
     SetOutcome { matched, previous_total, current_total }
+}
+
+// ---- settings
+
+#[test]
+fn the_defaults() {
+    let defaults = Settings {
+        window_seconds: 30,
+        bucket_millis: 100,
+        cache_millis: 100,
+        hard_limit_factor: 1.0,
+        clock_mode: ClockMode::Milliseconds,
+    };
+    assert_eq!(Settings::default(), defaults);
+}
+
+/// 1 a second is 30 in the window, and what was counted is in it for 30 s.
+#[test]
+fn the_default_window() {
+    let mut limiter = Absolute::new(Settings::default(), room());
+    assert_eq!(limiter.inc(0, KEY, 1.0, 29), Ok(Decision::Allowed));
+    assert_eq!(limiter.inc(50, KEY, 1.0, 1), Ok(Decision::Allowed));
+    let rejected = |wait| Decision::Rejected {
+        window_size: Duration::from_secs(30),
+        retry_after: Duration::from_millis(wait),
+        remaining_after_waiting: 30,
+    };
+    assert_eq!(limiter.inc(10_001, KEY, 1.0, 1), Ok(rejected(19_999)));
+    assert_eq!(limiter.inc(30_000, KEY, 1.0, 1), Ok(rejected(0)));
+    assert_eq!(limiter.inc(30_001, KEY, 1.0, 1), Ok(Decision::Allowed));
 }
 
 // ---- rooms
@@ -65,7 +100,7 @@ fn rooms_of_wrong_length() {
     let mut slots = whole.clone();
     slots[0] = 3;
     for words in [vec![], vec![1], vec![1, 1], vec![u64::MAX; 3], long, short, slots] {
-        let mut limiter = Absolute::new(Settings::default(), Room::from_words(words.clone()));
+        let mut limiter = Absolute::new(ten_seconds(), Room::from_words(words.clone()));
         assert_eq!(limiter.inc(0, KEY, 1.0, 1), Err(Refusal::BadRoom));
         assert_eq!(limiter.clear(0), Err(Refusal::BadRoom));
         assert_eq!(limiter.cleanup(0, 0), Err(Refusal::BadRoom));
@@ -78,7 +113,7 @@ fn words_are_read_back() {
     let mut limiter = absolute();
     limiter.inc(0, KEY, 1.0, 4).unwrap();
     let words = limiter.into_room().into_words();
-    let mut again = Absolute::new(Settings::default(), Room::from_words(words));
+    let mut again = Absolute::new(ten_seconds(), Room::from_words(words));
     assert_eq!(again.get(50, KEY), Ok(4));
 }
 
@@ -194,7 +229,7 @@ fn the_draw_decides() {
 /// A count of 0 leaves no rate to hold back: what follows is admitted, whatever is drawn.
 #[test]
 fn a_slow_key_after_an_empty_call() {
-    let four = Settings { hard_limit_factor: 4.0, ..Settings::default() };
+    let four = Settings { hard_limit_factor: 4.0, ..ten_seconds() };
     let admitted = Decision::Suppressed { suppression_factor: 0.0, is_allowed: true };
     for draw in [0, MOST - 1] {
         let mut limiter = Suppressed::new(four, room());
@@ -350,7 +385,7 @@ fn damaged_words() {
     // the total of slot 0 stands behind the header, two directory entries and the limit
     let mut damaged = words.clone();
     damaged[5 + 2 * 6 + 1] += 1;
-    let mut limiter = Absolute::new(Settings::default(), Room::from_words(damaged.clone()));
+    let mut limiter = Absolute::new(ten_seconds(), Room::from_words(damaged.clone()));
     assert_eq!(limiter.inc(0, KEY, 1.0, 1), Err(Refusal::BadRoom));
     assert_eq!(limiter.room().words(), &*damaged);
     // another key's slot is sound, and clear judges no slot but by who holds it

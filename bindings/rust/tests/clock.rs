@@ -18,9 +18,14 @@ fn room() -> Room {
     Room::new(2, 4).unwrap()
 }
 
+/// The readings and limits here are for a window of 10 s, which is not the default.
+fn ten_seconds() -> Settings {
+    Settings { window_seconds: 10, ..Settings::default() }
+}
+
 /// Nanoseconds; the hard limit is twice the soft one.
 fn nanos() -> Settings {
-    Settings { hard_limit_factor: 2.0, ..Settings::default() }.clock_mode(ClockMode::Nanoseconds)
+    Settings { hard_limit_factor: 2.0, ..ten_seconds() }.clock_mode(ClockMode::Nanoseconds)
 }
 
 /// At its limit of 10 since reading 0.
@@ -63,7 +68,7 @@ fn milliseconds_unless_said() {
     assert_eq!(set, Settings { clock_mode: ClockMode::Nanoseconds, ..Settings::default() });
     for (reading, millis, nanos) in [(10_000, 10, 10), (10_001, 0, 10), (WINDOW, 0, 10), (WINDOW + 1, 0, 0)] {
         for (mode, live) in [(ClockMode::Milliseconds, millis), (ClockMode::Nanoseconds, nanos)] {
-            let mut limiter = Absolute::new(Settings::default().clock_mode(mode), room());
+            let mut limiter = Absolute::new(ten_seconds().clock_mode(mode), room());
             limiter.inc(0, KEY, 1.0, 10).unwrap();
             assert_eq!(limiter.get(reading, KEY), Ok(live));
         }
@@ -288,7 +293,7 @@ fn a_clock_that_goes_back() {
     assert_eq!(limiter.room(), &room);
     assert_eq!(limiter.inc(WINDOW + 5, KEY, 1.0, 1), Ok(Decision::Allowed));
     // in milliseconds the same two times are one reading
-    let mut limiter = Absolute::new(Settings::default(), Room::new(1, 1).unwrap());
+    let mut limiter = Absolute::new(ten_seconds(), Room::new(1, 1).unwrap());
     limiter.inc(Duration::from_nanos(WINDOW + 5), KEY, 1.0, 1).unwrap();
     assert_eq!(limiter.inc(Duration::from_nanos(WINDOW + 4), KEY, 1.0, 1), Ok(Decision::Allowed));
 }
@@ -310,7 +315,7 @@ fn times_are_cut_to_ticks() {
     for (mode, ticks) in [(ClockMode::Milliseconds, 3_004), (ClockMode::Nanoseconds, 3_004_999_999_u64)] {
         let readings = [Reading::from(ticks), Reading::from(time), Reading::Ticks(ticks), Reading::Elapsed(time)];
         for reading in readings {
-            let mut limiter = Absolute::new(Settings::default().clock_mode(mode), room());
+            let mut limiter = Absolute::new(ten_seconds().clock_mode(mode), room());
             limiter.inc(reading, KEY, 1.0, 1).unwrap();
             assert_eq!(limiter.buckets(KEY), Ok(vec![added(1, ticks)]));
         }

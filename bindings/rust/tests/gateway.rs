@@ -10,9 +10,14 @@ const ENTRIES: usize = 5;
 /// One shot in 10 s soft, two hard.
 const RATE: f64 = 0.1;
 
+/// The readings and limits here are for a window of 10 s, which is not the default.
+fn ten_seconds() -> Settings {
+    Settings { window_seconds: 10, ..Settings::default() }
+}
+
 /// A gateway whose hard limit is twice the soft one.
 fn over(table: Table, room: Room) -> Gateway {
-    Gateway::new(Settings { hard_limit_factor: 2.0, ..Settings::default() }, table, room)
+    Gateway::new(Settings { hard_limit_factor: 2.0, ..ten_seconds() }, table, room)
 }
 
 fn gateway() -> Gateway {
@@ -134,7 +139,7 @@ fn turned_away_and_sent_again() {
 /// A link test counts 0 in the room: the slow controller's first shot after it is admitted, and remembered.
 #[test]
 fn after_a_link_test() {
-    let four = Settings { hard_limit_factor: 4.0, ..Settings::default() };
+    let four = Settings { hard_limit_factor: 4.0, ..ten_seconds() };
     let mut gateway = Gateway::new(four, Table::new(), Room::new(1, 4).unwrap());
     gateway.suppressed().inc(0, CONTROLLER, 0.05, 0, 0).unwrap();
     let yes = Shot::Suppressed { suppression_factor: 0.0, is_allowed: true };
@@ -262,7 +267,7 @@ fn damaged_tables() {
         assert_eq!(gateway.new_season(), Err(Refusal::BadRoom));
         assert_eq!(gateway.table(), &table);
         // settings are judged before it
-        let settings = Settings { hard_limit_factor: 0.0, ..Settings::default() };
+        let settings = Settings { hard_limit_factor: 0.0, ..ten_seconds() };
         let mut gateway = Gateway::new(settings, table, room.clone());
         refuses(&mut gateway, 0, &key(0), 5, RATE, 0, Refusal::BadFactor);
     }

@@ -25,9 +25,10 @@ fn room() -> Room {
     Room::new(3, 4).unwrap()
 }
 
-/// The hard limit is twice the soft one.
+/// The hard limit is twice the soft one. The readings and limits here are for a window of 10 s, which is not the
+/// default.
 fn settings() -> Settings {
-    Settings { hard_limit_factor: 2.0, ..Settings::default() }
+    Settings { window_seconds: 10, hard_limit_factor: 2.0, ..Settings::default() }
 }
 
 fn absolute() -> Absolute {

@@ -114,7 +114,7 @@ limiter!(Suppressed, get_suppression_factor, 1 << 52);
 
 #[test]
 fn numbers() {
-    assert_eq!(Settings::default().sufficient_ring(), Ok(100));
+    assert_eq!(Settings::default().sufficient_ring(), Ok(298));
     let most = (33_554_432, 4_294_967_296);
     // over 512, and at the ends of the ranges
     let others = [
@@ -182,6 +182,7 @@ fn settings_out_of_range() {
 
 #[test]
 fn rooms() {
+    assert_eq!(Room::for_settings(4, Settings::default()), Room::new(4, 298));
     for mode in MODES {
         for (window, bucket, needed) in NEEDED {
             for slots in [1, 8, 64] {
