@@ -2,7 +2,7 @@
 -- before. Feeding the bytes, in blocks cut anywhere, and finishing prints just that, however long a line is.
 -- Assumes nothing.
 use mathlib.Core.Path.{_≡_, refl, sym, ap, _∙_}
-use mathlib.Core.Bool.{Bool, true, false, cond}
+use mathlib.Core.Bool.{Bool, true, false, not, _&&_, cond, false≢true}
 use mathlib.Core.List.{List, [], _∷_, _++_, append-assoc, append-nil}
 use Prim.Native.Nat.{ℕ, _+_, _-_, _≤_, _<_, min}
 use native.Mathlib.Decide.{decLt}
@@ -13,8 +13,10 @@ use lib.Seq.{length-take-le, take-all, take-nil, take-suc-set, take-append-le, s
 use lib.Dec.{ltb, eqb}
 use borrow.Author.Tests.{lt-ltb, le-ltb, eq-eqb, ne-eqb}
 use Rattle.settings.specs.declared.Settings.{Settings}
-use Rattle.fields.specs.Numbers.{show-short}
-use Rattle.lines.specs.Shown.{opText, showCall, showSettings, CallFits, SettingsFit}
+use Rattle.fields.specs.Bytes.{counts, digit-range}
+use Rattle.fields.specs.Numbers.{Each, showNumber, each-append, show-digits, show-short}
+use Rattle.lines.specs.ReadLaws.{both}
+use Rattle.lines.specs.Shown.{windowText, bucketText, factorText, cacheText, opText, showCall, showSettings, CallFits, SettingsFit}
 use Rattle.lines.specs.Laws.{keyIn, CallRead, SettingsRead, call-read, settings-read}
 use Rattle.lines.specs.Reading.{readCall, readSettings}
 use Rattle.fields.specs.Parts.{begins, textAt, fieldAt}
@@ -317,6 +319,57 @@ printed g h xs = running 65536 (whole (fresh g) (newFirst g) (newSecond g) h) xs
 -- so it is what the input's lines print, for every input, with 200 bytes to hold a line
 pub program-prints : (g : Program) (h xs : List ℕ) → length h ≡ 200 → printed g h xs ≡ turns (Waiting g) (newFirst g) (newSecond g) (inputLines [] xs)
 program-prints g h xs e = whole-input g (newFirst g) (newSecond g) h xs 65536 (omega arith) (omega arith)
+
+-- ---- the first line
+
+-- a byte that ends no line
+abbrev inLine : ℕ → Bool
+inLine b = not (eqb b newline)
+
+abbrev allInLine : List ℕ → Bool
+allInLine [] = true
+allInLine (b ∷ bs) = inLine b && allInLine bs
+
+text-in-line : (bs : List ℕ) → allInLine bs ≡ true → Each inLine bs
+text-in-line [] e = tt
+text-in-line (b ∷ bs) e = let x = both (inLine b) (allInLine bs) e in (x .0, text-in-line bs (x .1))
+
+digits-in-line : (bs : List ℕ) → Each (counts false) bs → Each inLine bs
+digits-in-line [] p = tt
+digits-in-line (b ∷ bs) p =
+    let low : 48 ≤ b = digit-range b (p .0) .0 in
+    (ap not (ne-eqb b newline (λ e. omega arith)), digits-in-line bs (p .1))
+
+field-in-line : (text : List ℕ) (n : ℕ) (rest : List ℕ) → allInLine text ≡ true → Each inLine rest → Each inLine (text ++ (showNumber n ++ rest))
+field-in-line text n rest e r =
+    each-append inLine text (showNumber n ++ rest) (text-in-line text e)
+    (each-append inLine (showNumber n) rest (digits-in-line (showNumber n) (show-digits false n)) r)
+
+first-line : (acc text rest : List ℕ) → Each inLine text → inputLines acc (text ++ (newline ∷ rest)) ≡ (acc ++ text) ∷ callLines [] rest
+unfolding inputLines
+first-line acc [] rest p = ap (λ (l : List ℕ). l ∷ callLines [] rest) (sym (append-nil acc))
+first-line acc (b ∷ bs) rest p =
+    go (eqb b newline) (p .0)
+    (first-line (acc ++ (b ∷ [])) bs rest (p .1) ∙ ap (λ (l : List ℕ). l ∷ callLines [] rest) (append-assoc acc (b ∷ []) bs))
+  where
+    go : (t : Bool) → not t ≡ true → inputLines (acc ++ (b ∷ [])) (bs ++ (newline ∷ rest)) ≡ (acc ++ (b ∷ bs)) ∷ callLines [] rest →
+        cond t (acc ∷ callLines [] (bs ++ (newline ∷ rest))) (inputLines (acc ++ (b ∷ [])) (bs ++ (newline ∷ rest))) ≡ (acc ++ (b ∷ bs)) ∷ callLines [] rest
+    go true q e = absurd (false≢true q)
+    go false q e = e
+
+-- settings that are shown, and a newline: they are the first line, whatever comes behind
+pub settings-first : (window bucket factor cache : ℕ) (rest : List ℕ) →
+    inputLines [] (showSettings window bucket factor cache ++ (newline ∷ rest)) ≡ showSettings window bucket factor cache ∷ callLines [] rest
+unfolding showSettings
+settings-first window bucket factor cache rest =
+    let caches = cacheText ++ showNumber cache in
+    let factors = factorText ++ (showNumber factor ++ caches) in
+    let buckets = bucketText ++ (showNumber bucket ++ factors) in
+    first-line [] (windowText ++ (showNumber window ++ buckets)) rest
+    (field-in-line windowText window buckets refl
+    (field-in-line bucketText bucket factors refl
+    (field-in-line factorText factor caches refl
+    (each-append inLine cacheText (showNumber cache) (text-in-line cacheText refl) (digits-in-line (showNumber cache) (show-digits false cache))))))
 
 -- ---- bad lines
 

@@ -3,7 +3,7 @@
 -- Assumes nothing.
 use mathlib.Core.Path.{_≡_, refl, sym, ap, subst, _∙_}
 use mathlib.Core.Bool.{Bool, true, false, cond, false≢true}
-use mathlib.Core.List.{List, [], _∷_}
+use mathlib.Core.List.{List, [], _∷_, _++_}
 use mathlib.Core.Logic.{_≢_, _⊎_, inl, inr}
 use Prim.Native.Nat.{ℕ, zero, suc, _-_, _≤_, _<_}
 use native.Mathlib.Decide.{decLt}
@@ -12,7 +12,7 @@ use lib.Dec.{eqb}
 use lib.ListN.{length}
 use Rattle.fields.specs.Bytes.{counted, counts, class-bad}
 use Rattle.fields.specs.Numbers.{Each}
-use Rattle.fields.specs.Ranges.{Key}
+use Rattle.fields.specs.Ranges.{largest, exactLargest}
 use Rattle.common.specs.Refusals.{first}
 use Rattle.settings.specs.Settings.{defaults, defaults-unrefused, faults}
 use Rattle.settings.specs.declared.Settings.{Settings}
@@ -23,8 +23,9 @@ use Rattle.room.specs.Room.{lengthOf, fits, empty}
 use Rattle.frame.specs.Keys.{Bytes}
 use Rattle.parties.specs.Parties.{sent}
 use Rattle.table.specs.Table.{emptyTable}
-use Rattle.lines.specs.Laws.{keyIn, CallRead, call-read}
+use Rattle.lines.specs.Laws.{keyIn, CallRead, call-read, settings-shown}
 use Rattle.lines.specs.Reading.{readCall, readSettings}
+use Rattle.lines.specs.Shown.{showSettings}
 use Rattle.lines.specs.declared.CallLine.{CallLine}
 use Rattle.lines.specs.declared.CallLine.the-variants as call
 use Rattle.lines.specs.declared.Op as lineOp
@@ -45,9 +46,9 @@ use Rattle.desk_turn.specs.declared.Program.{Program}
 use Rattle.desk_turn.specs.declared.Program.the-variants as program
 use Rattle.desk_turn.specs.declared.Phase.{Phase}
 use Rattle.desk_turn.specs.declared.Phase.the-variants.{Waiting, Open, Ended}
-use Rattle.desk_turn.specs.Lines.{phaseIn, printsIn, steppedBy, turn}
+use Rattle.desk_turn.specs.Lines.{newline, phaseIn, printsIn, steppedBy, turn}
 use Rattle.desk_feed.specs.Contracts.{slotsOf, ringLength, newFirst, newSecond}
-use Rattle.desk_laws.specs.Whole.{inputLines, turns, printed, program-prints}
+use Rattle.desk_laws.specs.Whole.{inputLines, turns, printed, program-prints, settings-first}
 use Rattle.desk_laws.specs.Lines.{Without, Stand, shot-code, no-line, more-lines, all-lines}
 use Rattle.desk_laws.specs.Asks.{kindOf, roomOf, opOf, call-code, opening-line, turn-line}
 use Rattle.steps.specs.Ops.{Op, Call, Keyed, AllKeyed, verdictOf, after, answerNumber, words}
@@ -274,3 +275,11 @@ pub thirty-seconds : (g : Program) (h xs : List ℕ) (factor cache : ℕ) → le
     readSettings (firstOf (inputLines [] xs)) ≡ defaultLine factor cache → Without 12 (printed g h xs)
 unfolding openingOf
 thirty-seconds g h xs factor cache e p = never-full g h xs e (subst (λ (c : SettingsLine). Enough (openingIn c)) (sym p) (enough-then factor cache))
+
+-- in bytes: an input that begins with `window=30 bucket=100 factor=.. cache=..` and a newline, whatever comes behind
+pub thirty-seconds-shown : (g : Program) (h rest : List ℕ) (factor cache : ℕ) → length h ≡ 200 → factor ≤ exactLargest → cache ≤ largest →
+    Without 12 (printed g h (showSettings 30 100 factor cache ++ (newline ∷ rest)))
+thirty-seconds-shown g h rest factor cache e f c =
+    thirty-seconds g h (showSettings 30 100 factor cache ++ (newline ∷ rest)) factor cache e
+    (ap (λ (ls : List (List ℕ)). readSettings (firstOf ls)) (settings-first 30 100 factor cache rest) ∙
+    settings-shown 30 100 factor cache (record { windows = omega arith; buckets = omega arith; factors = f; caches = c }))
