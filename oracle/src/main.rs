@@ -78,7 +78,6 @@ use twin::rules::ClockMode;
 fn main() {
     let arguments: Vec<String> = std::env::args().skip(1).collect();
     let words: Vec<&str> = arguments.iter().map(String::as_str).collect();
-    let number = |text: &str| text.parse::<u64>().expect("a whole number");
     match words[..] {
         ["sample", calls, seed] => sample::print(number(calls), number(seed)),
         [program @ ("desk" | "shot-lines"), lines, seed] => {
@@ -86,44 +85,14 @@ fn main() {
             let input = input_lines::input(program, number(lines), number(seed));
             std::io::stdout().write_all(&input).expect("standard output");
         }
-        ["season", seed, ref mode @ ..] => {
-            let mut shots = Shots::new(clock(mode));
-            seasons::played(&mut shots, number(seed));
-            println!("{shots}");
+        [one @ ("season" | "history" | "parties" | "apart" | "ring"), seed, ref mode @ ..] => {
+            println!("{}", history(one, number(seed), clock(mode)));
         }
-        ["shots", calls, seed, ref wishes @ ..] if wishes.iter().all(|wish| *wish == "first") => {
+        [part @ ("shots" | "rings" | "defaults"), calls, seed, ref wishes @ ..]
+            if wishes.iter().all(|wish| *wish == "first") =>
+        {
             let most_differing = if wishes.is_empty() { 100 } else { 1 };
-            let both = compare_shots(most_differing, number(calls), number(seed));
-            show(&both);
-            end(both.iter().map(Shots::differed).sum());
-        }
-        [word @ ("history" | "parties"), seed, ref mode @ ..] => {
-            let shared = (word == "parties").then(Shared::default);
-            let mut comparison = Comparison { shared, ..Comparison::new(clock(mode), others()) };
-            random::run_one(&mut comparison, number(seed));
-            println!("{comparison}");
-        }
-        ["apart", seed, ref mode @ ..] => {
-            let mut apart = Apart::new(clock(mode), 1);
-            apart.pair(number(seed));
-            println!("{apart}");
-        }
-        ["rings", calls, seed, ref wishes @ ..] if wishes.iter().all(|wish| *wish == "first") => {
-            let most_differing = if wishes.is_empty() { 100 } else { 1 };
-            let both = compare_rings(most_differing, number(calls), number(seed));
-            show(&both);
-            end(both.iter().map(Rings::differed).sum());
-        }
-        ["ring", seed, ref mode @ ..] => {
-            let mut rings = Rings::new(clock(mode), 1);
-            rings.history(number(seed));
-            println!("{rings}");
-        }
-        ["defaults", calls, seed] => {
-            let mut both = CLOCKS.map(|clock| Defaults::new(clock, 100));
-            both.iter_mut().for_each(|one| one.run(number(calls), number(seed)));
-            show(&both);
-            end(both.iter().map(|Defaults(one)| one.differed).sum());
+            compare_part(part, most_differing, number(calls), number(seed));
         }
         ["broken", rooms, seed] => break_rooms(number(rooms), number(seed)),
         [calls, seed, ref wishes @ ..]
@@ -132,10 +101,62 @@ fn main() {
             compare(number(calls), number(seed), wishes);
         }
         _ => panic!(
-            "CALLS SEED [tally] [first] [few], history|parties|apart SEED [nanoseconds], broken ROOMS SEED, \
-             shots|rings CALLS SEED [first], season|ring SEED [nanoseconds], defaults CALLS SEED, sample CALLS SEED, \
-             desk LINES SEED, or shot-lines LINES SEED"
+            "CALLS SEED [tally] [first] [few], history|parties|apart|season|ring SEED [nanoseconds], broken ROOMS SEED, \
+             shots|rings|defaults CALLS SEED [first], sample CALLS SEED, desk LINES SEED, or shot-lines LINES SEED"
         ),
+    }
+}
+
+fn number(text: &str) -> u64 {
+    text.parse().expect("a whole number")
+}
+
+/// The line of one season, history or pair of histories.
+fn history(one: &str, seed: u64, clock: ClockMode) -> String {
+    match one {
+        "season" => {
+            let mut shots = Shots::new(clock);
+            seasons::played(&mut shots, seed);
+            shots.to_string()
+        }
+        "apart" => {
+            let mut apart = Apart::new(clock, 1);
+            apart.pair(seed);
+            apart.to_string()
+        }
+        "ring" => {
+            let mut rings = Rings::new(clock, 1);
+            rings.history(seed);
+            rings.to_string()
+        }
+        _ => {
+            let shared = (one == "parties").then(Shared::default);
+            let mut comparison = Comparison { shared, ..Comparison::new(clock, others()) };
+            random::run_one(&mut comparison, seed);
+            comparison.to_string()
+        }
+    }
+}
+
+/// A part of the comparison by itself.
+fn compare_part(part: &str, most_differing: u64, calls: u64, seed: u64) -> ! {
+    match part {
+        "shots" => {
+            let both = compare_shots(most_differing, calls, seed);
+            show(&both);
+            end(both.iter().map(Shots::differed).sum());
+        }
+        "rings" => {
+            let both = compare_rings(most_differing, calls, seed);
+            show(&both);
+            end(both.iter().map(Rings::differed).sum());
+        }
+        _ => {
+            let mut both = CLOCKS.map(|clock| Defaults::new(clock, most_differing));
+            both.iter_mut().for_each(|one| one.run(calls, seed));
+            show(&both);
+            end(both.iter().map(|Defaults(one)| one.differed).sum());
+        }
     }
 }
 

@@ -34,12 +34,13 @@ pub record Feeding (w : Whole) (block old : List ℕ) (r : Progress) (a b h new 
 
 -- ---- the memories that a program makes
 
--- `desk`: "One absolute and one suppressed room", with 4 slots each. `shots`: a table, and a room with a slot for each controller that it can know.
+-- `desk`: "One absolute and one suppressed room", of 4 keys each (document 02, ticket 5). `shots`: a table, and a room with a slot for each controller that
+-- it can know.
 abbrev pub slotsOf : Program → ℕ
 slotsOf program.Desk = 4
 slotsOf program.Shots = mostControllers
 
--- the rings of all these rooms: they suffice for a window of 30 s and buckets of 100 ms (document 02, ticket 5)
+-- the rings of all these rooms: they suffice for the ticket's window of 30 s and buckets of 100 ms
 abbrev pub ringLength : ℕ
 ringLength = 298
 

@@ -20,7 +20,7 @@ const DESK_SLOTS: u64 = 4;
 
 const SHOTS_SLOTS: u64 = 64;
 
-// Rings that are never full at a window of 30 s and buckets of 100 ms.
+// They suffice for a window of 30 s and buckets of 100 ms.
 const RING: u64 = 298;
 
 // ---- bytes
