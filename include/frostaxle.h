@@ -5,7 +5,7 @@
  * when it is not. The suppressed limiter lets a growing share of calls go between a soft and a hard limit, by a random
  * draw that you hand in. A gateway in front of a suppressed limiter knows a controller's shot by its number, so that a
  * shot that is sent again because its answer was lost is not admitted twice. Two parties may share a limiter's room,
- * and neither can take the other's place in it.
+ * and neither can take the other's place in it. What the program `desk` prints can be read back, line by line.
  *
  * Every call ends with its answer or with one of the numbered refusals, on any arguments and any words in the lent
  * memory; a refused call changes nothing but the answer row. There is no allocation, no lock, no clock, no global
@@ -47,7 +47,7 @@
  * its table and its room. Two parties in one room are no exception.
  *
  * Pointers: none may be NULL, also where its length is 0. Rooms, tables and rows are aligned as uint64_t. The room (or
- * the two rooms, or table and room), the key and the answer row of one call must not overlap.
+ * the two rooms, or table and room), the key and the answer row of one call must not overlap, nor a line and its row.
  *
  *
  * PARTIES
@@ -112,7 +112,8 @@
  *   comparator, operand                                  guard of a set against the key's live total, see below
  *   preservation                                         which end of the buckets a set keeps, see below
  *   stale     milliseconds                               how old a key's newest bucket may be at a cleanup
- *   row       five words that receive the answer
+ *   line, line_len                                       any number of bytes of any value, see LINES OF DESK
+ *   row       five words that receive the answer, seven for a line
  *
  * window, bucket, cache, factor and clock are a room's settings: pass the same five for the room's whole life. The
  * first four are judged by every call of both limiters; every clock is one. The defaults are in FROSTAXLE_DEFAULT_...
@@ -169,6 +170,40 @@
  * "bits" are those of a double; frostaxle_double() turns them back. REJECTED: after the wait the oldest bucket, which
  * holds row[4], is at the window's edge, and one millisecond later it is out, so ask again at wait + 1, in milliseconds
  * whatever the clock. SUPPRESSED with row[3] 0 is a no, counted as declined; with 1 it is a yes.
+ *
+ *
+ * LINES OF DESK
+ *
+ * The program `desk` prints one answer a line. frostaxle_read_line() reads such a line back, given without its newline:
+ *
+ *     t=1700 code=0 answer=no factor=3fe0000000000000 wait=0 left=0 total=15 declined=5
+ *
+ * A line reads exactly when some reading, some answer or refusal 1 to 14, and some totals print as it. It has that one
+ * meaning, and the meaning prints as the same bytes. Any other line is refused with 14, whatever its bytes and however
+ * many they are.
+ *
+ * Numbers are decimal without leading zeros, the factor has 16 hex digits with small letters, one space stands between
+ * two fields and none at either end. t, wait and left are any uint64_t, total is at most 2^53, declined at most total,
+ * and the factor 0 to 1 with its sign clear. What does not apply is 0, and of a refusal all that follows `answer`.
+ * Refusals 1 to 4 and 14 have t=0: they are told of lines without a reading. 13 reads, though no call gives it any
+ * more. `held` and numbers over 14, which `desk` does not print, do not read.
+ *
+ * The row of a line has FROSTAXLE_LINE_WORDS words, and is written whole:
+ *
+ *   row[0]    0, or 14; then row[1] to row[6] are 0
+ *   row[1]    which case of the answer
+ *   row[2]    t
+ *   row[3..4] the case's values; those that it does not have are 0
+ *   row[5..6] total and declined, both 0 of a refusal
+ *
+ *   answer=                  row[1]            row[3]              row[4]
+ *   allowed                  1 ALLOWED         -                   -
+ *   rejected                 2 REJECTED        wait, ms            left, the oldest bucket's count
+ *   yes, no                  3 SUPPRESSED      factor, bits        1 yes, 0 no
+ *   value                    5 LINE_VALUE      factor, bits        -
+ *   refused                  6 LINE_REFUSED    code, 1 to 14       -
+ *
+ * Two things are in no line: a rejection's window, and which of the two limiters a value is of.
  */
 #ifndef FROSTAXLE_H
 #define FROSTAXLE_H
@@ -206,7 +241,8 @@ enum {
                                         ones, never meets it while its settings stay the same (a reading that falls is
                                         refused with 6 and does no harm); with rings of one bucket less it may */
     FROSTAXLE_NO_CALL = 14,          /* comparator or preservation is none of the numbers below, and 1 to 8, 10, 15 and
-                                        16 are not met */
+                                        16 are not met; or a line is none that `desk` prints. As a line's own code: what
+                                        `desk` was given is no settings line, or no call */
     FROSTAXLE_BAD_PARTY = 15,        /* party is neither 1 nor 2 */
     FROSTAXLE_BAD_PROMISE = 16,      /* first and second together pass the room's slots, or party 1 holds more slots
                                         than first, or party 2 more than second */
@@ -223,7 +259,9 @@ enum {
     FROSTAXLE_HELD = 4, /* admitted before */
     FROSTAXLE_VALUE = 1,
     FROSTAXLE_UNKNOWN = 2,
-    FROSTAXLE_DONE = 1
+    FROSTAXLE_DONE = 1,
+    FROSTAXLE_LINE_VALUE = 5,  /* of a line, where 1 is ALLOWED */
+    FROSTAXLE_LINE_REFUSED = 6 /* of a line that tells a refusal */
 };
 
 /* comparator: the set happens if the key's live total is .. */
@@ -258,6 +296,9 @@ enum {
 #define FROSTAXLE_DEFAULT_CLOCK FROSTAXLE_MILLISECONDS
 
 #define FROSTAXLE_ROW_WORDS 5
+
+/* The length of a line's row. */
+#define FROSTAXLE_LINE_WORDS 7
 
 /* The length of a gateway's table. */
 #define FROSTAXLE_TABLE_WORDS 389
@@ -446,6 +487,11 @@ uint64_t frostaxle_gateway_shot(uint64_t window, uint64_t bucket, uint64_t cache
 
 /* Empties the table: every controller may begin at 1 again. DONE; or 5 if it is no table, and the words stay. */
 uint64_t frostaxle_gateway_new_season(uint64_t *table, size_t table_len, uint64_t row[5]);
+
+/* ---- lines of desk */
+
+/* Reads back a line that `desk` prints, without its newline, see LINES OF DESK. 0; or 14 for any other line. */
+uint64_t frostaxle_read_line(const uint8_t *line, size_t line_len, uint64_t row[7]);
 
 #ifdef __cplusplus
 }

@@ -1,7 +1,8 @@
 #!/bin/sh
 # mistakes.sh [calls] [pattern] [broken]: plants each mistake of mistakes/ in a copy of the twin, one at a time, and tells whether the
-# comparison with the original, of two parties and of one, of rings that suffice or of the defaults finds it, or that of shots one in the gateway;
-# with `broken`, whether that many damaged rooms beside the Rattle code do. Needs a judge built by build.sh.
+# comparison with the original, of two parties and of one, of rings that suffice or of the defaults finds it, that of shots one in the
+# gateway, or that of lines read back, of as many lines, one in their reader; with `broken`, whether that many damaged rooms beside the
+# Rattle code do, or such lines. Needs a judge built by build.sh.
 set -eu
 cd "$(dirname "$0")"
 calls=${1:-300000}
@@ -22,6 +23,7 @@ for edit in mistakes/$pattern.edit; do
     cp -r ../twin/src $work/src
     file=$work/src/$(sed -n 's/^file: //p' "$edit")
     case $linked,$file in
+    *readback.rs) asked="read-back $calls 1 first" ;;
     ?*,*) asked="broken $calls 1" ;;
     *gateway.rs | *shots.rs) asked="shots $calls 1 first" ;;
     *) asked="$calls 1 first" ;;

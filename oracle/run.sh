@@ -1,8 +1,8 @@
 #!/bin/sh
 # run.sh [calls] [seed] [few]: builds, checks the worked examples of desk and shots, compares, so many calls of one party and as many of two
-# in each clock mode; for each prints a line for the shots, then for each one for the rings that suffice, one for the default settings, one
-# for pairs of histories in which one party's calls are the same, one for the calls of two parties, and one for the limiters of one party.
-# With `few`, most short histories are left out.
+# in each clock mode, and a tenth as many lines read back; prints a line for these, then for each clock mode one for the shots, for each one
+# for the rings that suffice, one for the default settings, one for pairs of histories in which one party's calls are the same, one for the
+# calls of two parties, and one for the limiters of one party. With `few`, most short histories are left out.
 set -eu
 here=$(cd "$(dirname "$0")" && pwd)
 "$here/build.sh"

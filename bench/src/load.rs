@@ -240,7 +240,7 @@ impl Load {
     /// keys come in an order of their own. Where shots are held, each controller has one number, and the first is admitted.
     pub fn increments(&self, timed: usize) -> (Vec<Increment>, Vec<Increment>) {
         let deed = self.shape.deed;
-        let mut random = Random(0x1234_5678_9abc_def1);
+        let mut random = Random::new();
         let mut order: Vec<u32> = (0..self.keys.len() as u32).collect();
         let filling = 4 * self.shape.live;
         let rounds = filling + timed.div_ceil(order.len()) as u64;
@@ -277,10 +277,14 @@ pub fn later(increments: &mut [Increment], by: u64) {
 }
 
 /// Xorshift.
-struct Random(u64);
+pub struct Random(u64);
 
 impl Random {
-    fn below(&mut self, top: u64) -> u64 {
+    pub fn new() -> Self {
+        Random(0x1234_5678_9abc_def1)
+    }
+
+    pub fn below(&mut self, top: u64) -> u64 {
         self.0 ^= self.0 << 13;
         self.0 ^= self.0 >> 7;
         self.0 ^= self.0 << 17;

@@ -2,6 +2,7 @@
 
 mod contestants;
 mod expired;
+mod lines;
 mod load;
 mod race;
 mod shots;
@@ -17,7 +18,7 @@ const KEYS: usize = 40;
 const ARCHIVE: &str = "archive";
 
 const USAGE: &str = "[INCREMENTS REPETITIONS] | shots SHOTS REPETITIONS | expired CALLS REPETITIONS | \
-    clocks INCREMENTS REPETITIONS | parties INCREMENTS REPETITIONS | \
+    clocks INCREMENTS REPETITIONS | parties INCREMENTS REPETITIONS | lines [LINES REPETITIONS] | \
     one CONTESTANT [nanoseconds] LIMITER BUCKETS INCREMENTS | \
     one CONTESTANT [nanoseconds] one-party|two-parties LIMITER KEYS BUCKETS INCREMENTS | \
     one CONTESTANT [nanoseconds] rising|held|last CONTROLLERS BUCKETS SHOTS | \
@@ -32,6 +33,8 @@ fn main() {
         ["expired", timed, times] => expired_table(number(timed), number(times)),
         ["clocks", timed, times] => clock_tables(number(timed), number(times)),
         ["parties", timed, times] => party_tables(number(timed), number(times)),
+        ["lines"] => lines::table(1_000_000, 5),
+        ["lines", timed, times] => lines::table(number(timed), number(times)),
         [timed, times] => tables(number(timed), number(times)),
         ["one", name, "nanoseconds", ref what @ .., timed] => {
             one(Clock::Nanoseconds, name, what, number(timed))
@@ -115,6 +118,7 @@ fn tables(timed: usize, times: usize) {
     }
     shot_tables(timed, times);
     expired_table(fewer, times);
+    lines::table(timed, times);
 }
 
 /// What the shots' tables time, and what it is called behind a contestant's name.

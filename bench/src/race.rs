@@ -8,7 +8,7 @@ use crate::expired::Expired;
 use crate::load::{Increment, Limiter, Load, Shape, later};
 
 /// How many increments are timed at a time.
-const STRETCH: usize = 2_000;
+pub const STRETCH: usize = 2_000;
 
 /// A load and the contestants that it is put to.
 pub struct Field {
@@ -147,15 +147,15 @@ pub fn alone_expired(
 }
 
 /// Each contestant's least time for each stretch.
-struct Least(Vec<Vec<Duration>>);
+pub struct Least(Vec<Vec<Duration>>);
 
 impl Least {
-    fn new(contestants: usize, stretches: usize) -> Self {
+    pub fn new(contestants: usize, stretches: usize) -> Self {
         Least(vec![vec![Duration::MAX; stretches]; contestants])
     }
 
     /// All stretches once, each by every contestant; gives each contestant's answers, folded.
-    fn lap(
+    pub fn lap(
         &mut self,
         turn: usize,
         mut timed: impl FnMut(usize, usize) -> (Duration, u64),
@@ -174,7 +174,7 @@ impl Least {
         answers
     }
 
-    fn sums(&self) -> Vec<Duration> {
+    pub fn sums(&self) -> Vec<Duration> {
         self.0.iter().map(|stretches| stretches.iter().sum()).collect()
     }
 }

@@ -1,6 +1,6 @@
 /*
  * A gateway that admits survey shots by both limiters, and by their numbers, and shares a room with the lock keepers,
- * with readings made up so that the run is the same each time.
+ * with readings made up so that the run is the same each time. At last lines of the program `desk` are read back.
  *
  *     rt staticlib abi
  *     cc -std=c11 -Wall -Wextra -Iinclude examples/c/gateway.c target/staticlib/libabi.a -o target/gateway
@@ -8,6 +8,7 @@
  */
 #include <inttypes.h>
 #include <stdio.h>
+#include <string.h>
 
 #include "frostaxle.h"
 
@@ -181,6 +182,39 @@ static void two_parties(void) {
         printf("   700 ms  party 1, ctl7: total %" PRIu64 "\n", row[2]);
 }
 
+/* What a line of `desk` says, which is read without its newline. */
+static void show(const char *line) {
+    uint64_t row[FROSTAXLE_LINE_WORDS];
+
+    if (frostaxle_read_line((const uint8_t *)line, strlen(line), row) != FROSTAXLE_OK) {
+        printf("           refusal %" PRIu64 ", desk prints no such line\n", row[0]);
+        return;
+    }
+    printf("%6" PRIu64 " ms  ", row[2]);
+    if (row[1] == FROSTAXLE_LINE_REFUSED) {
+        printf("it was refused with %" PRIu64 "\n", row[3]);
+        return;
+    }
+    if (row[1] == FROSTAXLE_ALLOWED)
+        printf("yes");
+    else if (row[1] == FROSTAXLE_REJECTED)
+        printf("no, wait %" PRIu64 " ms; the oldest bucket has %" PRIu64, row[3], row[4]);
+    else if (row[1] == FROSTAXLE_SUPPRESSED)
+        printf("%s at factor %.3f", row[4] ? "yes" : "no", frostaxle_double(row[3]));
+    else /* FROSTAXLE_LINE_VALUE */
+        printf("factor %.3f", frostaxle_double(row[3]));
+    printf("; total %" PRIu64 ", declined %" PRIu64 "\n", row[5], row[6]);
+}
+
+static void lines_of_desk(void) {
+    printf("lines of desk, read back\n");
+    show("t=3000 code=0 answer=rejected factor=0000000000000000 wait=7000 left=6 total=10 declined=0");
+    show("t=1700 code=0 answer=no factor=3fe0000000000000 wait=0 left=0 total=15 declined=5");
+    show("t=1699 code=6 answer=refused factor=0000000000000000 wait=0 left=0 total=0 declined=0");
+    /* a leading zero: no number prints so */
+    show("t=01700 code=0 answer=no factor=3fe0000000000000 wait=0 left=0 total=15 declined=5");
+}
+
 int main(void) {
     uint64_t row[FROSTAXLE_ROW_WORDS];
 
@@ -204,5 +238,6 @@ int main(void) {
     printf("new season\n");
     numbered_shot(200000, 1, 1);
     two_parties();
+    lines_of_desk();
     return 0;
 }

@@ -152,12 +152,8 @@ impl Program {
     }
 }
 
-/// One byte gone, doubled, changed or put in.
-fn damaged(dice: &mut Dice, line: String) -> Vec<u8> {
-    let mut bytes = line.into_bytes();
-    if bytes.is_empty() || !dice.once_in(30) {
-        return bytes;
-    }
+/// One byte gone, doubled, changed or put in, or all from it on gone.
+pub fn damage(dice: &mut Dice, bytes: &mut Vec<u8>) {
     let at = dice.below(bytes.len() as u64) as usize;
     let other = dice.pick(b" =azAZ09\r\t\0-.\x7f\xff/:`{");
     match dice.below(5) {
@@ -166,6 +162,14 @@ fn damaged(dice: &mut Dice, line: String) -> Vec<u8> {
         2 => bytes[at] = other,
         3 => bytes.insert(at, other),
         _ => bytes.truncate(at),
+    }
+}
+
+/// The line, now and then damaged.
+fn damaged(dice: &mut Dice, line: String) -> Vec<u8> {
+    let mut bytes = line.into_bytes();
+    if !bytes.is_empty() && dice.once_in(30) {
+        damage(dice, &mut bytes);
     }
     bytes
 }

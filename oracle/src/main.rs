@@ -42,10 +42,12 @@ mod lines_check;
 mod loaded;
 mod long;
 mod original;
+mod printed_lines;
 mod random;
 mod rate_zero;
 #[cfg(archive)]
 mod rattle;
+mod read_back;
 mod rings;
 mod sample;
 mod seasons;
@@ -69,6 +71,7 @@ use apart::Apart;
 use compare::{Comparison, Shared};
 use defaults::Defaults;
 use input_lines::Program;
+use read_back::ReadBacks;
 use rings::Rings;
 use shots::Shots;
 use twin::calls::Limiters;
@@ -88,7 +91,7 @@ fn main() {
         [one @ ("season" | "history" | "parties" | "apart" | "ring"), seed, ref mode @ ..] => {
             println!("{}", history(one, number(seed), clock(mode)));
         }
-        [part @ ("shots" | "rings" | "defaults"), calls, seed, ref wishes @ ..]
+        [part @ ("shots" | "rings" | "defaults" | "read-back"), calls, seed, ref wishes @ ..]
             if wishes.iter().all(|wish| *wish == "first") =>
         {
             let most_differing = if wishes.is_empty() { 100 } else { 1 };
@@ -102,7 +105,7 @@ fn main() {
         }
         _ => panic!(
             "CALLS SEED [tally] [first] [few], history|parties|apart|season|ring SEED [nanoseconds], broken ROOMS SEED, \
-             shots|rings|defaults CALLS SEED [first], sample CALLS SEED, desk LINES SEED, or shot-lines LINES SEED"
+             shots|rings|defaults CALLS SEED [first], read-back LINES SEED [first], sample CALLS SEED, desk LINES SEED, or shot-lines LINES SEED"
         ),
     }
 }
@@ -150,6 +153,12 @@ fn compare_part(part: &str, most_differing: u64, calls: u64, seed: u64) -> ! {
             let both = compare_rings(most_differing, calls, seed);
             show(&both);
             end(both.iter().map(Rings::differed).sum());
+        }
+        "read-back" => {
+            let mut lines = ReadBacks::new(most_differing);
+            lines.run(calls, seed);
+            println!("{lines}");
+            end(lines.differed);
         }
         _ => {
             let mut both = CLOCKS.map(|clock| Defaults::new(clock, most_differing));
@@ -291,6 +300,8 @@ struct Compared {
     two: [TwoParties; 2],
     rings: [Rings; 2],
     defaults: [Defaults; 2],
+    /// Lines have no clock mode.
+    read_backs: ReadBacks,
 }
 
 impl Compared {
@@ -300,6 +311,7 @@ impl Compared {
             && self.two.iter().all(TwoParties::goes_on)
             && self.rings.iter().all(Rings::goes_on)
             && self.defaults.iter().all(|Defaults(one)| one.goes_on())
+            && self.read_backs.goes_on()
     }
 
     /// One part in each clock mode. Nanoseconds mostly have the first difference.
@@ -320,22 +332,31 @@ impl Compared {
         }
     }
 
+    fn run_read_backs(&mut self, lines: u64, seed: u64) {
+        if self.goes_on() {
+            self.read_backs.run(lines, seed);
+        }
+    }
+
     fn differed(&self) -> u64 {
         let both: u64 = self.both.iter().map(|one| one.differed).sum();
         let two: u64 = self.two.iter().map(TwoParties::differed).sum();
+        let rings: u64 = self.rings.iter().map(Rings::differed).sum();
         let defaults: u64 = self.defaults.iter().map(|Defaults(one)| one.differed).sum();
-        both + two + defaults + self.rings.iter().map(Rings::differed).sum::<u64>()
+        both + two + rings + defaults + self.read_backs.differed
     }
 }
 
-/// All parts, two parties, the length of rings, the defaults, and the shots; for each two lines.
+/// All parts, two parties, the length of rings, the defaults, and the shots, for each two lines; and one for lines read back.
 fn compare(calls: u64, seed: u64, wishes: &[&str]) -> ! {
     let both = CLOCKS.map(|clock| comparison(clock, wishes));
     let two = CLOCKS.map(|clock| TwoParties::new(clock, wishes));
     let rings = both.each_ref().map(|one| Rings::new(one.clock, one.most_differing));
     let defaults = both.each_ref().map(|one| Defaults::new(one.clock, one.most_differing));
-    let mut compared = Compared { both, two, rings, defaults };
+    let read_backs = ReadBacks::new(both[0].most_differing);
+    let mut compared = Compared { both, two, rings, defaults, read_backs };
     compared.each(|one, _, _| compare_desk(one, calls, seed));
+    compared.run_read_backs(calls / 10, seed);
     compared.each(|_, _, rings| rings.numbers(calls / 60, seed));
     compared.each(|_, two, _| two.run(calls, seed));
     compared.each(|one, _, _| random::run(one, calls, seed));
@@ -352,8 +373,9 @@ fn compare(calls: u64, seed: u64, wishes: &[&str]) -> ! {
             all_short::run(one, seed);
         });
     }
-    let Compared { both, two, rings, defaults } = &compared;
+    let Compared { both, two, rings, defaults, read_backs } = &compared;
     two.iter().map(|two| &two.shared).chain(both).for_each(Comparison::show_tally);
+    println!("{read_backs}");
     show(&shots);
     show(&rings.each_ref());
     show(&defaults.each_ref());

@@ -103,6 +103,7 @@ unsafe extern "C" {
         clock: u64,
         row: *mut u64,
     ) -> u64;
+    fn frostaxle_read_line(line: *const u8, length: usize, row: *mut u64) -> u64;
 }
 
 /// How many words a room needs, 0 where there is no such room.
@@ -123,6 +124,7 @@ pub fn make(room: &mut [u64], slots: u64, ring: u64) -> u64 {
 const GUARD: u64 = 0x5a5a_a5a5_c3c3_3c3c;
 const GUARDS: usize = 8;
 const ROW: usize = 5;
+const LINE_ROW: usize = 7;
 const MOST_BUCKETS: usize = 512;
 
 /// Words with guards on both sides.
@@ -150,8 +152,8 @@ impl Lent {
 }
 
 /// The row back, once a function returned this number.
-fn row_back(row: Lent, number: u64) -> [u64; ROW] {
-    let mut told = [0; ROW];
+fn row_back<const WORDS: usize>(row: Lent, number: u64) -> [u64; WORDS] {
+    let mut told = [0; WORDS];
     row.give_back(&mut told);
     assert_eq!(number, told[0], "what is returned is the row's first word");
     told
@@ -543,6 +545,16 @@ fn ring_row(settings: &Settings, clock: u64) -> [u64; ROW] {
     let mut row = Lent::new(&[GUARD; ROW]);
     let told = row.words().as_mut_ptr();
     let number = unsafe { frostaxle_sufficient_ring(window, bucket, cache, factor, clock, told) };
+    row_back(row, number)
+}
+
+/// The row of a line that is read back. It stands between digits, which no reading may take in.
+pub fn read_line(line: &[u8]) -> [u64; LINE_ROW] {
+    let digits: &[u8] = b"12345678";
+    let lent = [digits, line, digits].concat();
+    let mut row = Lent::new(&[GUARD; LINE_ROW]);
+    let (start, told) = (lent[digits.len()..].as_ptr(), row.words().as_mut_ptr());
+    let number = unsafe { frostaxle_read_line(start, line.len(), told) };
     row_back(row, number)
 }
 

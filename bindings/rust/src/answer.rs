@@ -139,7 +139,7 @@ fn case(row: Row) -> Result<(u64, [u64; 3]), Refusal> {
     }
 }
 
-const UNKNOWN_CASE: Refusal = Refusal::Other(0);
+pub(crate) const UNKNOWN_CASE: Refusal = Refusal::Other(0);
 
 pub(crate) fn decision(row: Row) -> Result<Decision, Refusal> {
     match case(row)? {

@@ -3,6 +3,9 @@
 /// An answer: a refusal's number or 0, the case, and three values.
 pub type Row = [u64; 5];
 
+/// What a line says: 14 or 0, the case, the reading, two values and two totals.
+pub type LineRow = [u64; 7];
+
 #[link(name = "abi", kind = "static")]
 extern "C" {
     pub fn frostaxle_room_words(slots: u64, ring: u64) -> usize;
@@ -93,6 +96,8 @@ extern "C" {
     ) -> u64;
 
     pub fn frostaxle_gateway_new_season(table: *mut u64, table_len: usize, row: *mut Row) -> u64;
+
+    pub fn frostaxle_read_line(line: *const u8, line_len: usize, row: *mut LineRow) -> u64;
 }
 
 /// Declares faces that differ only in what follows the settings, the room, the reading and the caller.
@@ -222,6 +227,36 @@ mod tests {
                 )
             };
             assert_eq!((number, row, room), (refusal, [refusal, 0, 0, 0, 0], made));
+        }
+    }
+
+    const HALF: u64 = 0.5_f64.to_bits();
+
+    /// A line of each case and one that does not read, with their rows.
+    const LINES: [(&[u8], LineRow); 7] = [
+        (b"t=1 code=0 answer=allowed factor=0000000000000000 wait=0 left=0 total=6 declined=5", [0, 1, 1, 0, 0, 6, 5]),
+        (b"t=2 code=0 answer=rejected factor=0000000000000000 wait=3 left=4 total=6 declined=5", [0, 2, 2, 3, 4, 6, 5]),
+        (b"t=3 code=0 answer=yes factor=3fe0000000000000 wait=0 left=0 total=6 declined=5", [0, 3, 3, HALF, 1, 6, 5]),
+        (b"t=4 code=0 answer=no factor=3fe0000000000000 wait=0 left=0 total=6 declined=5", [0, 3, 4, HALF, 0, 6, 5]),
+        (b"t=5 code=0 answer=value factor=3fe0000000000000 wait=0 left=0 total=6 declined=5", [0, 5, 5, HALF, 0, 6, 5]),
+        (
+            b"t=6 code=13 answer=refused factor=0000000000000000 wait=0 left=0 total=0 declined=0",
+            [0, 6, 6, 13, 0, 0, 0],
+        ),
+        (
+            b"t=7 code=14 answer=refused factor=0000000000000000 wait=0 left=0 total=0 declined=0",
+            [14, 0, 0, 0, 0, 0, 0],
+        ),
+    ];
+
+    /// The row of a line is written whole, whatever it held, and its first word is given back.
+    #[test]
+    fn rows_of_lines() {
+        for (line, words) in LINES {
+            let mut row = [9; 7];
+            // SAFETY: the pointer and the length are those of a live slice, which `row` does not overlap.
+            let number = unsafe { frostaxle_read_line(line.as_ptr(), line.len(), &mut row) };
+            assert_eq!((number, row), (words[0], words));
         }
     }
 

@@ -52,6 +52,9 @@
 //! A [`Gateway`] knows a controller's shots by their numbers: one that is sent again because its answer was lost is not
 //! admitted twice.
 //!
+//! What the program `desk` prints is read back as [`Line`]s, one meaning for each: a line prints as the bytes that it was
+//! read from, and any that `desk` does not print is refused with [`Refusal::NoCall`].
+//!
 //! Building: `rt staticlib abi` in the repository makes the archive. With cargo, `cargo build --offline` here finds it, or
 //! in the folder that `FROSTAXLE_LIB` names. With rustc alone, in the repository:
 //!
@@ -66,6 +69,7 @@ mod clock;
 mod faces;
 mod gateway;
 mod limiters;
+mod line;
 mod parties;
 mod refusal;
 mod room;
@@ -74,6 +78,7 @@ pub use answer::{Bucket, Comparator, Decision, Preservation, SetOutcome, Shot, S
 pub use clock::{ClockMode, Reading};
 pub use gateway::Gateway;
 pub use limiters::{Absolute, Provider, Settings, Suppressed};
+pub use line::{Line, Told, Totals};
 pub use parties::{Party, Promises};
 pub use refusal::Refusal;
 pub use room::{Room, Table};

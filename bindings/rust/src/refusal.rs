@@ -7,7 +7,7 @@ use std::fmt;
 /// between [`LongKey`](Refusal::LongKey) and [`BadRate`](Refusal::BadRate), and those of a shot's number before all.
 ///
 /// No call is refused with 13, and its number is not used again: it was a factor worked out at perceived rate zero, which
-/// is 0 now.
+/// is 0 now. A [`Line`](crate::Line) may still tell it, as [`Other`](Refusal::Other)`(13)`.
 #[derive(Clone, Copy, Debug, PartialEq, Eq, Hash)]
 #[non_exhaustive]
 pub enum Refusal {
@@ -30,6 +30,9 @@ pub enum Refusal {
     /// of the window. A room of [`Room::for_settings`](crate::Room::for_settings) never meets it while it has those
     /// settings; one with shorter rings may.
     RingFull,
+    /// A number that stands for no comparator or preservation, which [`Comparator`](crate::Comparator) and
+    /// [`Preservation`](crate::Preservation) cannot say; or a line that does not read, since `desk` prints none such. A
+    /// [`Line`](crate::Line) tells it of a line that `desk` was given and does not take.
     NoCall,
     /// A party other than the two, which [`Party`](crate::Party) cannot say.
     BadParty,
@@ -46,7 +49,8 @@ pub enum Refusal {
     /// make a room by [`Room::new`](crate::Room::new) and live with [`RingFull`](Refusal::RingFull). The binding
     /// tells this itself, so it has no number.
     RingTooLong,
-    /// A number, or with 0 a case of an answer, that this binding has no name for: it was made for another archive.
+    /// A number, or with 0 a case of an answer, that this binding has no name for: it was made for another archive. 13
+    /// is one that a [`Line`](crate::Line) tells.
     Other(u64),
 }
 
@@ -118,7 +122,7 @@ impl Refusal {
             Refusal::TotalTooLarge => "the key's total would pass 2^53",
             Refusal::NoFreeSlot => "a slot is needed, and the party holds as many as it is promised",
             Refusal::RingFull => "the key's ring of buckets is full",
-            Refusal::NoCall => "a number that stands for no comparator or preservation",
+            Refusal::NoCall => "a number that stands for no comparator or preservation, or a line that does not read",
             Refusal::BadParty => "the party is neither 1 nor 2",
             Refusal::BadPromise => {
                 "the promises together pass the room's slots, or a party holds more than it is promised"
@@ -130,6 +134,7 @@ impl Refusal {
             Refusal::RingTooLong => {
                 "the settings need rings of more than 512 buckets: take longer buckets or a shorter window"
             }
+            Refusal::Other(13) => "a refusal that no call gives any more",
             Refusal::Other(_) => "an answer that this binding does not know",
         }
     }

@@ -1,5 +1,5 @@
 // The faces for C and Rust: every call over numbers and lent words. The answer goes out as a row of five words, and each face returns the row's first, the
-// refusal's number or 0. include/frostaxle.h says it to C programmers.
+// refusal's number or 0; of a line of `desk` that is read back the row has seven. include/frostaxle.h says it to C programmers.
 ghost use mathlib.Core.Path.{_≡_};
 ghost use mathlib.Core.Bool.{cond};
 ghost use lib.Dec.{eqb};
@@ -21,6 +21,7 @@ ghost use Rattle.provider.specs.Provider as Provider;
 ghost use Rattle.table.specs.Table.{tableWords, emptyTable};
 ghost use Rattle.gateway.specs.Gateway as Gateway;
 ghost use Rattle.rows.specs.Plain.{Given};
+ghost use Rattle.rows.specs.Lines.{LineGiven};
 ghost use Rattle.inputs.specs.Inputs.{settings, rated, comparisonOf, replacing, preserving};
 ghost use Rattle.abi.specs.Faces.{Faced, callerOf, shown, shownBoth, shownGateway, shownSet, roomWords, makeNumber};
 ghost use Rattle.abi.specs.ReadOut.{bucketRow};
@@ -845,4 +846,15 @@ pub extern "C" fn frostaxle_suppressed_bucket(
         bucket_row(RoomKind::Suppressed, settings, room, party, key, at),
         row,
     )
+}
+
+// ---- the lines of `desk`
+
+// What a line tells, of any length, without its newline.
+#[no_mangle]
+pub extern "C" fn frostaxle_read_line(line: &[u8], row: &mut [u64; 7]) -> u64
+    ensures { λ n. ⌜ LineGiven (now (line .entry)) n (now (row .exit)) ⌝ }
+{
+    let answer = readback::read_line(line);
+    rows::give_line(rows::line_row(answer), row)
 }

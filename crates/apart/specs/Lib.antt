@@ -9,3 +9,4 @@ pub mod Promised
 pub mod Like
 pub mod Apart
 pub mod Alone
+pub mod Own

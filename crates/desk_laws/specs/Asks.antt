@@ -1,15 +1,20 @@
 -- What a line of `desk` asks of its two rooms, as a call of the limiters, whose answer's number is the code that is printed; and which codes a program prints:
 -- those of its calls, of a bad line, of settings outside their ranges.
 -- Assumes nothing.
-use mathlib.Core.Path.{_≡_}
-use mathlib.Core.Bool.{Bool, true, false, cond}
-use mathlib.Core.List.{List}
-use mathlib.Core.Logic.{_≢_}
-use Prim.Native.Nat.{ℕ}
+use mathlib.Core.Path.{_≡_, sym, ap, _∙_}
+use mathlib.Core.Bool.{Bool, true, false, cond, false≢true}
+use mathlib.Core.List.{List, [], _∷_}
+use mathlib.Core.Logic.{_≢_, _⊎_, inl, inr}
+use Prim.Native.Nat.{ℕ, zero, suc, _<_}
+use native.Mathlib.Decide.{decLt}
+use native.Mathlib.Omega.{arith}
 use lib.Dec.{eqb}
+use Rattle.fields.specs.Bytes.{counted, counts, class-bad}
+use Rattle.fields.specs.Numbers.{Each}
 use Rattle.common.specs.Refusals.{first}
 use Rattle.settings.specs.Settings.{faults}
 use Rattle.settings.specs.declared.Settings.{Settings}
+use Rattle.frame.specs.Keys.{Bytes}
 use Rattle.parties.specs.Parties.{sent}
 use Rattle.rules.specs.declared.RoomKind.{RoomKind}
 use Rattle.rules.specs.declared.RoomKind.the-variants.{Absolute, Suppressed}
@@ -18,7 +23,8 @@ use Rattle.lines.specs.declared.Op as lineOp
 use Rattle.lines.specs.declared.Op.the-variants.{AbsoluteInc, AbsoluteGet, SuppressedInc, SuppressedGet}
 use Rattle.lines.specs.declared.SettingsLine.{SettingsLine}
 use Rattle.lines.specs.declared.SettingsLine.the-variants as settings
-use Rattle.desk_lines.specs.Lines.{alone, badLine, perMinute}
+use Rattle.told.specs.Told.{badLine}
+use Rattle.desk_lines.specs.Lines.{alone, perMinute}
 use Rattle.desk_step.specs.Desk.{callOf, absoluteInc, absoluteGet, suppressedInc, suppressedGet, settingsOf, openWith, openingIn, openingOf}
 use Rattle.desk_step.specs.declared.Opening.the-variants as opening
 use Rattle.desk_turn.specs.declared.Program.{Program}
@@ -28,6 +34,27 @@ use Rattle.desk_turn.specs.Lines.{printsIn, steppedBy, turn}
 use Rattle.steps.specs.Ops as Ops
 use Rattle.steps.specs.Ops.{Op, answerNumber}
 use Rattle.desk_laws.specs.Lines.{Without, Stand, decision-code, total-code, snapshot-code, no-line, one-line}
+
+-- ---- keys of lines are bytes
+
+plain-byte : (b : ℕ) → counts true b ≡ true → b < 256
+plain-byte b e = go (decLt b 256)
+  where
+    go : Dec (b < 256) → b < 256
+    go (yes h) = h
+    go (no h) =
+        let digit : 57 < b = omega arith in
+        let letter : 122 < b = omega arith in
+        absurd (false≢true (sym (ap (counted true) (class-bad b (inr digit) (inr letter) apart)) ∙ e))
+      where
+        apart : (b ≡ 32) ⊎ (b ≡ 61) → ⊥
+        apart (inl p) = omega arith
+        apart (inr p) = omega arith
+
+pub plain-bytes : (key : List ℕ) → Each (counts true) key → Bytes key
+plain-bytes [] p i = omega arith
+plain-bytes (b ∷ bs) p zero = plain-byte b (p .0)
+plain-bytes (b ∷ bs) p (suc i) = plain-bytes bs (p .1) i
 
 -- ---- a call
 

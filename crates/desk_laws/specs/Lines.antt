@@ -14,8 +14,7 @@ use Rattle.lines.specs.Laws.{Spaced, spaced-stops}
 use Rattle.lines.specs.ReadLaws.{Stops, run-shown}
 use Rattle.lines.specs.Shown.{tText, factorText}
 use Rattle.printing.specs.Answers.{codeText, answerText, showHex16, showVerdict, showCounts, showAnswer}
-use Rattle.printing.specs.declared.Answer.{Answer}
-use Rattle.printing.specs.declared.Answer.the-variants.{Allowed, Rejected, Yes, No, Value, Held, Refused}
+use Rattle.answer_lines.specs.Laws.{word-spaced}
 use Rattle.answers.specs.Rows.{decisionRow, totalRow, snapshotRow, shotRow, numberOf}
 use Rattle.answers.specs.declared.RateLimitDecision.{RateLimitDecision}
 use Rattle.answers.specs.declared.RateLimitDecision.the-variants as decision
@@ -26,7 +25,8 @@ use Rattle.answers.specs.declared.SnapshotAnswer.the-variants as snapshot
 use Rattle.answers.specs.declared.TotalAnswer.{TotalAnswer}
 use Rattle.answers.specs.declared.TotalAnswer.the-variants as total
 use Rattle.printing.specs.declared.AnswerLine.{AnswerLine}
-use Rattle.desk_lines.specs.declared.Stored.{Stored}
+use Rattle.told.specs.Told.{decided, live, snapped, lineOf}
+use Rattle.told.specs.declared.Stored.{Stored}
 use Rattle.desk_lines.specs.Lines.{decisionLine, totalLine, snapshotLine, shotLine}
 use Rattle.desk_turn.specs.Lines.{newline, shown}
 use Rattle.desk_turn.specs.Lines as Turn
@@ -52,7 +52,7 @@ pub record Without (n : ℕ) (bytes : List ℕ) : Type 0 where
 -- ---- a line's code is its answer's number
 
 pub decision-code : (t : ℕ) (d : RateLimitDecision) (x : Stored) → decisionLine t d x .code ≡ numberOf (decisionRow d)
-unfolding decisionLine decisionRow
+unfolding decisionLine lineOf decided decisionRow
 decision-code t decision.Allowed x = refl
 decision-code t (decision.Rejected window wait left) x = refl
 decision-code t (decision.Suppressed factor admitted) x = refl
@@ -65,12 +65,12 @@ shot-code t (shot.Decided d) x = decision-code t d x
 shot-code t (shot.Refused n) x = refl
 
 pub total-code : (t : ℕ) (d : TotalAnswer) → totalLine t d .code ≡ numberOf (totalRow d)
-unfolding totalLine totalRow
+unfolding totalLine lineOf live totalRow
 total-code t (total.Total n) = refl
 total-code t (total.Refused n) = refl
 
 pub snapshot-code : (t : ℕ) (d : SnapshotAnswer) (x : Stored) → snapshotLine t d x .code ≡ numberOf (snapshotRow d)
-unfolding snapshotLine snapshotRow
+unfolding snapshotLine lineOf snapped snapshotRow
 snapshot-code t (snapshot.Snapshot y) x = refl
 snapshot-code t (snapshot.Refused n) x = refl
 
@@ -110,15 +110,6 @@ shown-is l =
     let counted = showCounts (l .wait) (l .left) (l .total) (l .declined) in
     ap (λ (x : List ℕ). tText ++ (x ++ (newline ∷ []))) (parts factor counted) ∙ ap (λ (x : List ℕ). tText ++ x) (parts (factor ++ counted) (newline ∷ []))
 
-word-spaced : (a : Answer) → Spaced (answerText a)
-word-spaced Allowed = refl
-word-spaced Rejected = refl
-word-spaced Yes = refl
-word-spaced No = refl
-word-spaced Value = refl
-word-spaced Held = refl
-word-spaced Refused = refl
-
 pub code-told : (l m : AnswerLine) → shown l ≡ shown m → l .code ≡ m .code
 code-told l m e =
     let past : showNumber (l .t) ++ (codeText ++ fromCode l) ≡ showNumber (m .t) ++ (codeText ++ fromCode m) =
@@ -138,7 +129,7 @@ no-line n = record { lines = []; text = refl; codes = tt }
 pub one-line : (n : ℕ) (l : AnswerLine) → l .code ≢ n → Without n (shown l)
 one-line n l h = record { lines = l ∷ []; text = sym (append-nil (shown l)); codes = (λ m e f. h (code-told l m f ∙ e), tt) }
 
-texts-both : (ls ms : List AnswerLine) → texts ls ++ texts ms ≡ texts (ls ++ ms)
+pub texts-both : (ls ms : List AnswerLine) → texts ls ++ texts ms ≡ texts (ls ++ ms)
 texts-both [] ms = refl
 texts-both (l ∷ ls) ms = append-assoc (shown l) (texts ls) (texts ms) ∙ ap (λ (xs : List ℕ). shown l ++ xs) (texts-both ls ms)
 
@@ -157,13 +148,20 @@ more-lines n xs ys p q = record {
 abbrev pub Stand : Type 1
 Stand = Phase → List ℕ → List ℕ → Type 0
 
--- a whole input: where each turn prints such lines, and leaves what makes it so, all do
+-- a whole input: where each turn prints bytes of which Q holds, and leaves what makes it so, Q holds of all that is printed
+pub all-turns : (Q : List ℕ → Type 0) → Q [] → ((xs ys : List ℕ) → Q xs → Q ys → Q (xs ++ ys)) → (P : Stand) →
+    ((p : Phase) (a b line : List ℕ) → P p a b → Q (Turn.turn p a b line .prints)) →
+    ((p : Phase) (a b line : List ℕ) → P p a b → let e = Turn.turn p a b line in P (e .phase) (e .first) (e .second)) →
+    (p : Phase) (a b : List ℕ) (ls : List (List ℕ)) → P p a b → Q (turns p a b ls)
+unfolding turns
+all-turns Q none more P each keeps p a b [] h = none
+all-turns Q none more P each keeps p a b (l ∷ ls) h =
+    let e = Turn.turn p a b l in
+    more (e .prints) (turns (e .phase) (e .first) (e .second) ls) (each p a b l h)
+    (all-turns Q none more P each keeps (e .phase) (e .first) (e .second) ls (keeps p a b l h))
+
+-- lines without a code
 pub all-lines : (n : ℕ) (P : Stand) → ((p : Phase) (a b line : List ℕ) → P p a b → Without n (Turn.turn p a b line .prints)) →
     ((p : Phase) (a b line : List ℕ) → P p a b → let e = Turn.turn p a b line in P (e .phase) (e .first) (e .second)) →
     (p : Phase) (a b : List ℕ) (ls : List (List ℕ)) → P p a b → Without n (turns p a b ls)
-unfolding turns
-all-lines n P each keeps p a b [] h = no-line n
-all-lines n P each keeps p a b (l ∷ ls) h =
-    let e = Turn.turn p a b l in
-    more-lines n (e .prints) (turns (e .phase) (e .first) (e .second) ls) (each p a b l h)
-    (all-lines n P each keeps (e .phase) (e .first) (e .second) ls (keeps p a b l h))
+all-lines n = all-turns (Without n) (no-line n) (more-lines n)

@@ -33,7 +33,7 @@ use Rattle.desk_lines.specs.Step.{badStep}
 use Rattle.desk_step.specs.Desk as Calls
 use Rattle.desk_step.specs.Desk.{openingOf}
 use Rattle.shots_step.specs.Shots as Shot
-use Rattle.desk_lines.specs.Lines.{badLine, refusedLine}
+use Rattle.told.specs.Told.{badLine, refusedLine}
 use Rattle.desk_step.specs.declared.Opening.{Opening}
 use Rattle.desk_step.specs.declared.Opening.the-variants as opening
 use Rattle.desk_turn.specs.declared.Program.{Program}
@@ -323,18 +323,18 @@ program-prints g h xs e = whole-input g (newFirst g) (newSecond g) h xs 65536 (o
 -- ---- the first line
 
 -- a byte that ends no line
-abbrev inLine : ℕ → Bool
+abbrev pub inLine : ℕ → Bool
 inLine b = not (eqb b newline)
 
-abbrev allInLine : List ℕ → Bool
+abbrev pub allInLine : List ℕ → Bool
 allInLine [] = true
 allInLine (b ∷ bs) = inLine b && allInLine bs
 
-text-in-line : (bs : List ℕ) → allInLine bs ≡ true → Each inLine bs
+pub text-in-line : (bs : List ℕ) → allInLine bs ≡ true → Each inLine bs
 text-in-line [] e = tt
 text-in-line (b ∷ bs) e = let x = both (inLine b) (allInLine bs) e in (x .0, text-in-line bs (x .1))
 
-digits-in-line : (bs : List ℕ) → Each (counts false) bs → Each inLine bs
+pub digits-in-line : (bs : List ℕ) → Each (counts false) bs → Each inLine bs
 digits-in-line [] p = tt
 digits-in-line (b ∷ bs) p =
     let low : 48 ≤ b = digit-range b (p .0) .0 in
@@ -354,6 +354,19 @@ first-line acc (b ∷ bs) rest p =
   where
     go : (t : Bool) → not t ≡ true → inputLines (acc ++ (b ∷ [])) (bs ++ (newline ∷ rest)) ≡ (acc ++ (b ∷ bs)) ∷ callLines [] rest →
         cond t (acc ∷ callLines [] (bs ++ (newline ∷ rest))) (inputLines (acc ++ (b ∷ [])) (bs ++ (newline ∷ rest))) ≡ (acc ++ (b ∷ bs)) ∷ callLines [] rest
+    go true q e = absurd (false≢true q)
+    go false q e = e
+
+-- the same of a line behind the first
+pub next-line : (acc text rest : List ℕ) → Each inLine text → callLines acc (text ++ (newline ∷ rest)) ≡ (acc ++ text) ∷ callLines [] rest
+unfolding callLines
+next-line acc [] rest p = ap (λ (l : List ℕ). l ∷ callLines [] rest) (sym (append-nil acc))
+next-line acc (b ∷ bs) rest p =
+    go (eqb b newline) (p .0)
+    (next-line (acc ++ (b ∷ [])) bs rest (p .1) ∙ ap (λ (l : List ℕ). l ∷ callLines [] rest) (append-assoc acc (b ∷ []) bs))
+  where
+    go : (t : Bool) → not t ≡ true → callLines (acc ++ (b ∷ [])) (bs ++ (newline ∷ rest)) ≡ (acc ++ (b ∷ bs)) ∷ callLines [] rest →
+        cond t (acc ∷ callLines [] (bs ++ (newline ∷ rest))) (callLines (acc ++ (b ∷ [])) (bs ++ (newline ∷ rest))) ≡ (acc ++ (b ∷ bs)) ∷ callLines [] rest
     go true q e = absurd (false≢true q)
     go false q e = e
 

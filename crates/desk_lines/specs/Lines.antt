@@ -25,7 +25,10 @@ use Rattle.parties.specs.declared.Caller.{Caller}
 use Rattle.printing.specs.declared.Answer.{Answer}
 use Rattle.printing.specs.declared.Answer.the-variants as answer
 use Rattle.printing.specs.declared.AnswerLine.{AnswerLine}
-use Rattle.desk_lines.specs.declared.Stored.{Stored}
+use Rattle.told.specs.Told.{said, refusedLine, decided, live, snapped, lineOf}
+use Rattle.told.specs.declared.Stored.{Stored}
+use Rattle.told.specs.declared.Told.{Told}
+use Rattle.told.specs.declared.ToldLine.{ToldLine}
 
 -- the one party, promised every slot of room w
 abbrev pub alone : List ℕ → Caller
@@ -50,27 +53,12 @@ storedOf w key =
 
 -- ---- lines
 
--- "Fields that do not apply, and on a refusal all after `answer`, are 0"
-abbrev pub refusedLine : ℕ → ℕ → AnswerLine
-refusedLine t n = record { t = t; code = n; answer = answer.Refused; factor = 0; wait = 0; left = 0; total = 0; declined = 0 }
+-- a line of what is told at reading t
+abbrev pub lineAt : ℕ → Told → AnswerLine
+lineAt t told = lineOf (record { t = t; told = told })
 
--- "14: a bad line"
-abbrev pub badLine : ℕ
-badLine = 14
-
-abbrev pub said : ℕ → Answer → ℕ → ℕ → ℕ → Stored → AnswerLine
-said t word factor wait left x = record { t = t; code = 0; answer = word; factor = factor; wait = wait; left = left; total = x .total; declined = x .declined }
-
-abbrev pub yesOrNo : Bool → Answer
-yesOrNo true = answer.Yes
-yesOrNo false = answer.No
-
--- "`wait` (when to ask again, taken as the Rust's retry_after in ms), `left` (oldest bucket's count)"; x is what is stored after the call
 unfoldable pub decisionLine : ℕ → RateLimitDecision → Stored → AnswerLine
-decisionLine t decision.Allowed x = said t answer.Allowed 0 0 0 x
-decisionLine t (decision.Rejected window wait left) x = said t answer.Rejected 0 wait left x
-decisionLine t (decision.Suppressed factor admitted) x = said t (yesOrNo admitted) (toBits binary64 factor) 0 0 x
-decisionLine t (decision.Refused n) x = refusedLine t n
+decisionLine t d x = lineAt t (decided d x)
 
 -- a shot: a decision's line, and one word more
 unfoldable pub shotLine : ℕ → ShotAnswer → Stored → AnswerLine
@@ -78,14 +66,11 @@ shotLine t shot.Held x = said t answer.Held 0 0 0 x
 shotLine t (shot.Decided d) x = decisionLine t d x
 shotLine t (shot.Refused n) x = refusedLine t n
 
--- "live for aget": the live total that it answers; an absolute room declines nothing
 unfoldable pub totalLine : ℕ → TotalAnswer → AnswerLine
-totalLine t (total.Total n) = said t answer.Value 0 0 0 (record { total = n; declined = 0 })
-totalLine t (total.Refused n) = refusedLine t n
+totalLine t a = lineAt t (live a)
 
 unfoldable pub snapshotLine : ℕ → SnapshotAnswer → Stored → AnswerLine
-snapshotLine t (snapshot.Snapshot y) x = said t answer.Value (toBits binary64 (y .«suppression_factor»)) 0 0 x
-snapshotLine t (snapshot.Refused n) x = refusedLine t n
+snapshotLine t a x = lineAt t (snapped a x)
 
 -- "`rate` is whole per minute": the arithmetic of `RateLimit::per_minute`
 unfoldable pub perMinute : ℕ → RateLimit

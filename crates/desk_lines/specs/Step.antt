@@ -5,7 +5,7 @@ use mathlib.Core.Path.{_≡_}
 use mathlib.Core.List.{List}
 use Prim.Native.Nat.{ℕ}
 use Rattle.printing.specs.declared.AnswerLine.{AnswerLine}
-use Rattle.desk_lines.specs.Lines.{refusedLine, badLine}
+use Rattle.told.specs.Told.{refusedLine, badLine}
 
 -- what is printed, and both memories after the line
 pub record Step : Type 0 where

@@ -14,7 +14,7 @@ use Rattle.keys.specs.Keys.{keyOf}
 use Rattle.room.specs.Laws.{room-sized}
 use Rattle.opened.specs.Sound.{hasSeries}
 use Rattle.printing.specs.declared.AnswerLine.{AnswerLine}
-use Rattle.desk_lines.specs.declared.Stored.{Stored}
+use Rattle.told.specs.declared.Stored.{Stored}
 use Rattle.desk_lines.specs.Lines.{noStored, storedOf}
 
 -- ---- what is stored

@@ -36,7 +36,8 @@ use Rattle.shot_lines.specs.Laws.{ShotRead, shot-read}
 use Rattle.shot_lines.specs.Reading.{readShot}
 use Rattle.shot_lines.specs.declared.ShotLine.{ShotLine}
 use Rattle.shot_lines.specs.declared.ShotLine.the-variants as shotLine
-use Rattle.desk_lines.specs.Lines.{alone, badLine, perMinute}
+use Rattle.told.specs.Told.{badLine}
+use Rattle.desk_lines.specs.Lines.{alone, perMinute}
 use Rattle.desk_step.specs.Desk as Calls
 use Rattle.desk_step.specs.Desk.{openWith, openingIn, openingOf}
 use Rattle.desk_step.specs.declared.Opening.{Opening}
@@ -50,7 +51,7 @@ use Rattle.desk_turn.specs.Lines.{newline, phaseIn, printsIn, steppedBy, turn}
 use Rattle.desk_feed.specs.Contracts.{slotsOf, ringLength, newFirst, newSecond}
 use Rattle.desk_laws.specs.Whole.{inputLines, turns, printed, program-prints, settings-first}
 use Rattle.desk_laws.specs.Lines.{Without, Stand, shot-code, no-line, more-lines, all-lines}
-use Rattle.desk_laws.specs.Asks.{kindOf, roomOf, opOf, call-code, opening-line, turn-line}
+use Rattle.desk_laws.specs.Asks.{plain-bytes, kindOf, roomOf, opOf, call-code, opening-line, turn-line}
 use Rattle.steps.specs.Ops.{Op, Call, Keyed, AllKeyed, verdictOf, after, answerNumber, words}
 use Rattle.steps.specs.Order.{met, first-met}
 use Rattle.rings.specs.Roomy.{roomy-untold}
@@ -73,27 +74,6 @@ firstOf (line ∷ more) = line
 -- no line that a program prints has code 12, for any input with such a first line
 abbrev pub NeverFull : Program → Type 0
 NeverFull g = (h xs : List ℕ) → length h ≡ 200 → Enough (openingOf (firstOf (inputLines [] xs))) → Without 12 (printed g h xs)
-
--- ---- keys of lines are bytes
-
-plain-byte : (b : ℕ) → counts true b ≡ true → b < 256
-plain-byte b e = go (decLt b 256)
-  where
-    go : Dec (b < 256) → b < 256
-    go (yes h) = h
-    go (no h) =
-        let digit : 57 < b = omega arith in
-        let letter : 122 < b = omega arith in
-        absurd (false≢true (sym (ap (counted true) (class-bad b (inr digit) (inr letter) apart)) ∙ e))
-      where
-        apart : (b ≡ 32) ⊎ (b ≡ 61) → ⊥
-        apart (inl p) = omega arith
-        apart (inr p) = omega arith
-
-plain-bytes : (key : List ℕ) → Each (counts true) key → Bytes key
-plain-bytes [] p i = omega arith
-plain-bytes (b ∷ bs) p zero = plain-byte b (p .0)
-plain-bytes (b ∷ bs) p (suc i) = plain-bytes bs (p .1) i
 
 -- ---- a room that a history of calls has left
 

@@ -23,10 +23,11 @@ use Rattle.lines.specs.declared.Op.the-variants.{AbsoluteInc, AbsoluteGet, Supp
 use Rattle.lines.specs.declared.SettingsLine.{SettingsLine}
 use Rattle.lines.specs.declared.SettingsLine.the-variants as settings
 use Rattle.printing.specs.declared.AnswerLine.{AnswerLine}
-use Rattle.desk_lines.specs.declared.Stored.{Stored}
+use Rattle.told.specs.declared.Stored.{Stored}
 use Rattle.desk_step.specs.declared.Opening.{Opening}
 use Rattle.desk_step.specs.declared.Opening.the-variants.{Open, Refused}
-use Rattle.desk_lines.specs.Lines.{alone, storedOf, decisionLine, totalLine, snapshotLine, perMinute, badLine}
+use Rattle.desk_lines.specs.Lines.{alone, storedOf, decisionLine, totalLine, snapshotLine, perMinute}
+use Rattle.told.specs.Told.{badLine}
 use Rattle.desk_lines.specs.Step.{Step, badStep}
 
 -- ---- the calls

@@ -9,7 +9,7 @@ use Rattle.lines.specs.Laws.{KeyInside, key-inside, CallRead, call-read}
 use Rattle.lines.specs.Reading.{readCall}
 use Rattle.lines.specs.declared.CallLine.the-variants as call
 use Rattle.lines.specs.declared.Op.{Op}
-use Rattle.desk_lines.specs.declared.Stored.{Stored}
+use Rattle.told.specs.declared.Stored.{Stored}
 use Rattle.desk_step.specs.Desk.{lined}
 use Rattle.desk_lines.specs.Lines.{storedOf}
 use Rattle.desk_lines.specs.Stored.{line-is}

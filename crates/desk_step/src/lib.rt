@@ -1,19 +1,16 @@
 // What the program `desk` makes of a line: the settings of the first one; of each other one a call of a limiter, by its one party, and the line to print.
 ghost use mathlib.Core.Path.{_≡_};
 ghost use Rattle.judge.specs.Verdict.{Told};
-ghost use Rattle.desk_lines.specs.Lines.{refusedLine};
+ghost use Rattle.told.specs.Told.{refusedLine};
 ghost use Rattle.desk_lines.specs.Step.{Answered};
 ghost use Rattle.desk_step.specs.Desk.{absoluteInc, absoluteGet, suppressedInc, suppressedGet, callOf, stepped};
 ghost use Rattle.desk_step.specs.Desk.{settingsOf, openWith, openingOf};
 use common::BucketSize;
 use common::SuppressionFactorCachePeriod;
 use common::WindowSize;
-use desk_lines::BAD_LINE;
 use desk_lines::alone;
-use desk_lines::bad_line;
 use desk_lines::decision_line;
 use desk_lines::per_minute;
-use desk_lines::refused;
 use desk_lines::snapshot_line;
 use desk_lines::stored_of;
 use desk_lines::total_line;
@@ -23,6 +20,9 @@ use lines::SettingsLine;
 use printing::AnswerLine;
 use settings::ClockMode;
 use settings::Settings;
+use told::BAD_LINE;
+use told::bad_line;
+use told::refused;
 
 // ---- the calls
 

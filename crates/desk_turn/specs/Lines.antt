@@ -10,7 +10,7 @@ use Rattle.desk_lines.specs.Step.{Step}
 use Rattle.desk_step.specs.Desk as Calls
 use Rattle.desk_step.specs.Desk.{openingOf}
 use Rattle.shots_step.specs.Shots as Shot
-use Rattle.desk_lines.specs.Lines.{refusedLine}
+use Rattle.told.specs.Told.{refusedLine}
 use Rattle.desk_step.specs.declared.Opening.{Opening}
 use Rattle.desk_step.specs.declared.Opening.the-variants as opening
 use Rattle.desk_turn.specs.declared.Program.{Program}

@@ -157,7 +157,7 @@ module _ (s : Settings) (w : List ℕ) (t : ℕ) (key : Sent) where
           known = λ g. get-stands s w t key e a asked-is y (series-as true g);
           unknown-answer = λ g. sym r ∙ ap by (series-as false g);
           unit = subst (λ (b : SnapshotAnswer). SnapshotOk b) r
-              (snapshot-ok (x .series) (full (x .pass .«live_total») (x .pass .«live_declined»)) (found-ok s w t key e a asked-is .unit));
+              (snapshot-ok (x .series) (full (x .pass .«live_total») (x .pass .«live_declined»)) (found-ok s w t key e a asked-is .within));
           unknown = λ g. get-keeps s w t key e a asked-is (series-as false g);
         }
 
@@ -175,7 +175,7 @@ module _ (s : Settings) (w : List ℕ) (t : ℕ) (key : Sent) where
         (applied w (placeOf w z) key (joinTicks s) t ch) refl refl .answer in
         record {
           answer = sym r;
-          unit = subst (λ (b : FactorAnswer). FactorOk b) r (looked-ok s w t key e a looked-is .unit);
+          unit = subst (λ (b : FactorAnswer). FactorOk b) r (looked-ok s w t key e a looked-is .within);
           known = λ g. factor-stands s w t key e a looked-is k y (looked-as true g);
           kept = λ g u. factor-keeps s w t key e a looked-is k (looked-as false g) (usable-as ∙ u);
           anew = λ g u. factor-lone-stands s w t key e a looked-is k y (looked-as false g) (usable-as ∙ u);

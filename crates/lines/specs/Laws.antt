@@ -116,11 +116,11 @@ module _ (line first second third : List ℕ) where
       (eqb-true c (length line) s)))))
 
   -- what reads as numbers is these numbers shown
-  numbers-read : (at x y z : ℕ) → numbersAt line at first second third ≡ Are x y z → ReadNumbers line at first second third x y z
+  pub numbers-read : (at x y z : ℕ) → numbersAt line at first second third ≡ Are x y z → ReadNumbers line at first second third x y z
   numbers-read at x y z e = subst (NumbersRead at) e (numbers-found at)
 
   -- numbers that are shown read as these numbers
-  numbers-shown : (at x y z : ℕ) → Spaced second → Spaced third → NumbersFit x y z → drop at line ≡ showNumbers first x second y third z →
+  pub numbers-shown : (at x y z : ℕ) → Spaced second → Spaced third → NumbersFit x y z → drop at line ≡ showNumbers first x second y third z →
       numbersAt line at first second third ≡ Are x y z
   unfolding numbersAt
   numbers-shown at x y z s₁ s₂ f e =

@@ -49,7 +49,7 @@ pub enum Numbers {
 }
 
 // Those at `at`, each after its text, up to the line's end.
-fn numbers_at(line: &[u8], at: usize, first: &[u8], second: &[u8], third: &[u8]) -> Numbers
+pub fn numbers_at(line: &[u8], at: usize, first: &[u8], second: &[u8], third: &[u8]) -> Numbers
     ensures { λ r. ⌜ r ≡ numbersAt (now (line .entry)) at (now (first .entry)) (now (second .entry)) (now (third .entry)) ⌝ }
 {
     let Number::Found { value: x, next: a } = field_at(line, at, first) else {

@@ -1,4 +1,5 @@
-// Reads settings lines, call lines and shot lines, good and bad, and prints what was found; then prints answers.
+// Reads settings lines, call lines and shot lines, good and bad, and prints what was found; then prints answers; then reads printed lines back, and prints
+// what each tells, or 14.
 // A call that is read is told as an answer's line: t, the operation's number, the draw as 16 hex digits, the rate, n, and where its key lies.
 // So is a shot, with its own number in n's place.
 use libc::STDOUT_FILENO;
@@ -8,6 +9,7 @@ use lines::SettingsLine;
 use printing::Answer;
 use printing::AnswerLine;
 use shot_lines::ShotLine;
+use told::LineAnswer;
 
 fn write(out: &[u8], n: usize) {
     if n <= out.len() {
@@ -197,6 +199,76 @@ fn answers() {
     answer(4, Answer::Held, 0, 7);
 }
 
+fn back(line: &[u8]) {
+    match readback::read_line(line) {
+        LineAnswer::Line(l) => {
+            say(told::line_of(l));
+        }
+        LineAnswer::Refused(_) => {
+            io::write_all(STDOUT_FILENO, b"14\n");
+        }
+    }
+}
+
+fn good_lines() {
+    back(b"t=0 code=0 answer=allowed factor=0000000000000000 wait=0 left=0 total=8 declined=5");
+    back(
+        b"t=3000 code=0 answer=rejected factor=0000000000000000 wait=7000 left=6 total=10 declined=0",
+    );
+    back(b"t=1700 code=0 answer=no factor=3fe0000000000000 wait=0 left=0 total=15 declined=5");
+    back(
+        b"t=2 code=0 answer=yes factor=0000000000000001 wait=0 left=0 total=9007199254740992 declined=9007199254740992",
+    );
+    back(
+        b"t=18446744073709551615 code=0 answer=value factor=3ff0000000000000 wait=0 left=0 total=15 declined=5",
+    );
+    back(
+        b"t=0 code=0 answer=rejected factor=0000000000000000 wait=18446744073709551615 left=18446744073709551615 total=0 declined=0",
+    );
+    back(b"t=0 code=1 answer=refused factor=0000000000000000 wait=0 left=0 total=0 declined=0");
+    back(b"t=1699 code=6 answer=refused factor=0000000000000000 wait=0 left=0 total=0 declined=0");
+    back(b"t=7 code=13 answer=refused factor=0000000000000000 wait=0 left=0 total=0 declined=0");
+    back(b"t=0 code=14 answer=refused factor=0000000000000000 wait=0 left=0 total=0 declined=0");
+}
+
+fn bad_forms() {
+    back(b"");
+    back(b"t=0 code=0 answer=allowed factor=0000000000000000 wait=0 left=0 total=8 declined=5\n");
+    back(b"t=0 code=0 answer=allowed factor=0000000000000000 wait=0 left=0 total=8 declined=5\r");
+    back(b"t=0 code=0 answer=allowed factor=0000000000000000 wait=0 left=0 total=8 declined=5 ");
+    back(b"t=0  code=0 answer=allowed factor=0000000000000000 wait=0 left=0 total=8 declined=5");
+    back(b"t=0code=0 answer=allowed factor=0000000000000000 wait=0 left=0 total=8 declined=5");
+    back(b"t=00 code=0 answer=allowed factor=0000000000000000 wait=0 left=0 total=8 declined=5");
+    back(
+        b"t=18446744073709551616 code=0 answer=allowed factor=0000000000000000 wait=0 left=0 total=8 declined=5",
+    );
+    back(b"t=1700 code=0 answer=no factor=3FE0000000000000 wait=0 left=0 total=15 declined=5");
+    back(b"t=1700 code=0 answer=no factor=3fe000000000000 wait=0 left=0 total=15 declined=5");
+    back(b"t=1700 code=0 answer=no factor=3fe00000000000000 wait=0 left=0 total=15 declined=5");
+    back(b"t=0 code=0 answer=held factor=0000000000000000 wait=0 left=0 total=7 declined=5");
+    back(b"t=0 code=0 answer=never factor=0000000000000000 wait=0 left=0 total=7 declined=5");
+    back(b"t=0 code=0 answer=allowed factor=0000000000000000 wait=0 left=0 total=8");
+}
+
+fn out_of_range() {
+    back(b"t=1700 code=0 answer=no factor=3ff0000000000001 wait=0 left=0 total=15 declined=5");
+    back(b"t=1700 code=0 answer=no factor=8000000000000000 wait=0 left=0 total=15 declined=5");
+    back(b"t=1700 code=0 answer=value factor=7ff8000000000000 wait=0 left=0 total=15 declined=5");
+    back(b"t=0 code=0 answer=allowed factor=0000000000000000 wait=0 left=0 total=8 declined=9");
+    back(
+        b"t=0 code=0 answer=allowed factor=0000000000000000 wait=0 left=0 total=9007199254740993 declined=0",
+    );
+    back(b"t=1 code=14 answer=refused factor=0000000000000000 wait=0 left=0 total=0 declined=0");
+    back(b"t=1 code=4 answer=refused factor=0000000000000000 wait=0 left=0 total=0 declined=0");
+    back(b"t=0 code=15 answer=refused factor=0000000000000000 wait=0 left=0 total=0 declined=0");
+    back(b"t=0 code=0 answer=refused factor=0000000000000000 wait=0 left=0 total=0 declined=0");
+    back(b"t=0 code=5 answer=allowed factor=0000000000000000 wait=0 left=0 total=8 declined=5");
+    back(b"t=0 code=0 answer=allowed factor=0000000000000000 wait=1 left=0 total=8 declined=5");
+    back(b"t=0 code=0 answer=allowed factor=3fe0000000000000 wait=0 left=0 total=8 declined=5");
+    back(b"t=0 code=5 answer=refused factor=0000000000000000 wait=0 left=0 total=8 declined=5");
+    back(b"t=0 code=0 answer=value factor=0000000000000000 wait=0 left=3 total=8 declined=5");
+}
+
 fn main() {
     all_settings();
     good_calls();
@@ -204,4 +276,7 @@ fn main() {
     good_shots();
     bad_shots();
     answers();
+    good_lines();
+    bad_forms();
+    out_of_range();
 }

@@ -36,7 +36,7 @@ hex-append acc [] ys = refl
 hex-append acc (x ∷ xs) ys = hex-append (acc * 16 + hexOf x) xs ys
 
 -- 16 to the k
-abbrev sixteenTo : ℕ → ℕ
+abbrev pub sixteenTo : ℕ → ℕ
 sixteenTo zero = 1
 sixteenTo (suc k) = sixteenTo k * 16
 

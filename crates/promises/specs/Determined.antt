@@ -23,6 +23,12 @@ use Rattle.table.specs.Table.{TableMade}
 use Rattle.gateway.specs.Gateway as Gateway
 use Rattle.readout.specs.ReadOut as ReadOut
 use Rattle.rows.specs.Plain.{Given}
+use Rattle.rows.specs.Lines.{LineGiven}
+use Rattle.told.specs.Range.{Reads}
+use Rattle.told.specs.Rows.{lineRow}
+use Rattle.told.specs.declared.LineAnswer.{LineAnswer}
+use Rattle.readback.specs.ReadBack.{one-meaning}
+use Rattle.answers.specs.Rows.{numberOf}
 use Rattle.abi.specs.Faces.{Face, Faced}
 use Rattle.desk_lines.specs.Step.{Step, Answered}
 use Rattle.desk_feed.specs.declared.Progress.{Progress}
@@ -96,6 +102,9 @@ pub record Determined : Type 1 where
   pub step : (v : Step) → Once {R = Step} (λ x. Answered v (x .answer) (x .first) (x .second))
   -- printing an answer: how long, and the bytes
   pub print : (line : AnswerLine) (out : List ℕ) → Once {R = ℕ × List ℕ} (λ x. Printed line out (x .1) (x .0))
+  -- reading a line back, and its face's number and row
+  pub read-line : (line : List ℕ) → Once {R = LineAnswer} (λ x. Reads line x)
+  pub face-line : (line : List ℕ) → Once {R = ℕ × List ℕ} (λ x. LineGiven line (x .0) (x .1))
   -- whether words are a room's, and a body a ring's; where a body starts
   pub sized : (w : List ℕ) → Once {R = Bool} (λ x. Decides x (Room w))
   pub fit : (r : ℕ) (b : List ℕ) → Once {R = Bool} (λ x. Decides x (Shape r b))
@@ -116,6 +125,13 @@ feeding-one w block out x y p q =
     let next : x .0 .put ≡ y .0 .put = p .put .past ∙ ap (λ (n : ℕ). prints (feed w (take n block) .prints)) t ∙ sym (q .put .past) in
     let bytes : x .4 ≡ y .4 = p .put .is ∙ ap (λ (n : ℕ). pasted out 0 (feed w (take n block) .prints)) t ∙ sym (q .put .is) in
     λ i. (record { desk = after i .desk; taken = t i; put = next i }, after i .first, after i .second, after i .hold, bytes i)
+
+line-one : (line : List ℕ) → Once {R = ℕ × List ℕ} (λ x. LineGiven line (x .0) (x .1))
+line-one line x y p q =
+    let same : p .answer ≡ q .answer = one-meaning line (p .answer) (q .answer) (p .reads) (q .reads) in
+    let number : x .0 ≡ y .0 = p .given .number ∙ ap (λ (r : LineAnswer). numberOf (lineRow r)) same ∙ sym (q .given .number) in
+    let row : x .1 ≡ y .1 = p .given .answer ∙ ap lineRow same ∙ sym (q .given .answer) in
+    λ i. (number i, row i)
 
 pub determined : Determined
 determined = record {
@@ -150,6 +166,8 @@ determined = record {
     second = (p .second ∙ sym (q .second)) i;
   };
   print = λ line out x y p q i. ((p .long ∙ sym (q .long)) i, (p .bytes ∙ sym (q .bytes)) i);
+  read-line = one-meaning;
+  face-line = line-one;
   sized = λ w. decides-one (Room w);
   fit = λ r b. decides-one (Shape r b);
   start = λ w s x y p q. p .at ∙ sym (q .at);

@@ -38,7 +38,15 @@ use Rattle.lines.specs.declared.CallLine.the-variants as call
 use Rattle.shot_lines.specs.Reading.{readShot}
 use Rattle.shot_lines.specs.declared.ShotLine.{ShotLine}
 use Rattle.shot_lines.specs.declared.ShotLine.the-variants as shotLine
-use Rattle.desk_lines.specs.Lines.{alone, badLine, perMinute}
+use Rattle.rows.specs.Lines.{LineGiven}
+use Rattle.told.specs.Told.{badLine}
+use Rattle.told.specs.Range.{Reads}
+use Rattle.told.specs.Rows.{toldRow, lineRow}
+use Rattle.told.specs.declared.Told.{Told}
+use Rattle.told.specs.declared.Told.the-variants as told
+use Rattle.told.specs.declared.LineAnswer.{LineAnswer}
+use Rattle.told.specs.declared.LineAnswer.the-variants as lineAnswer
+use Rattle.desk_lines.specs.Lines.{alone, perMinute}
 use Rattle.desk_step.specs.Desk as Calls
 use Rattle.shots_step.specs.Shots as Shots
 use Rattle.desk_turn.specs.declared.Program.{Program}
@@ -83,6 +91,9 @@ pub record NeverGiven (n : ℕ) : Type 0 where
   pub face-season : (w : List ℕ) (m : ℕ) (a v : List ℕ) → Faced (shown doneRow (newSeason w)) m a v → NotTold n m a
   pub face-bucket : (kind : RoomKind) (s : Settings) (w : List ℕ) (key : Sent) (i m : ℕ) (a : List ℕ) → Given (bucketRow kind s w key i) m a → NotTold n m a
   pub face-ring : (s : Settings) (m : ℕ) (a : List ℕ) → Given (ringRow (ringFor s)) m a → NotTold n m a
+  -- a line that is read back: the line may tell any number, the reader none but 14
+  pub read-line : (line : List ℕ) (m : ℕ) → Reads line (lineAnswer.Refused m) → m ≢ n
+  pub face-line : (line : List ℕ) (m : ℕ) (a : List ℕ) → LineGiven line m a → NotTold n m a
   -- making a room or a table
   pub face-make : (made : Bool) → makeNumber made ≢ n
   -- all that the programs print, for any input
@@ -128,6 +139,24 @@ module _ (n : ℕ) (z : n ≢ 0) (h : Numbered n → ⊥) where
   make : (made : Bool) → makeNumber made ≢ n
   make true e = z (sym e)
   make false e = other 5 (omega arith) e
+
+  -- ---- lines that are read back
+
+  unread : (line : List ℕ) (m : ℕ) → Reads line (lineAnswer.Refused m) → m ≢ n
+  unread line m u e = other badLine (omega arith) (sym (u .number) ∙ e)
+
+  told-number : (t : ℕ) (x : Told) → numberOf (toldRow t x) ≡ 0
+  unfolding toldRow
+  told-number t (told.Allowed x) = refl
+  told-number t (told.Rejected wait left x) = refl
+  told-number t (told.Suppressed factor admitted x) = refl
+  told-number t (told.Value factor x) = refl
+  told-number t (told.Refused m) = refl
+
+  line-number : (line : List ℕ) (r : LineAnswer) → Reads line r → numberOf (lineRow r) ≢ n
+  unfolding lineRow
+  line-number line (lineAnswer.Line l) u = λ e. z (sym e ∙ told-number (l .t) (l .told))
+  line-number line (lineAnswer.Refused m) u = unread line m u
 
   -- ---- the lines
 
@@ -177,6 +206,8 @@ module _ (n : ℕ) (z : n ≢ 0) (h : Numbered n → ⊥) where
     face-season = λ w m a v. faced _ m a v (from _ _ _ _ (demand1 .gateway .new-season w));
     face-bucket = λ kind s w key i m a g. not-told _ m a (from _ _ _ _ (bucket-turned kind s w key i)) (g .number) (g .answer);
     face-ring = λ s m a g. not-told _ m a (from _ _ _ _ (demand1 .sufficient-ring s)) (g .number) (g .answer);
+    read-line = unread;
+    face-line = λ line m a g. not-told _ m a (line-number line (g .answer) (g .reads)) (g .given .number) (g .given .answer);
     face-make = make;
     lines = input-lines;
   }

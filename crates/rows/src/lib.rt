@@ -1,6 +1,7 @@
-// The answer row: five words, as `answers`' specs/Rows.antt gives them for each answer.
+// The answer row: five words, as `answers`' specs/Rows.antt gives them for each answer; and of a line that was read back, seven, as `told`'s does.
 ghost use mathlib.Core.Path.{_≡_};
 ghost use Rattle.answers.specs.Rows.{refusedRow, said, decisionRow, totalRow, snapshotRow, factorRow, oldRateRow, deleteRow, setRow, doneRow, ringRow, shotRow};
+ghost use Rattle.told.specs.Rows.{toldRow, lineRow};
 ghost use Rattle.rows.specs.Plain.{Given};
 use answers::DeleteAnswer;
 use answers::DoneAnswer;
@@ -12,6 +13,8 @@ use answers::SetAnswer;
 use answers::ShotAnswer;
 use answers::SnapshotAnswer;
 use answers::TotalAnswer;
+use told::LineAnswer;
+use told::Told;
 
 // A refusal: its number, with zeros elsewhere.
 pub fn refused_row(number: u64) -> [u64; 5]
@@ -143,6 +146,61 @@ pub fn shot_row(a: ShotAnswer) -> [u64; 5]
 
 // Hands a row over, and gives its number.
 pub fn give(row: [u64; 5], out: &mut [u64; 5]) -> u64
+    ensures { λ n. ⌜ Given row n (now (out .exit)) ⌝ }
+{
+    *out = row;
+    row[0]
+}
+
+// ---- a line that was read back
+
+fn told_row(t: u64, told: Told) -> [u64; 7]
+    ensures { λ r. ⌜ r ≡ toldRow t told ⌝ }
+{
+    match told {
+        Told::Allowed(x) => [0, 1, t, 0, 0, x.total, x.declined],
+        Told::Rejected { wait, left, stored } => {
+            [0, 2, t, wait, left, stored.total, stored.declined]
+        }
+        Told::Suppressed {
+            factor,
+            is_allowed,
+            stored,
+        } => [
+            0,
+            3,
+            t,
+            common::word_of(factor),
+            said(is_allowed),
+            stored.total,
+            stored.declined,
+        ],
+        Told::Value { factor, stored } => [
+            0,
+            5,
+            t,
+            common::word_of(factor),
+            0,
+            stored.total,
+            stored.declined,
+        ],
+        Told::Refused(code) => [0, 6, t, code, 0, 0, 0],
+    }
+}
+
+pub fn line_row(a: LineAnswer) -> [u64; 7]
+    ensures { λ r. ⌜ r ≡ lineRow a ⌝ }
+{
+    match a {
+        LineAnswer::Line(l) => {
+            let told = l.told;
+            told_row(l.t, told)
+        }
+        LineAnswer::Refused(n) => [n, 0, 0, 0, 0, 0, 0],
+    }
+}
+
+pub fn give_line(row: [u64; 7], out: &mut [u64; 7]) -> u64
     ensures { λ n. ⌜ Given row n (now (out .exit)) ⌝ }
 {
     *out = row;

@@ -9,7 +9,7 @@ use Rattle.lines.specs.Laws.{KeyInside, key-inside}
 use Rattle.shot_lines.specs.Laws.{ShotRead, shot-read}
 use Rattle.shot_lines.specs.Reading.{readShot}
 use Rattle.shot_lines.specs.declared.ShotLine.the-variants.{Shot}
-use Rattle.desk_lines.specs.declared.Stored.{Stored}
+use Rattle.told.specs.declared.Stored.{Stored}
 use Rattle.desk_lines.specs.Lines.{storedOf, shotLine}
 use Rattle.desk_lines.specs.Step.{Answered}
 use Rattle.desk_lines.specs.Stored.{line-is}

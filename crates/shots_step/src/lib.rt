@@ -2,13 +2,13 @@
 ghost use Rattle.desk_lines.specs.Step.{Answered};
 ghost use Rattle.shots_step.specs.Shots.{shotOf, stepped};
 use desk_lines::alone;
-use desk_lines::bad_line;
 use desk_lines::per_minute;
 use desk_lines::shot_line;
 use desk_lines::stored_of;
 use printing::AnswerLine;
 use settings::Settings;
 use shot_lines::ShotLine;
+use told::bad_line;
 
 fn take(
     settings: Settings,
