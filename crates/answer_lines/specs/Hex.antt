@@ -1,7 +1,7 @@
 -- Hex digits are read and shown: a turn of the reading loop and its ends; reading undoes showing.
 -- Assumes nothing.
 use mathlib.Core.Path.{_≡_, refl, sym, ap, _∙_}
-use mathlib.Core.Bool.{Bool, true, false, cond, _&&_, _||_, false≢true, true≢false}
+use mathlib.Core.Bool.{Bool, true, false, cond, _&&_, _||_, false≢true}
 use mathlib.Core.Logic.{_⊎_, inl, inr}
 use mathlib.Core.List.{List, [], _∷_, _++_, append-assoc, append-nil}
 use Prim.Native.Nat.{ℕ, zero, suc, _+_, _-_, _*_, _/_, _%_, _≤_, _<_}
@@ -9,7 +9,7 @@ use native.Mathlib.Nat.{mod-lt}
 use native.Mathlib.Decide.{decLt}
 use native.Mathlib.Numerals.{add-one}
 use native.Mathlib.Omega.{arith}
-use lib.ListN.{length, getD, take, drop, length-append, length-take, take-append-drop, drop-of-length-le}
+use lib.ListN.{length, getD, take, drop, take-append-drop}
 use lib.Seq.{drop-cons, drop-drop, take-append-seam, length-take-le}
 use lib.Dec.{leb, ltb}
 use borrow.Author.Tests.{le-leb, leb-true, lt-leb, lt-ltb, le-ltb}
@@ -19,7 +19,7 @@ use Rattle.fields.specs.Parts.{run}
 use Rattle.fields.specs.Ranges.{largest}
 use Rattle.fields.specs.Turns.{run-on, run-stop, run-past, run-length}
 use Rattle.fields.specs.declared.Number.the-variants.{Found, NoNumber}
-use Rattle.lines.specs.ReadLaws.{both, run-each}
+use Rattle.lines.specs.ReadLaws.{both}
 use Rattle.printing.specs.Answers.{hexDigit, hexDigits, showHex16}
 use Rattle.printing.specs.HexLaws.{hexOf, hexFrom, sixteenTo, hex-show}
 use Rattle.printing.specs.Printing.{hex-length}
@@ -206,7 +206,8 @@ each-first zero bs h = tt
 each-first (suc n) [] h = tt
 each-first (suc n) (b ∷ bs) h = go (isHex b) refl h (each-first n bs)
   where
-    go : (t : Bool) → isHex b ≡ t → suc n ≤ cond t (suc (run isHex bs)) 0 → (n ≤ run isHex bs → Each isHex (take n bs)) → (isHex b ≡ true) × Each isHex (take n bs)
+    go : (t : Bool) → isHex b ≡ t → suc n ≤ cond t (suc (run isHex bs)) 0 → (n ≤ run isHex bs → Each isHex (take n bs)) →
+        (isHex b ≡ true) × Each isHex (take n bs)
     go true q k f = (q, f (omega arith))
     go false q k f = absurd (omega arith)
 

@@ -2,9 +2,8 @@
 -- Assumes nothing.
 use mathlib.Core.Path.{_≡_, refl, sym, ap, subst, _∙_}
 use mathlib.Core.Bool.{false}
-use mathlib.Core.List.{List, [], _∷_, _++_, append-assoc}
+use mathlib.Core.List.{List, _++_, append-assoc}
 use Prim.Native.Nat.{ℕ, _+_, _≤_}
-use native.Mathlib.Omega.{arith}
 use lib.ListN.{length, drop}
 use Rattle.fields.specs.Bytes.{counts}
 use Rattle.fields.specs.Numbers.{showNumber}
@@ -13,7 +12,7 @@ use Rattle.fields.specs.Ranges.{largest}
 use Rattle.fields.specs.declared.Place.{Place}
 use Rattle.fields.specs.declared.Place.the-variants.{At, Missing}
 use Rattle.lines.specs.Laws.{Spaced, spaced-stops, showNumbers, NumbersFit, ReadNumbers, numbers-read, numbers-shown}
-use Rattle.lines.specs.ReadLaws.{Stops, Field, each-number, each-place, each-numbers, past-part, past-field, text-shown, text-read, field-shown, field-read}
+use Rattle.lines.specs.ReadLaws.{Field, each-number, each-place, each-numbers, past-part, past-field, text-shown, text-read, field-shown, field-read}
 use Rattle.lines.specs.Reading.{numbersAt}
 use Rattle.lines.specs.Shown.{tText, factorText}
 use Rattle.printing.specs.Answers.{codeText, answerText, waitText, leftText, totalText, declinedText, showHex16, showVerdict, showCounts, showAnswer}

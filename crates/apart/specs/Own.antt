@@ -1,11 +1,11 @@
 -- A room in which one party alone calls stays that party's, whatever it calls and whatever its readings are: no slot ever becomes the other's.
 -- `Alone` says so where readings never fall; here calls may be turned away with 6 in between.
 -- Assumes nothing.
-use mathlib.Core.Path.{_≡_, refl, sym, ap, subst, _∙_}
-use mathlib.Core.Bool.{Bool, true, false, cond}
+use mathlib.Core.Path.{_≡_, refl, sym, subst, _∙_}
+use mathlib.Core.Bool.{Bool, false}
 use mathlib.Core.List.{List}
 use mathlib.Core.Logic.{_≢_}
-use Prim.Native.Nat.{ℕ, zero, suc, _≤_, _<_}
+use Prim.Native.Nat.{ℕ, zero, suc, _<_}
 use native.Mathlib.Decide.{ℕ-discrete}
 use native.Mathlib.Omega.{arith}
 use lib.Dec.{eqb}
@@ -13,11 +13,10 @@ use borrow.Author.Tests.{ne-eqb}
 use Rattle.settings.specs.Clock.{ticksIn, joinTicks}
 use Rattle.settings.specs.declared.Settings.{Settings}
 use Rattle.layout.specs.Layout.{secondMark}
-use Rattle.room.specs.Room.{slotsOf, holderOf, empty, withReading, cleared}
+use Rattle.room.specs.Room.{slotsOf, holderOf, empty, cleared}
 use Rattle.frame.specs.Distinct.{changed-holder}
 use Rattle.frame.specs.Frame.{key-holder}
 use Rattle.frame.specs.Whole.{clear-read-run, empty-free}
-use Rattle.parties.specs.declared.Caller.{Caller}
 use Rattle.parties.specs.Parties.{Sent, markOf, many, slotsHeld}
 use Rattle.rules.specs.declared.RoomKind.{RoomKind}
 use Rattle.change.specs.declared.Change.{Change}
@@ -62,7 +61,8 @@ module _ (m : ℕ) (z : m ≢ 0) where
           go l (no q) = λ e. o i l (sym (others kind s w t key at change d i l q .holder) ∙ e)
 
     -- a call of a party with another mark
-    pub none-step : (op : Op kind) (v : List ℕ) → ((key : Sent) → touches op ≡ slotOf key → markOf (key .caller .party) ≢ m) → Step kind s w t op v → NoneOf m v
+    pub none-step : (op : Op kind) (v : List ℕ) → ((key : Sent) → touches op ≡ slotOf key → markOf (key .caller .party) ≢ m) → Step kind s w t op v →
+        NoneOf m v
     none-step op v f (refused e) = subst (NoneOf m) (sym e) o
     none-step op v f (changed key who at change d e) = subst (NoneOf m) (sym e) (changed-none key at (f key who) change d)
     none-step op v f (cleaned stale who y p e) =

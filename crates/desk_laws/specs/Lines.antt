@@ -10,7 +10,7 @@ use lib.Seq.{take-append-seam, drop-append-seam}
 use Rattle.fields.specs.Bytes.{counts}
 use Rattle.fields.specs.Numbers.{showNumber, show-digits, show-injective}
 use Rattle.fields.specs.Parts.{run}
-use Rattle.lines.specs.Laws.{Spaced, spaced-stops}
+use Rattle.lines.specs.Laws.{spaced-stops}
 use Rattle.lines.specs.ReadLaws.{Stops, run-shown}
 use Rattle.lines.specs.Shown.{tText, factorText}
 use Rattle.printing.specs.Answers.{codeText, answerText, showHex16, showVerdict, showCounts, showAnswer}

@@ -5,16 +5,13 @@ use mathlib.Core.Bool.{Bool, true, false, _&&_}
 use mathlib.Core.List.{List}
 use Prim.Native.Nat.{ℕ}
 use lib.Dec.{ltb}
-use lib.Ieee.{binary64, div, toBits}
+use lib.Ieee.{binary64, div}
 use Rattle.common.specs.Units.{minute, real}
 use Rattle.answers.specs.declared.RateLimitDecision.{RateLimitDecision}
-use Rattle.answers.specs.declared.RateLimitDecision.the-variants as decision
 use Rattle.answers.specs.declared.ShotAnswer.{ShotAnswer}
 use Rattle.answers.specs.declared.ShotAnswer.the-variants as shot
 use Rattle.answers.specs.declared.SnapshotAnswer.{SnapshotAnswer}
-use Rattle.answers.specs.declared.SnapshotAnswer.the-variants as snapshot
 use Rattle.answers.specs.declared.TotalAnswer.{TotalAnswer}
-use Rattle.answers.specs.declared.TotalAnswer.the-variants as total
 use Rattle.common.specs.declared.units.RateLimit.{RateLimit}
 use Rattle.ring.specs.Ring.{totalOf, declinedOf}
 use Rattle.layout.specs.Layout.{firstMark}
@@ -22,13 +19,11 @@ use Rattle.room.specs.Room.{sized, slotsOf, useOf, find, bodyOf}
 use Rattle.keys.specs.Keys.{keyOf}
 use Rattle.opened.specs.Sound.{hasSeries}
 use Rattle.parties.specs.declared.Caller.{Caller}
-use Rattle.printing.specs.declared.Answer.{Answer}
 use Rattle.printing.specs.declared.Answer.the-variants as answer
 use Rattle.printing.specs.declared.AnswerLine.{AnswerLine}
 use Rattle.told.specs.Told.{said, refusedLine, decided, live, snapped, lineOf}
 use Rattle.told.specs.declared.Stored.{Stored}
 use Rattle.told.specs.declared.Told.{Told}
-use Rattle.told.specs.declared.ToldLine.{ToldLine}
 
 -- the one party, promised every slot of room w
 abbrev pub alone : List ℕ → Caller

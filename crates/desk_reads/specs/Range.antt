@@ -4,35 +4,32 @@ use mathlib.Core.Path.{_≡_, refl, sym, ap, subst, _∙_}
 use mathlib.Core.Bool.{Bool, true, false, not, _&&_, _||_, cond, true≢false}
 use mathlib.Core.List.{List, [], _∷_, _++_}
 use mathlib.Core.Logic.{_≢_}
-use Prim.Native.Nat.{ℕ, _+_, _-_, _*_, _/_, _≤_, _<_}
+use Prim.Native.Nat.{ℕ, _+_, _≤_, _<_}
 use native.Mathlib.Decide.{ℕ-discrete, decLt}
 use native.Mathlib.Omega.{arith}
 use lib.Dec.{eqb, leb, ltb}
 use lib.Ieee.{Float}
 use lib.ListN.{length, drop}
-use borrow.Author.Tests.{eq-eqb, ne-eqb, lt-ltb, le-ltb, lt-leb, leb-true, ltb-true}
+use borrow.Author.Tests.{eq-eqb, ne-eqb, lt-leb, leb-true, ltb-true}
 use native.Mathlib.Nat.{le-trans}
 use Rattle.base.specs.Decides.{and-true}
-use Rattle.common.specs.Ranges.{nil, windowOk, bucketOk, cacheOk, factorOk}
+use Rattle.common.specs.Ranges.{windowOk, bucketOk, cacheOk, factorOk}
 use Rattle.common.specs.Refusals.{first, first-none}
 use Rattle.common.specs.declared.units.RateLimit.{RateLimit}
 use Rattle.common.specs.declared.units.WindowSize.{WindowSize}
-use Rattle.fields.specs.Ranges.{largest, exactLargest}
 use Rattle.settings.specs.Clock.{ticksIn, windowTicks}
 use Rattle.settings.specs.Settings.{faults, proper, windowIn, bucketIn, cacheIn, factorIn}
 use Rattle.settings.specs.declared.Settings.{Settings}
 use Rattle.layout.specs.Layout.{firstMark, secondMark, mostTotal, longestKey}
 use Rattle.ring.specs.declared.Bucket.{Bucket}
 use Rattle.ring.specs.Order.{fine-sums}
-use Rattle.ring.specs.Ring.{countOf, sumOf, counts, declineds, buckets, totalOf, declinedOf}
+use Rattle.ring.specs.Ring.{countOf, sumOf, counts, buckets}
 use Rattle.ring.specs.Sound.{Sound, soundBuckets, sound-true}
 use Rattle.ring.specs.Sums.{sum-split}
-use Rattle.answers.specs.HistoryMode.{noSnapshot}
 use Rattle.answers.specs.declared.RateLimitDecision.{RateLimitDecision}
 use Rattle.answers.specs.declared.RateLimitDecision.the-variants as decision
 use Rattle.answers.specs.declared.SnapshotAnswer.{SnapshotAnswer}
 use Rattle.answers.specs.declared.SnapshotAnswer.the-variants as snapshot
-use Rattle.answers.specs.declared.TotalAnswer.{TotalAnswer}
 use Rattle.answers.specs.declared.TotalAnswer.the-variants as total
 use Rattle.keys.specs.Keys.{keyOf}
 use Rattle.room.specs.Room.{slotsOf, ringOf, lastOf, holderOf, useOf, find, bodyOf, sized}
@@ -45,7 +42,7 @@ use Rattle.rules.specs.Buckets.{gone, goneIf}
 use Rattle.rules.specs.Held.{Held}
 use Rattle.rules.specs.declared.RoomKind.{RoomKind}
 use Rattle.rules.specs.declared.RoomKind.the-variants.{Absolute, Suppressed}
-use Rattle.opened.specs.Sound.{hasSeries, soundSeries, soundSlot, addressed}
+use Rattle.opened.specs.Sound.{hasSeries, soundSeries, addressed}
 use Rattle.judge.specs.Held.{heldIn, held-here, held-none}
 use Rattle.judge.specs.Judge.{misfits}
 use Rattle.judge.specs.Verdict.{Verdict, unlessRefused}
@@ -62,12 +59,12 @@ use Rattle.steps.specs.Table.{tableOf}
 use Rattle.apart.specs.Alone.{Alone, Others, soleTable, alone-number}
 use Rattle.apart.specs.Promised.{callerIn}
 use Rattle.apart.specs.Own.{NoneOf, own-alone}
-use Rattle.told.specs.Told.{badLine, decided, live, snapped}
+use Rattle.told.specs.Told.{decided, live, snapped}
 use Rattle.told.specs.Range.{TotalsFit, FactorFits, RefusalFits, timeless, ToldFits}
 use Rattle.told.specs.declared.Stored.{Stored}
 use Rattle.told.specs.declared.Told.{Told}
-use Rattle.told.specs.declared.Told.the-variants.{Allowed, Rejected, Suppressed, Value, Refused}
-use Rattle.desk_lines.specs.Lines.{alone, noStored, storedAt, pickStored, storedOf, perMinute}
+use Rattle.told.specs.declared.Told.the-variants.{Allowed, Rejected, Suppressed, Refused}
+use Rattle.desk_lines.specs.Lines.{alone, noStored, storedAt, pickStored, storedOf}
 
 -- ---- totals
 

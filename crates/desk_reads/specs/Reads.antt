@@ -5,7 +5,7 @@ use mathlib.Core.Path.{_≡_, refl, sym, ap, ap₂, subst, _∙_}
 use mathlib.Core.Bool.{Bool, true, false, not, cond, false≢true}
 use mathlib.Core.List.{List, [], _∷_, _++_, append-assoc, append-nil}
 use mathlib.Core.Logic.{_≢_}
-use Prim.Native.Nat.{ℕ, _≤_}
+use Prim.Native.Nat.{ℕ}
 use native.Mathlib.Decide.{ℕ-discrete}
 use native.Mathlib.Omega.{arith}
 use lib.Dec.{eqb}
@@ -33,28 +33,16 @@ use Rattle.rules.specs.declared.RoomKind.the-variants.{Absolute, Suppressed}
 use Rattle.absolute_verdicts.specs.Calls as OnAbsolute
 use Rattle.suppressed_verdicts.specs.Calls as OnSuppressed
 use Rattle.steps.specs.Each.{step}
-use Rattle.steps.specs.History.{Sane, step-sane, empty-sane}
+use Rattle.steps.specs.History.{step-sane, empty-sane}
 use Rattle.steps.specs.Ops.{Op, Keyed, slotOf, touches, after}
-use Rattle.apart.specs.Own.{NoneOf, none-empty, none-step}
-use Rattle.printing.specs.Answers.{
-  codeText,
-  answerText,
-  waitText,
-  leftText,
-  totalText,
-  declinedText,
-  hexDigits,
-  showHex16,
-  showVerdict,
-  showCounts,
-  showAnswer,
-}
+use Rattle.apart.specs.Own.{none-empty, none-step}
+use Rattle.printing.specs.Answers.{codeText, answerText, waitText, leftText, totalText, declinedText, showHex16, showVerdict, showCounts, showAnswer}
 use Rattle.printing.specs.declared.Answer.{Answer}
 use Rattle.printing.specs.declared.Answer.the-variants.{Allowed, Rejected, Yes, No, Value, Held, Refused}
 use Rattle.printing.specs.declared.AnswerLine.{AnswerLine}
 use Rattle.answer_lines.specs.Reading.{isHex}
 use Rattle.answer_lines.specs.Hex.{each-hex}
-use Rattle.told.specs.Told.{badLine, decided, live, snapped, refusedLine, lineOf, textOf}
+use Rattle.told.specs.Told.{badLine, decided, live, snapped, refusedLine, lineOf}
 use Rattle.told.specs.Range.{RefusalFits, ToldFits, Fits, Reads}
 use Rattle.told.specs.declared.Told.{Told}
 use Rattle.told.specs.declared.Told.the-variants as told
@@ -63,7 +51,6 @@ use Rattle.told.specs.declared.LineAnswer.the-variants.{Line}
 use Rattle.desk_lines.specs.Lines.{alone, storedOf, decisionLine, totalLine, snapshotLine, perMinute}
 use Rattle.desk_step.specs.Desk as Calls
 use Rattle.desk_step.specs.Desk.{openWith, openingIn, openingOf, settingsOf}
-use Rattle.desk_step.specs.declared.Opening.{Opening}
 use Rattle.desk_step.specs.declared.Opening.the-variants as opening
 use Rattle.desk_turn.specs.declared.Program.{Program}
 use Rattle.desk_turn.specs.declared.Program.the-variants as program
@@ -71,7 +58,7 @@ use Rattle.desk_turn.specs.declared.Phase.{Phase}
 use Rattle.desk_turn.specs.declared.Phase.the-variants.{Waiting, Open, Ended}
 use Rattle.desk_turn.specs.Lines.{newline, shown, phaseIn, printsIn, steppedBy, turn}
 use Rattle.desk_feed.specs.Contracts.{slotsOf, ringLength, newFirst, newSecond}
-use Rattle.desk_laws.specs.Whole.{callLines, inputLines, turns, printed, program-prints, inLine, allInLine, text-in-line, digits-in-line, next-line}
+use Rattle.desk_laws.specs.Whole.{callLines, inputLines, printed, program-prints, inLine, allInLine, text-in-line, digits-in-line, next-line}
 use Rattle.desk_laws.specs.Lines.{Stand, texts, texts-both, all-turns}
 use Rattle.desk_laws.specs.Asks.{kindOf, roomOf, opOf, plain-bytes}
 use Rattle.desk_reads.specs.Range.{Rooms, stored-fits, absolute-inc-fits, absolute-get-fits, suppressed-inc-fits, suppressed-get-fits, fault-fits}

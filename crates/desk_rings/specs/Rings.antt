@@ -4,14 +4,11 @@
 use mathlib.Core.Path.{_≡_, refl, sym, ap, subst, _∙_}
 use mathlib.Core.Bool.{Bool, true, false, cond, false≢true}
 use mathlib.Core.List.{List, [], _∷_, _++_}
-use mathlib.Core.Logic.{_≢_, _⊎_, inl, inr}
-use Prim.Native.Nat.{ℕ, zero, suc, _-_, _≤_, _<_}
-use native.Mathlib.Decide.{decLt}
+use mathlib.Core.Logic.{_≢_}
+use Prim.Native.Nat.{ℕ, _-_, _≤_}
 use native.Mathlib.Omega.{arith}
 use lib.Dec.{eqb}
 use lib.ListN.{length}
-use Rattle.fields.specs.Bytes.{counted, counts, class-bad}
-use Rattle.fields.specs.Numbers.{Each}
 use Rattle.fields.specs.Ranges.{largest, exactLargest}
 use Rattle.common.specs.Refusals.{first}
 use Rattle.settings.specs.Settings.{defaults, defaults-unrefused, faults}

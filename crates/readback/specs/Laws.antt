@@ -1,10 +1,10 @@
 -- What is found is what the line tells: a line with these fields prints what is found, and what prints as it is found.
 -- Assumes nothing.
 use mathlib.Core.Path.{_≡_, refl, sym, ap, subst, _∙_}
-use mathlib.Core.Bool.{Bool, true, false, _&&_, _||_, cond, false≢true}
+use mathlib.Core.Bool.{Bool, true, false, _&&_, cond, false≢true}
 use mathlib.Core.List.{List}
 use mathlib.Core.Logic.{_≢_}
-use Prim.Native.Nat.{ℕ, zero, suc, _≤_, _<_}
+use Prim.Native.Nat.{ℕ, _≤_}
 use native.Mathlib.Omega.{arith}
 use lib.Dec.{leb, eqb}
 use lib.Ieee.{Float, binary64, ofBits, toBits}
@@ -17,7 +17,7 @@ use Rattle.printing.specs.Answers.{showAnswer}
 use Rattle.printing.specs.declared.Answer.{Answer}
 use Rattle.printing.specs.declared.Answer.the-variants as word
 use Rattle.printing.specs.declared.AnswerLine.{AnswerLine}
-use Rattle.told.specs.Told.{badLine, said, refusedLine, yesOrNo, lineFor, lineOf, textOf}
+use Rattle.told.specs.Told.{badLine, lineFor, lineOf, textOf}
 use Rattle.told.specs.Range.{TotalsFit, FactorFits, RefusalFits, timeless, ToldFits, Fits, ReadsAs, Unread, Reads}
 use Rattle.told.specs.declared.Stored.{Stored}
 use Rattle.told.specs.declared.Told.{Told}
@@ -166,7 +166,8 @@ unfolding meaningOf
 meaning-back l f =
     let back = line-back l f in
     let fit : isFit (lineOf l .t) (toldBy (lineOf l)) ≡ true = ap (λ (k : ToldLine). isFit (k .t) (k .told)) back ∙ fit-is (l .t) (l .told) (f .told) in
-    let same : sameNumbers (lineOf (lineBy (lineOf l))) (lineOf l) ≡ true = ap (λ (k : ToldLine). sameNumbers (lineOf k) (lineOf l)) back ∙ same-self (lineOf l) in
+    let same : sameNumbers (lineOf (lineBy (lineOf l))) (lineOf l) ≡ true =
+    ap (λ (k : ToldLine). sameNumbers (lineOf k) (lineOf l)) back ∙ same-self (lineOf l) in
     rw (fit, same) (ap answer.Line back)
 
 small-factor : (x : Float) → FactorFits x → toBits binary64 x ≤ largest

@@ -1,6 +1,6 @@
 -- How it is found what a line tells: what its word alone would say, tried by its range and by what it prints. `Laws` says that this is what the line tells.
 -- Assumes nothing.
-use mathlib.Core.Bool.{Bool, true, false, not, _&&_, _||_, cond}
+use mathlib.Core.Bool.{Bool, true, false, _&&_, cond}
 use mathlib.Core.List.{List}
 use Prim.Native.Nat.{ℕ}
 use lib.Dec.{leb, eqb}

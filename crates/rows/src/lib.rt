@@ -1,6 +1,7 @@
 // The answer row: five words, as `answers`' specs/Rows.antt gives them for each answer; and of a line that was read back, seven, as `told`'s does.
 ghost use mathlib.Core.Path.{_≡_};
-ghost use Rattle.answers.specs.Rows.{refusedRow, said, decisionRow, totalRow, snapshotRow, factorRow, oldRateRow, deleteRow, setRow, doneRow, ringRow, shotRow};
+ghost use Rattle.answers.specs.Rows.{refusedRow, said, decisionRow, totalRow, snapshotRow, factorRow, oldRateRow, deleteRow, setRow, doneRow};
+ghost use Rattle.answers.specs.Rows.{ringRow, shotRow};
 ghost use Rattle.told.specs.Rows.{toldRow, lineRow};
 ghost use Rattle.rows.specs.Plain.{Given};
 use answers::DeleteAnswer;

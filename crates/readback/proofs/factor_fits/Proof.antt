@@ -1,6 +1,5 @@
 -- The word of the factor is tried.
 -- Assumes nothing.
-use mathlib.Core.Path.{ap, _∙_}
 use borrow.Author.Needs.{needs}
 use Rattle.readback.proofs.factor_fits.Statement.{statement}
 use Rattle.readback.proofs.factor_fits.Tie as tie

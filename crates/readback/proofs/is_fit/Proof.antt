@@ -1,7 +1,7 @@
 -- Each case of the definition.
 -- Assumes nothing.
 use Rattle.readback.specs.Meaning.{isFit}
-use borrow.Author.Tests.{lt-leb, le-leb, eq-eqb, ne-eqb, not-true, not-false}
+use borrow.Author.Tests.{not-true, not-false}
 use mathlib.Core.Path.{sym, _∙_}
 use borrow.Author.Needs.{needs}
 use Rattle.readback.proofs.is_fit.Statement.{statement}

@@ -1,7 +1,6 @@
 -- By its number.
 -- Assumes nothing.
-use borrow.Author.Tests.{lt-leb, le-leb, eq-eqb, ne-eqb, not-true, not-false}
-use borrow.Author.Needs.{needs}
+use borrow.Author.Tests.{lt-leb, le-leb}
 use Rattle.readback.proofs.is_timeless.Statement.{statement}
 use Rattle.readback.proofs.is_timeless.Tie as tie
 

@@ -1,8 +1,8 @@
 -- Each test is one of the definition's.
 -- Assumes nothing.
 use Rattle.readback.specs.Meaning.{meaningOf}
-use borrow.Author.Tests.{lt-leb, le-leb, eq-eqb, ne-eqb, not-true, not-false}
-use mathlib.Core.Path.{sym, ap, _∙_}
+use borrow.Author.Tests.{not-true, not-false}
+use mathlib.Core.Path.{sym, _∙_}
 use borrow.Author.Needs.{needs}
 use Rattle.readback.proofs.meaning_of.Statement.{statement}
 use Rattle.readback.proofs.meaning_of.Tie as tie

@@ -1,6 +1,5 @@
 -- What is found is what the line tells.
 -- Assumes nothing.
-
 use mathlib.Core.Path.{sym, _∙_}
 use Rattle.readback.specs.Laws.{read-none, read-some}
 use borrow.Author.Needs.{needs}

@@ -1,7 +1,6 @@
 -- Each test is one of the definition's.
 -- Assumes nothing.
-use borrow.Author.Tests.{lt-leb, le-leb, eq-eqb, ne-eqb, not-true, not-false}
-use borrow.Author.Needs.{needs}
+use borrow.Author.Tests.{lt-leb, le-leb}
 use Rattle.readback.proofs.totals_fit.Statement.{statement}
 use Rattle.readback.proofs.totals_fit.Tie as tie
 

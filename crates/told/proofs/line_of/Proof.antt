@@ -54,7 +54,8 @@ returns-2 c = rw (c .before .before .told2 .given .1) (c .said2 .ensures)
 
 returns-3 : tie.Need-returns-3
 unfolding lineOf
-returns-3 c = rw (c .before .before .before .before .told3 .given .1, ← c .before .before .yes-or-no .ensures, ← c .before .word-of .ensures) (c .said3 .ensures)
+returns-3 c =
+    rw (c .before .before .before .before .told3 .given .1, ← c .before .before .yes-or-no .ensures, ← c .before .word-of .ensures) (c .said3 .ensures)
 
 returns-4 : tie.Need-returns-4
 unfolding lineOf
