@@ -4,7 +4,8 @@ use mathlib.Core.Path.{_≡_, refl, sym, ap, subst, _∙_}
 use mathlib.Core.Bool.{false}
 use mathlib.Core.List.{List, _++_, append-assoc}
 use Prim.Native.Nat.{ℕ, _+_, _≤_}
-use lib.ListN.{length, drop}
+use native.Mathlib.Omega.{arith}
+use lib.ListN.{length, drop, length-append}
 use Rattle.fields.specs.Bytes.{counts}
 use Rattle.fields.specs.Numbers.{showNumber}
 use Rattle.fields.specs.Parts.{begins, textAt, fieldAt, onPlace}
@@ -15,12 +16,12 @@ use Rattle.lines.specs.Laws.{Spaced, spaced-stops, showNumbers, NumbersFit, Rea
 use Rattle.lines.specs.ReadLaws.{Field, each-number, each-place, each-numbers, past-part, past-field, text-shown, text-read, field-shown, field-read}
 use Rattle.lines.specs.Reading.{numbersAt}
 use Rattle.lines.specs.Shown.{tText, factorText}
-use Rattle.printing.specs.Answers.{codeText, answerText, waitText, leftText, totalText, declinedText, showHex16, showVerdict, showCounts, showAnswer}
+use Rattle.printing.specs.Answers.{codeText, answerName, wordText, answerText, waitText, leftText, totalText, declinedText, showHex16, showVerdict, showCounts, showAnswer}
 use Rattle.printing.specs.Printing.{hex-length}
 use Rattle.printing.specs.declared.Answer.{Answer}
 use Rattle.printing.specs.declared.Answer.the-variants.{Allowed, Rejected, Yes, No, Value, Held, Refused}
 use Rattle.printing.specs.declared.AnswerLine.{AnswerLine}
-use Rattle.answer_lines.specs.Reading.{hexLength, hexAt, wordIf, wordAt, onWord, verdictAt, onVerdict, readAnswer}
+use Rattle.answer_lines.specs.Reading.{hexLength, hexAt, wordIf, anyWord, wordAt, onWord, verdictAt, onVerdict, readAnswer}
 use Rattle.answer_lines.specs.Hex.{HexRead, hex-read, hex-shown}
 use Rattle.answer_lines.specs.declared.Word.{Word}
 use Rattle.answer_lines.specs.declared.Word.the-variants as word
@@ -40,34 +41,54 @@ word-spaced Value = refl
 word-spaced Held = refl
 word-spaced Refused = refl
 
+any-shown : (line rest : List ℕ) (at : ℕ) (a : Answer) → drop at line ≡ wordText a ++ rest → anyWord line at ≡ word.Is a (at + length (wordText a))
+unfolding anyWord wordIf textAt begins
+any-shown line rest at Allowed e = rw e
+any-shown line rest at Rejected e = rw e
+any-shown line rest at Yes e = rw e
+any-shown line rest at No e = rw e
+any-shown line rest at Value e = rw e
+any-shown line rest at Held e = rw e
+any-shown line rest at Refused e = rw e
+
 word-shown : (line rest : List ℕ) (at : ℕ) (a : Answer) → drop at line ≡ answerText a ++ rest → wordAt line at ≡ word.Is a (at + length (answerText a))
-unfolding wordAt textAt begins
-word-shown line rest at Allowed e = rw e
-word-shown line rest at Rejected e = rw e
-word-shown line rest at Yes e = rw e
-word-shown line rest at No e = rw e
-word-shown line rest at Value e = rw e
-word-shown line rest at Held e = rw e
-word-shown line rest at Refused e = rw e
+unfolding wordAt
+word-shown line rest at a e =
+    let named : drop at line ≡ answerName ++ (wordText a ++ rest) = e ∙ append-assoc answerName (wordText a) rest in
+    let past : drop (at + length answerName) line ≡ wordText a ++ rest = past-part line answerName (wordText a ++ rest) at named in
+    let long : at + length answerName + length (wordText a) ≡ at + length (answerText a) = simp length-append (omega arith) in
+    rw (text-shown line answerName (wordText a ++ rest) at named) (any-shown line rest (at + length answerName) a past ∙ ap (word.Is a) long)
 
 abbrev WordRead : List ℕ → ℕ → Word → Type 0
-WordRead line at (word.Is a next) = (next ≡ at + length (answerText a)) × (drop at line ≡ answerText a ++ drop next line)
+WordRead line at (word.Is a next) = (next ≡ at + length (wordText a)) × (drop at line ≡ wordText a ++ drop next line)
 WordRead line at word.NoWord = Unit {0}
 
-word-if : (line : List ℕ) (at : ℕ) (a : Answer) (other : Word) → WordRead line at other → WordRead line at (wordIf line at a other)
-word-if line at a other h = go (textAt line at (answerText a)) refl
+word-if : (line : List ℕ) (at : ℕ) (a : Answer) (other : Word) → WordRead line at other → WordRead line at (wordIf line at (wordText a) a other)
+unfolding wordIf
+word-if line at a other h = go (textAt line at (wordText a)) refl
   where
-    go : (m : Place) → textAt line at (answerText a) ≡ m → WordRead line at (onPlace m other (λ next. word.Is a next))
-    go (At k) q = text-read line (answerText a) at k q
+    go : (m : Place) → textAt line at (wordText a) ≡ m → WordRead line at (onPlace m other (λ next. word.Is a next))
+    go (At k) q = text-read line (wordText a) at k q
     go Missing q = h
 
-word-read : (line : List ℕ) (at : ℕ) (a : Answer) (next : ℕ) → wordAt line at ≡ word.Is a next →
-    (next ≡ at + length (answerText a)) × (drop at line ≡ answerText a ++ drop next line)
-unfolding wordAt
-word-read line at a next e =
+any-read : (line : List ℕ) (at : ℕ) (a : Answer) (next : ℕ) → anyWord line at ≡ word.Is a next →
+    (next ≡ at + length (wordText a)) × (drop at line ≡ wordText a ++ drop next line)
+unfolding anyWord
+any-read line at a next e =
     subst (λ (m : Word). WordRead line at m) e
     (word-if line at Allowed _ (word-if line at Rejected _ (word-if line at Yes _ (word-if line at No _
     (word-if line at Value _ (word-if line at Held _ (word-if line at Refused word.NoWord tt)))))))
+
+word-read : (line : List ℕ) (at : ℕ) (a : Answer) (next : ℕ) → wordAt line at ≡ word.Is a next → drop at line ≡ answerText a ++ drop next line
+unfolding wordAt
+word-read line at a next e = go (textAt line at answerName) refl e
+  where
+    go : (m : Place) → textAt line at answerName ≡ m → onPlace m word.NoWord (λ k. anyWord line k) ≡ word.Is a next →
+        drop at line ≡ answerText a ++ drop next line
+    go (At k) q f =
+        text-read line answerName at k q .1 ∙ ap (λ (x : List ℕ). answerName ++ x) (any-read line k a next f .1) ∙
+        sym (append-assoc answerName (wordText a) (drop next line))
+    go Missing q f = absurd (let z : _≡_ {A = ℕ} 0 1 = cc in omega arith)
 
 each-word : {A : Type 0} (P : A → Type 0) (m : Word) (bad : A) (k : Answer → ℕ → A) → P bad → ((a : Answer) (n : ℕ) → m ≡ word.Is a n → P (k a n)) →
     P (onWord m bad k)
@@ -114,13 +135,12 @@ VerdictRead line (verdict.Is t code a factor next) = ReadVerdict line t code a f
 VerdictRead line verdict.NoVerdict = Unit {0}
 
 verdict-joined : (line : List ℕ) (t code : ℕ) (w : Answer) (factor a b c d next : ℕ) → Field line 0 tText t a → Field line a codeText code b →
-    (c ≡ b + length (answerText w)) × (drop b line ≡ answerText w ++ drop c line) →
-    (d ≡ c + length factorText) × (drop c line ≡ factorText ++ drop d line) → HexRead line d factor next → ReadVerdict line t code w factor next
+    drop b line ≡ answerText w ++ drop c line → (d ≡ c + length factorText) × (drop c line ≡ factorText ++ drop d line) → HexRead line d factor next → ReadVerdict line t code w factor next
 verdict-joined line t code w factor a b c d next p q r s h = record {
   fits = record { times = p .fits; codes = q .fits; factors = h .fits };
   shows = p .shows ∙ ap (λ (m : List ℕ). tText ++ (showNumber t ++ m))
       (q .shows ∙ ap (λ (m : List ℕ). codeText ++ (showNumber code ++ m))
-      (r .1 ∙ ap (λ (m : List ℕ). answerText w ++ m) (s .1 ∙ ap (λ (m : List ℕ). factorText ++ m) (h .shows))));
+      (r ∙ ap (λ (m : List ℕ). answerText w ++ m) (s .1 ∙ ap (λ (m : List ℕ). factorText ++ m) (h .shows))));
 }
 
 verdict-found : (line : List ℕ) → VerdictRead line (verdictAt line)

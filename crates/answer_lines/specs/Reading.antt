@@ -11,7 +11,7 @@ use Rattle.fields.specs.declared.Number.{Number}
 use Rattle.fields.specs.declared.Number.the-variants.{Found, NoNumber}
 use Rattle.lines.specs.Reading.{onNumbers, numbersAt}
 use Rattle.lines.specs.Shown.{tText, factorText}
-use Rattle.printing.specs.Answers.{codeText, answerText, waitText, leftText, totalText, declinedText}
+use Rattle.printing.specs.Answers.{codeText, answerName, wordText, waitText, leftText, totalText, declinedText}
 use Rattle.printing.specs.HexLaws.{hexOf, hexFrom}
 use Rattle.printing.specs.declared.Answer.{Answer}
 use Rattle.printing.specs.declared.Answer.the-variants.{Allowed, Rejected, Yes, No, Value, Held, Refused}
@@ -39,14 +39,20 @@ hexLength = 16
 unfoldable pub hexAt : List ℕ → ℕ → Number
 hexAt line at = cond (leb hexLength (run isHex (drop at line))) (Found (hexFrom 0 (take hexLength (drop at line))) (at + hexLength)) NoNumber
 
--- the answer's word at `at`
-abbrev pub wordIf : List ℕ → ℕ → Answer → Word → Word
-wordIf line at answer other = onPlace (textAt line at (answerText answer)) other (λ next. word.Is answer next)
+-- the word at `at`, if it stands there
+unfoldable pub wordIf : List ℕ → ℕ → List ℕ → Answer → Word → Word
+wordIf line at text answer other = onPlace (textAt line at text) other (λ next. word.Is answer next)
 
+-- the word that starts at `at`
+unfoldable pub anyWord : List ℕ → ℕ → Word
+anyWord line at =
+    wordIf line at (wordText Allowed) Allowed (wordIf line at (wordText Rejected) Rejected (wordIf line at (wordText Yes) Yes
+    (wordIf line at (wordText No) No (wordIf line at (wordText Value) Value (wordIf line at (wordText Held) Held
+    (wordIf line at (wordText Refused) Refused word.NoWord))))))
+
+-- the answer at `at`: its name, and a word
 unfoldable pub wordAt : List ℕ → ℕ → Word
-wordAt line at =
-    wordIf line at Allowed (wordIf line at Rejected (wordIf line at Yes (wordIf line at No
-    (wordIf line at Value (wordIf line at Held (wordIf line at Refused word.NoWord))))))
+wordAt line at = onPlace (textAt line at answerName) word.NoWord (λ next. anyWord line next)
 
 abbrev pub onWord : {A : Type 0} → Word → A → (Answer → ℕ → A) → A
 onWord (word.Is answer next) bad k = k answer next

@@ -1,6 +1,6 @@
 // The lines that `desk` and `shots` print, read by the parts of the lines that they take. A line stands here without its newline.
 ghost use mathlib.Core.Path.{_≡_};
-ghost use Rattle.answer_lines.specs.Reading.{hexValue, hexAt, wordAt, verdictAt, readAnswer};
+ghost use Rattle.answer_lines.specs.Reading.{hexValue, hexAt, wordIf, anyWord, wordAt, verdictAt, readAnswer};
 use fields::Number;
 use fields::Place;
 use fields::field_at;
@@ -53,31 +53,36 @@ pub enum Word {
     NoWord,
 }
 
+// The answer whose word is `text`, if that stands at `at`.
+fn word_if(line: &[u8], at: usize, text: &[u8], answer: Answer, other: Word) -> Word
+    ensures { λ r. ⌜ r ≡ wordIf (now (line .entry)) at (now (text .entry)) answer other ⌝ }
+{
+    if let Place::At(next) = text_at(line, at, text) {
+        return Word::Is(answer, next);
+    }
+    other
+}
+
+// No word starts as another one does, so that their order does not matter.
+fn any_word(line: &[u8], at: usize) -> Word
+    ensures { λ r. ⌜ r ≡ anyWord (now (line .entry)) at ⌝ }
+{
+    let refused = word_if(line, at, b"refused", Answer::Refused, Word::NoWord);
+    let held = word_if(line, at, b"held", Answer::Held, refused);
+    let value = word_if(line, at, b"value", Answer::Value, held);
+    let no = word_if(line, at, b"no", Answer::No, value);
+    let yes = word_if(line, at, b"yes", Answer::Yes, no);
+    let rejected = word_if(line, at, b"rejected", Answer::Rejected, yes);
+    word_if(line, at, b"allowed", Answer::Allowed, rejected)
+}
+
 fn word_at(line: &[u8], at: usize) -> Word
     ensures { λ r. ⌜ r ≡ wordAt (now (line .entry)) at ⌝ }
 {
-    if let Place::At(next) = text_at(line, at, b" answer=allowed") {
-        return Word::Is(Answer::Allowed, next);
-    }
-    if let Place::At(next) = text_at(line, at, b" answer=rejected") {
-        return Word::Is(Answer::Rejected, next);
-    }
-    if let Place::At(next) = text_at(line, at, b" answer=yes") {
-        return Word::Is(Answer::Yes, next);
-    }
-    if let Place::At(next) = text_at(line, at, b" answer=no") {
-        return Word::Is(Answer::No, next);
-    }
-    if let Place::At(next) = text_at(line, at, b" answer=value") {
-        return Word::Is(Answer::Value, next);
-    }
-    if let Place::At(next) = text_at(line, at, b" answer=held") {
-        return Word::Is(Answer::Held, next);
-    }
-    if let Place::At(next) = text_at(line, at, b" answer=refused") {
-        return Word::Is(Answer::Refused, next);
-    }
-    Word::NoWord
+    let Place::At(next) = text_at(line, at, b" answer=") else {
+        return Word::NoWord;
+    };
+    any_word(line, next)
 }
 
 // ---- a line

@@ -15,15 +15,23 @@ use Rattle.printing.specs.declared.AnswerLine.{AnswerLine}
 abbrev pub codeText : List ℕ
 codeText = 32 ∷ 99 ∷ 111 ∷ 100 ∷ 101 ∷ 61 ∷ []
 
---  answer=allowed and so on: 01's six words, and `held`
+--  answer=
+abbrev pub answerName : List ℕ
+answerName = 32 ∷ 97 ∷ 110 ∷ 115 ∷ 119 ∷ 101 ∷ 114 ∷ 61 ∷ []
+
+-- 01's six words, and `held`
+abbrev pub wordText : Answer → List ℕ
+wordText Allowed = 97 ∷ 108 ∷ 108 ∷ 111 ∷ 119 ∷ 101 ∷ 100 ∷ []
+wordText Rejected = 114 ∷ 101 ∷ 106 ∷ 101 ∷ 99 ∷ 116 ∷ 101 ∷ 100 ∷ []
+wordText Yes = 121 ∷ 101 ∷ 115 ∷ []
+wordText No = 110 ∷ 111 ∷ []
+wordText Value = 118 ∷ 97 ∷ 108 ∷ 117 ∷ 101 ∷ []
+wordText Held = 104 ∷ 101 ∷ 108 ∷ 100 ∷ []
+wordText Refused = 114 ∷ 101 ∷ 102 ∷ 117 ∷ 115 ∷ 101 ∷ 100 ∷ []
+
+--  answer=allowed and so on
 abbrev pub answerText : Answer → List ℕ
-answerText Allowed = 32 ∷ 97 ∷ 110 ∷ 115 ∷ 119 ∷ 101 ∷ 114 ∷ 61 ∷ 97 ∷ 108 ∷ 108 ∷ 111 ∷ 119 ∷ 101 ∷ 100 ∷ []
-answerText Rejected = 32 ∷ 97 ∷ 110 ∷ 115 ∷ 119 ∷ 101 ∷ 114 ∷ 61 ∷ 114 ∷ 101 ∷ 106 ∷ 101 ∷ 99 ∷ 116 ∷ 101 ∷ 100 ∷ []
-answerText Yes = 32 ∷ 97 ∷ 110 ∷ 115 ∷ 119 ∷ 101 ∷ 114 ∷ 61 ∷ 121 ∷ 101 ∷ 115 ∷ []
-answerText No = 32 ∷ 97 ∷ 110 ∷ 115 ∷ 119 ∷ 101 ∷ 114 ∷ 61 ∷ 110 ∷ 111 ∷ []
-answerText Value = 32 ∷ 97 ∷ 110 ∷ 115 ∷ 119 ∷ 101 ∷ 114 ∷ 61 ∷ 118 ∷ 97 ∷ 108 ∷ 117 ∷ 101 ∷ []
-answerText Held = 32 ∷ 97 ∷ 110 ∷ 115 ∷ 119 ∷ 101 ∷ 114 ∷ 61 ∷ 104 ∷ 101 ∷ 108 ∷ 100 ∷ []
-answerText Refused = 32 ∷ 97 ∷ 110 ∷ 115 ∷ 119 ∷ 101 ∷ 114 ∷ 61 ∷ 114 ∷ 101 ∷ 102 ∷ 117 ∷ 115 ∷ 101 ∷ 100 ∷ []
+answerText word = answerName ++ wordText word
 
 --  wait=
 abbrev pub waitText : List ℕ
