@@ -210,12 +210,12 @@ fault-fits s n = go (not (windowOk (windowIn s))) (not (bucketOk (bucketIn s))) 
     go false false false true n = record { some = omega arith; most = omega arith; at-zero = λ e. refl }
     go false false false false n = absurd (n refl)
 
--- the room is sound, and no slot is the other party's; the settings opened `desk`
-pub record Rooms (kind : RoomKind) (s : Settings) (w : List ℕ) : Type 0 where
+-- a room that is sound, and in which no slot is the other party's
+pub record OwnRoom (kind : RoomKind) (s : Settings) (w : List ℕ) : Type 0 where
   pub sane : Sane kind s w
   pub own : NoneOf secondMark w
 
-module _ (kind : RoomKind) (s : Settings) (w : List ℕ) (t : ℕ) (fine : first (faults s) ≡ 0) (r : Rooms kind s w) where
+module _ (kind : RoomKind) (s : Settings) (w : List ℕ) (t : ℕ) (fine : first (faults s) ≡ 0) (r : OwnRoom kind s w) where
   past-faults : (ys : List (ℕ × Bool)) → isBetween ys ≡ true → first (faults s ++ ys) ≢ 0 → RefusalFits t (first (faults s ++ ys))
   unfolding faults
   past-faults ys p n =
@@ -245,7 +245,7 @@ module _ (s : Settings) (w : List ℕ) (t : ℕ) (fine : first (faults s) ≡ 0)
   abbrev who : Sent
   who = sent (alone w) key
 
-  pub absolute-inc-fits : Rooms Absolute s w → (rate : RateLimit) (n : ℕ) (x : Stored) → TotalsFit x →
+  pub absolute-inc-fits : OwnRoom Absolute s w → (rate : RateLimit) (n : ℕ) (x : Stored) → TotalsFit x →
       ToldFits t (decided (OnAbsolute.inc s w t (sent (alone w) key) rate n .answer) x)
   unfolding OnAbsolute.inc decided absolute.decided misfits
   absolute-inc-fits r rate n x f =
@@ -253,7 +253,7 @@ module _ (s : Settings) (w : List ℕ) (t : ℕ) (fine : first (faults s) ≡ 0)
       (λ e. pick-fits (absolute.allowed s t (heldIn w who)) (ticksIn s) (s .«window_size») t (lookedOf s t (heldIn w who)) x
       (proper s fine .window-high) (le-trans (looked-few s t (heldIn w who)) (held-few Absolute s w (r .sane .sound) who)) f)
 
-  pub absolute-get-fits : Rooms Absolute s w → ToldFits t (live (OnAbsolute.get s w t (sent (alone w) key) .answer))
+  pub absolute-get-fits : OwnRoom Absolute s w → ToldFits t (live (OnAbsolute.get s w t (sent (alone w) key) .answer))
   unfolding OnAbsolute.get live misfits
   absolute-get-fits r =
       answer-fits live total.Refused t _ w _ refl (turned-fits Absolute s w t fine r (Ops.get who) refl tt _ refl refl)
@@ -262,7 +262,7 @@ module _ (s : Settings) (w : List ℕ) (t : ℕ) (fine : first (faults s) ≡ 0)
         record { most = le-trans (live-few s t (heldIn w who)) (held-few Absolute s w (r .sane .sound) who); part = omega arith },
       ))
 
-  pub suppressed-inc-fits : Rooms Suppressed s w → Bytes key → (rate : RateLimit) (n draw : ℕ) (x : Stored) → TotalsFit x →
+  pub suppressed-inc-fits : OwnRoom Suppressed s w → Bytes key → (rate : RateLimit) (n draw : ℕ) (x : Stored) → TotalsFit x →
       ToldFits t (decided (OnSuppressed.inc s w t (sent (alone w) key) rate n draw .answer) x)
   unfolding decided
   suppressed-inc-fits r y rate n draw x f = go (ℕ-discrete (first (tableOf Suppressed s w t (Ops.draws (sent (alone w) key) rate n draw))) 0)
@@ -275,7 +275,7 @@ module _ (s : Settings) (w : List ℕ) (t : ℕ) (fine : first (faults s) ≡ 0)
       go (no z) = subst (λ (d : RateLimitDecision). ToldFits t (decided d x)) (inc-follows s w t (sent (alone w) key) rate n draw y .refused z .answer)
           (turned-fits Suppressed s w t fine r (Ops.draws who rate n draw) refl tt _ refl refl z)
 
-  pub suppressed-get-fits : Rooms Suppressed s w → Bytes key → (x : Stored) → TotalsFit x →
+  pub suppressed-get-fits : OwnRoom Suppressed s w → Bytes key → (x : Stored) → TotalsFit x →
       ToldFits t (snapped (OnSuppressed.get s w t (sent (alone w) key) .answer) x)
   unfolding snapped
   suppressed-get-fits r y x f = go (ℕ-discrete (first (tableOf Suppressed s w t (Ops.snapshot (sent (alone w) key)))) 0)

@@ -61,7 +61,7 @@ use Rattle.desk_feed.specs.Contracts.{slotsOf, ringLength, newFirst, newSecond}
 use Rattle.desk_laws.specs.Whole.{callLines, inputLines, printed, program-prints, inLine, allInLine, text-in-line, digits-in-line, next-line}
 use Rattle.desk_laws.specs.Lines.{Stand, texts, texts-both, all-turns}
 use Rattle.desk_laws.specs.Asks.{kindOf, roomOf, opOf, plain-bytes}
-use Rattle.desk_reads.specs.Range.{Rooms, stored-fits, absolute-inc-fits, absolute-get-fits, suppressed-inc-fits, suppressed-get-fits, fault-fits}
+use Rattle.desk_reads.specs.Range.{OwnRoom, stored-fits, absolute-inc-fits, absolute-get-fits, suppressed-inc-fits, suppressed-get-fits, fault-fits}
 
 -- ---- the statement
 
@@ -172,8 +172,8 @@ told-reads bytes p = subst (λ (xs : List ℕ). EachReads (callLines [] xs)) (sy
 
 record DeskStands (s : Settings) (a b : List ℕ) : Type 0 where
   fine : first (faults s) ≡ 0
-  absolute : Rooms Absolute s a
-  suppressed : Rooms Suppressed s b
+  absolute : OwnRoom Absolute s a
+  suppressed : OwnRoom Suppressed s b
 
 abbrev Stands : Stand
 Stands (Waiting program.Desk) a b = (a ≡ newFirst program.Desk) × (b ≡ newSecond program.Desk)
@@ -182,7 +182,7 @@ Stands (Open program.Desk s) a b = DeskStands s a b
 Stands (Open program.Shots s) a b = ⊥
 Stands Ended a b = Unit {0}
 
-room-empty : (kind : RoomKind) (s : Settings) → Rooms kind s (empty (slotsOf program.Desk) ringLength)
+room-empty : (kind : RoomKind) (s : Settings) → OwnRoom kind s (empty (slotsOf program.Desk) ringLength)
 unfolding fits
 room-empty kind s = record {
   sane = empty-sane kind s (slotsOf program.Desk) ringLength (lengthOf (slotsOf program.Desk) ringLength) refl;
@@ -191,7 +191,7 @@ room-empty kind s = record {
 
 -- a call of the one party leaves the room so
 room-after : (kind : RoomKind) (s : Settings) (w : List ℕ) (t : ℕ) (op : Op kind) → Keyed op →
-    ((key : Sent) → touches op ≡ slotOf key → markOf (key .caller .party) ≢ secondMark) → Rooms kind s w → Rooms kind s (after kind s w t op)
+    ((key : Sent) → touches op ≡ slotOf key → markOf (key .caller .party) ≢ secondMark) → OwnRoom kind s w → OwnRoom kind s (after kind s w t op)
 room-after kind s w t op k f r =
     let m = step kind s w t op k in
     record {
@@ -207,13 +207,7 @@ mine : (w key : List ℕ) (k : Sent) → slotOf (sent (alone w) key) ≡ slotOf 
 mine w key k e f = omega (arith, ap (λ (j : Sent). markOf (j .caller .party)) (slot-key (sent (alone w) key) k e) ∙ f)
 
 module _ (s : Settings) (a b : List ℕ) (t : ℕ) (key : List ℕ) (rate n draw : ℕ) (y : Bytes key) (h : DeskStands s a b) where
-  held : (op : lineOp.Op) → Rooms (kindOf op) s (roomOf op a b)
-  held AbsoluteInc = h .absolute
-  held AbsoluteGet = h .absolute
-  held SuppressedInc = h .suppressed
-  held SuppressedGet = h .suppressed
-
-  left : (op : lineOp.Op) → Rooms (kindOf op) s (after (kindOf op) s (roomOf op a b) t (opOf op (roomOf op a b) key rate n draw))
+  left : (op : lineOp.Op) → OwnRoom (kindOf op) s (after (kindOf op) s (roomOf op a b) t (opOf op (roomOf op a b) key rate n draw))
   left AbsoluteInc = room-after Absolute s a t (opOf AbsoluteInc a key rate n draw) y (mine a key) (h .absolute)
   left AbsoluteGet = room-after Absolute s a t (opOf AbsoluteGet a key rate n draw) tt (mine a key) (h .absolute)
   left SuppressedInc = room-after Suppressed s b t (opOf SuppressedInc b key rate n draw) y (mine b key) (h .suppressed)
@@ -264,8 +258,7 @@ desk-step : (s : Settings) (a b line : List ℕ) (c : CallLine) → CallRead lin
 desk-step s a b line call.Bad p h = (refused-line badLine bad-fits, h)
 desk-step s a b line (call.Call t op start end rate n draw) p h =
     let key = keyIn line start end in
-    let y = plain-bytes key (p .fits .keys .plain) in
-    let l : ToldLine = record { t = t; told = tell s a b t key rate n draw y h op } in (
+    let y = plain-bytes key (p .fits .keys .plain) in (
       subst (λ (m : AnswerLine). Telling (shown m)) (sym (call-line s a b t key rate n draw y h op))
           (one-line (record { t = t; told = tell s a b t key rate n draw y h op })
           (record { time = p .fits .times; told = tell-fits s a b t key rate n draw y h op })),
