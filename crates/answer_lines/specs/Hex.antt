@@ -2,7 +2,7 @@
 -- Assumes nothing.
 use mathlib.Core.Path.{_≡_, refl, sym, ap, _∙_}
 use mathlib.Core.Bool.{Bool, true, false, cond, _&&_, _||_, false≢true}
-use mathlib.Core.Logic.{_⊎_, inl, inr}
+use mathlib.Core.Logic.{inr}
 use mathlib.Core.List.{List, [], _∷_, _++_, append-assoc, append-nil}
 use Prim.Native.Nat.{ℕ, zero, suc, _+_, _-_, _*_, _/_, _%_, _≤_, _<_}
 use native.Mathlib.Nat.{mod-lt}
@@ -13,7 +13,7 @@ use lib.ListN.{length, getD, take, drop, take-append-drop}
 use lib.Seq.{drop-cons, drop-drop, take-append-seam, length-take-le}
 use lib.Dec.{leb, ltb}
 use borrow.Author.Tests.{le-leb, leb-true, lt-leb, lt-ltb, le-ltb}
-use Rattle.fields.specs.Bytes.{within}
+use Rattle.fields.specs.Bytes.{within, Outside, inside, outside}
 use Rattle.fields.specs.Numbers.{Each, each-append}
 use Rattle.fields.specs.Parts.{run}
 use Rattle.fields.specs.Ranges.{largest}
@@ -26,9 +26,6 @@ use Rattle.printing.specs.Printing.{hex-length}
 use Rattle.answer_lines.specs.Reading.{isHex, hexValue, hexLength, hexAt}
 
 -- ---- digits
-
-inside : (low high b : ℕ) → low ≤ b → b ≤ high → within low high b ≡ true
-inside low high b h k = simp (le-leb _ _ h, le-leb _ _ k)
 
 pub record HexByte (b : ℕ) : Type 0 where
   pub small : hexOf b < 16
@@ -72,14 +69,6 @@ digit-hex d h = go (decLt d 10)
         rw (le-ltb d 10 l) (second (within 48 57 (87 + d)) (within 97 102 (87 + d)) (inside 97 102 (87 + d) (omega arith) (omega arith)))
 
 -- the value by the byte's range
-outside : (low high b : ℕ) → (b < low) ⊎ (high < b) → within low high b ≡ false
-outside low high b (inl h) = simp (lt-leb _ _ h)
-outside low high b (inr h) = simp (lt-leb _ _ h, and-false)
-  where
-    and-false : (t : Bool) → t && false ≡ false
-    and-false true = refl
-    and-false false = refl
-
 pub value-decimal : (b : ℕ) → 48 ≤ b → b ≤ 57 → b - 48 ≡ hexValue b
 unfolding hexValue isHex hexOf
 value-decimal b h k = let l : b < 58 = omega arith in rw (inside 48 57 b h k, lt-ltb b 58 l)
@@ -91,7 +80,7 @@ value-letter b h k =
     let o : 57 < b = omega arith in
     rw (outside 48 57 b (inr o), inside 97 102 b h k, le-ltb b 58 l) (omega arith)
 
-pub value-none : (b : ℕ) → (b < 48) ⊎ (57 < b) → (b < 97) ⊎ (102 < b) → 16 ≡ hexValue b
+pub value-none : (b : ℕ) → Outside 48 57 b → Outside 97 102 b → 16 ≡ hexValue b
 unfolding hexValue isHex
 value-none b h k = rw (outside 48 57 b h, outside 97 102 b k)
 

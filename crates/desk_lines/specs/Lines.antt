@@ -21,7 +21,7 @@ use Rattle.opened.specs.Sound.{hasSeries}
 use Rattle.parties.specs.declared.Caller.{Caller}
 use Rattle.printing.specs.declared.Answer.the-variants as answer
 use Rattle.printing.specs.declared.AnswerLine.{AnswerLine}
-use Rattle.told.specs.Told.{said, refusedLine, decided, live, snapped, lineOf}
+use Rattle.told.specs.Told.{noStored, said, refusedLine, decided, live, snapped, lineOf}
 use Rattle.told.specs.declared.Stored.{Stored}
 use Rattle.told.specs.declared.Told.{Told}
 
@@ -30,9 +30,6 @@ abbrev pub alone : List ℕ → Caller
 alone w = record { party = 1; first = slotsOf w; second = 0 }
 
 -- ---- what is stored of a key: the one party's
-
-abbrev pub noStored : Stored
-noStored = record { total = 0; declined = 0 }
 
 abbrev pub storedAt : List ℕ → ℕ → Stored
 storedAt w at = record { total = totalOf (bodyOf w at); declined = declinedOf (bodyOf w at) }

@@ -15,7 +15,8 @@ use Rattle.room.specs.Laws.{room-sized}
 use Rattle.opened.specs.Sound.{hasSeries}
 use Rattle.printing.specs.declared.AnswerLine.{AnswerLine}
 use Rattle.told.specs.declared.Stored.{Stored}
-use Rattle.desk_lines.specs.Lines.{noStored, storedOf}
+use Rattle.told.specs.Told.{noStored}
+use Rattle.desk_lines.specs.Lines.{storedOf}
 
 -- ---- what is stored
 

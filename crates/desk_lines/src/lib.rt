@@ -1,7 +1,8 @@
 // What `desk` and `shots` print of an answer: the line's fields, with the key's totals as stored. One party calls, and is promised every slot.
 ghost use mathlib.Core.Path.{_≡_};
 ghost use Rattle.room.specs.Room.{slotsOf};
-ghost use Rattle.desk_lines.specs.Lines.{noStored, storedOf, decisionLine, shotLine};
+ghost use Rattle.told.specs.Told.{noStored};
+ghost use Rattle.desk_lines.specs.Lines.{storedOf, decisionLine, shotLine};
 ghost use Rattle.desk_lines.specs.Lines.{alone, totalLine, snapshotLine, perMinute};
 use answers::RateLimitDecision;
 use answers::ShotAnswer;

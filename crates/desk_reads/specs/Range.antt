@@ -59,12 +59,12 @@ use Rattle.steps.specs.Table.{tableOf}
 use Rattle.apart.specs.Alone.{Alone, Others, soleTable, alone-number}
 use Rattle.apart.specs.Promised.{callerIn}
 use Rattle.apart.specs.Own.{NoneOf, own-alone}
-use Rattle.told.specs.Told.{decided, live, snapped}
+use Rattle.told.specs.Told.{noStored, decided, live, snapped}
 use Rattle.told.specs.Range.{TotalsFit, FactorFits, RefusalFits, timeless, ToldFits}
 use Rattle.told.specs.declared.Stored.{Stored}
 use Rattle.told.specs.declared.Told.{Told}
 use Rattle.told.specs.declared.Told.the-variants.{Allowed, Rejected, Suppressed, Refused}
-use Rattle.desk_lines.specs.Lines.{alone, noStored, storedAt, pickStored, storedOf}
+use Rattle.desk_lines.specs.Lines.{alone, storedAt, pickStored, storedOf}
 
 -- ---- totals
 

@@ -41,13 +41,13 @@ counts letters b = counted letters (classOf b)
 
 -- ---- the classes by their ranges
 
-abbrev Outside : ℕ → ℕ → ℕ → Type 0
+abbrev pub Outside : ℕ → ℕ → ℕ → Type 0
 Outside low high b = (b < low) ⊎ (high < b)
 
-inside : (low high b : ℕ) → low ≤ b → b ≤ high → within low high b ≡ true
+pub inside : (low high b : ℕ) → low ≤ b → b ≤ high → within low high b ≡ true
 inside low high b h k = simp (le-leb _ _ h, le-leb _ _ k)
 
-outside : (low high b : ℕ) → Outside low high b → within low high b ≡ false
+pub outside : (low high b : ℕ) → Outside low high b → within low high b ≡ false
 outside low high b (inl h) = simp (lt-leb _ _ h)
 outside low high b (inr h) = simp (lt-leb _ _ h, and-false)
   where

@@ -28,6 +28,10 @@ use Rattle.told.specs.declared.DecisionTold.the-variants.{Decision, NoDe
 abbrev pub badLine : ℕ
 badLine = 14
 
+-- no totals: of a key without a series, and of a refusal
+abbrev pub noStored : Stored
+noStored = record { total = 0; declined = 0 }
+
 -- ---- what is told
 
 -- "`wait` (when to ask again, taken as the Rust's retry_after in ms), `left` (oldest bucket's count)"
