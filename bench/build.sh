@@ -9,8 +9,8 @@ source=${TRYPEMA_SRC:-$here/../../shared/docs/src}
 source=$(cd "$source" && pwd)
 twin=${TWIN:-../twin}/src/lib.rs
 mkdir -p target ../oracle/target
-rm -f ../oracle/target/original
-ln -s "$source/src" ../oracle/target/original
+rm -rf ../oracle/target/original
+cp -r --no-preserve=mode "$source/src" ../oracle/target/original
 rust="rustc --edition 2024 -O -D warnings --out-dir target -L target"
 $rust --crate-type rlib --crate-name twin "$twin"
 $rust --crate-type rlib --crate-name trusting --cfg trusting -A dead_code "$twin"

@@ -11,7 +11,7 @@
  * memory; a refused call changes nothing but the answer row. There is no allocation, no lock, no clock, no global
  * state, no callback: time and randomness come in as arguments.
  *
- * Build:   rt staticlib abi                                  makes target/staticlib/libabi.a (x86-64 Linux)
+ * Build:   ./archive                                         makes target/staticlib/libabi.a (x86-64 Linux)
  *          cc -Iinclude program.c target/staticlib/libabi.a
  * Example: examples/c/gateway.c
  *

@@ -19,8 +19,8 @@ if [ -f "$archive" ]; then
 fi
 ../twin/build.sh
 mkdir -p target
-rm -f target/original
-ln -s "$source/src" target/original
+rm -rf target/original
+cp -r --no-preserve=mode "$source/src" target/original
 rust="rustc --edition 2024 -O -C overflow-checks=on -D warnings --out-dir target -L target"
 $rust --crate-type proc-macro --crate-name strum_macros --extern proc_macro shims/strum_macros.rs
 $rust --crate-type proc-macro --crate-name thiserror --extern proc_macro shims/thiserror.rs

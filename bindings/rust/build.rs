@@ -1,5 +1,5 @@
 //! Says where the archive of the limiters is: `FROSTAXLE_LIB` names the folder of `libabi.a`, else it is the
-//! repository's `target/staticlib`, where `rt staticlib abi` puts it.
+//! repository's `target/staticlib`, where the repository's `archive` puts it.
 use std::env;
 use std::path::PathBuf;
 
@@ -12,7 +12,7 @@ fn main() {
     let archive = folder.join("libabi.a");
     if !archive.is_file() {
         println!(
-            "cargo:warning={} is not there: run `rt staticlib abi` in the repository, or name its folder in FROSTAXLE_LIB",
+            "cargo:warning={} is not there: run `./archive` in the repository, or name its folder in FROSTAXLE_LIB",
             archive.display()
         );
     }

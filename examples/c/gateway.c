@@ -2,7 +2,7 @@
  * A gateway that admits survey shots by both limiters, and by their numbers, and shares a room with the lock keepers,
  * with readings made up so that the run is the same each time. At last lines of the program `desk` are read back.
  *
- *     rt staticlib abi
+ *     ./archive
  *     cc -std=c11 -Wall -Wextra -Iinclude examples/c/gateway.c target/staticlib/libabi.a -o target/gateway
  *     target/gateway
  */

@@ -55,7 +55,7 @@
 //! What the program `desk` prints is read back as [`Line`]s, one meaning for each: a line prints as the bytes that it was
 //! read from, and any that `desk` does not print is refused with [`Refusal::NoCall`].
 //!
-//! Building: `rt staticlib abi` in the repository makes the archive. With cargo, `cargo build --offline` here finds it, or
+//! Building: `./archive` in the repository makes the archive. With cargo, `cargo build --offline` here finds it, or
 //! in the folder that `FROSTAXLE_LIB` names. With rustc alone, in the repository:
 //!
 //! ```text

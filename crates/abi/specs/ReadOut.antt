@@ -18,7 +18,7 @@ use Rattle.rules.specs.declared.RoomKind.{RoomKind}
 use Rattle.opened.specs.Sound.{has_series, addressed}
 use Rattle.finding.specs.declared.Found.{Found}
 use Rattle.finding.specs.Finding.{refusal, buckets_of, shown, found, Readable}
-use Rattle.readout.specs.Laws.{row-readable}
+use Rattle.readout.proofs.Laws.{row-readable}
 
 -- count, declined and time
 abbrev pub cell_row : Bucket → List ℕ

@@ -1,5 +1,7 @@
 // The faces for C and Rust: every call over numbers and lent words. The answer goes out as a row of five words, and each face returns the row's first, the
 // refusal's number or 0; of a line of `desk` that is read back the row has seven. include/frostaxle.h says it to C programmers.
+#![tactic(auto)]
+
 ghost use Rattle.std.specs.Prelude.{◌≡◌, cond, eqb, length};
 ghost use Rattle.answers.specs.Rows.{refused_row, decision_row, total_row, snapshot_row, factor_row, old_rate_row, delete_row, done_row, ring_row};
 ghost use Rattle.ring_length.specs.RingLength.{ring_for};

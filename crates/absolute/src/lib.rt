@@ -1,4 +1,6 @@
 // The absolute limiter whole: its own calls, and those that both limiters have.
+#![tactic(auto)]
+
 ghost use Rattle.judge.specs.Verdict.{Told};
 ghost use Rattle.clearing.specs.Clear as Clear;
 ghost use Rattle.calls.specs.Delete as Delete;

@@ -1,4 +1,6 @@
 // The absolute limiter's increment: counts for a key where it is allowed.
+#![tactic(auto)]
+
 ghost use Rattle.judge.specs.Verdict.{Told};
 ghost use Rattle.rules.specs.declared.RoomKind.TheVariants.{Absolute};
 ghost use Rattle.parties.specs.Parties.{sent};

@@ -1,6 +1,8 @@
 // The absolute limiter's decisions on a key's slot that is opened: which refusals an increment meets, and what each call changes.
 // `limit` is the key's limit, cut to a whole number once by the caller. The test stands below, in `absolute_test`; the calls above, in
 // `absolute_reads` and `absolute_inc`.
+#![tactic(auto)]
+
 ghost use Rattle.std.specs.Prelude.{◌≡◌, ◌&&◌};
 ghost use Rattle.common.specs.Limits.{absolute_word};
 ghost use Rattle.common.specs.Ranges.{rate_ok};

@@ -1,4 +1,6 @@
 // What the absolute limiter says of a key without counting: its live total, and whether it is allowed.
+#![tactic(auto)]
+
 ghost use Rattle.judge.specs.Verdict.{Told};
 ghost use Rattle.rules.specs.declared.RoomKind.TheVariants.{Absolute};
 ghost use Rattle.parties.specs.Parties.{sent};

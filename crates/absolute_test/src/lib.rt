@@ -1,4 +1,6 @@
 // The absolute limiter's test on a key's slot as a value: who is allowed, and what a rejection says.
+#![tactic(auto)]
+
 ghost use Rattle.std.specs.Prelude.{◌≡◌, ◌≤◌};
 ghost use Rattle.settings.specs.Settings.{window_in};
 ghost use Rattle.settings.specs.Clock.{ticks_in};

@@ -26,7 +26,7 @@ use Rattle.opened.specs.declared.Slot.{Slot}
 use Rattle.opened.specs.Sound.{addressed}
 use Rattle.opened.specs.Look.{look-series}
 use Rattle.judge.specs.Judge.{Passed, slot_in, looked_in}
-use Rattle.judge.specs.Laws.{free-there}
+use Rattle.judge.proofs.Laws.{free-there}
 use Rattle.plan.specs.Plan.{place_of, lacks_at, full_after, evicting, opening}
 use Rattle.plan.specs.Looked.{known-looked}
 use Rattle.plan.specs.Seen.{full-after}

@@ -31,12 +31,13 @@ use Rattle.change.specs.Words.{applied}
 use Rattle.sweep.specs.declared.tally.Mark.{Mark}
 use Rattle.sweep.specs.Sweep.{mark}
 use Rattle.opened.specs.declared.Slot.{Slot}
-use Rattle.judge.specs.Held.{held_in, held-here, held_none}
+use Rattle.judge.specs.Held.{held_in}
+use Rattle.judge.proofs.Held.{held-here, held_none}
 use Rattle.judge.specs.Judge.{Passed, slot_in, looked_in}
 use Rattle.opened.specs.Look.{look-total}
 use Rattle.opened.specs.Slot.{has_slot}
 use Rattle.opened.specs.Sound.{has_series, has_cached, right_use, addressed}
-use Rattle.judge.specs.Verdict.{call-alike}
+use Rattle.judge.proofs.Verdict.{call-alike}
 use Rattle.plan.specs.Plan.{place_of, lacks_at, full_after}
 use Rattle.plan.specs.Known.{found, none, use-right}
 use Rattle.plan.specs.Seen.{Seen, seen, seen-looked, full-after, lacks-is}

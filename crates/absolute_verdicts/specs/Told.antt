@@ -26,8 +26,9 @@ use Rattle.opened.specs.declared.Slot.{Slot}
 use Rattle.opened.specs.Slot.{pick_slot}
 use Rattle.opened.specs.Look.{look_at, look-total, look-limit}
 use Rattle.judge.specs.Judge.{early, judged, judged_first, Passed, slot_in, looked_in}
-use Rattle.judge.specs.Laws.{code_is, none_is, slot_is, passed}
-use Rattle.judge.specs.Verdict.{Told, told-as, verdict, call, call-early, call-own, call-done}
+use Rattle.judge.proofs.Laws.{code_is, none_is, slot_is, passed}
+use Rattle.judge.specs.Verdict.{Told, verdict, call}
+use Rattle.judge.proofs.Verdict.{told-as, call-early, call-own, call-done}
 use Rattle.plan.specs.Plan.{place_of, lacks_at}
 use Rattle.absolute_test.specs.Test.{evicts, allowed_at, decided_at}
 use Rattle.absolute_opened.specs.Opened.{get_change, ask_change, inc_change, inc_refusals}

@@ -1,4 +1,6 @@
 // The lines that `desk` and `shots` print, read by the parts of the lines that they take. A line stands here without its newline.
+#![tactic(auto)]
+
 ghost use Rattle.std.specs.Prelude.{◌≡◌};
 ghost use Rattle.answer_lines.specs.Reading.{hex_value, hex_at, word_if, any_word, word_at, verdict_at, read_answer};
 
@@ -44,7 +46,7 @@ fn hex_at(line: &[u8], at: usize) -> Number
 }
 
 // An answer's word that was read, and the place past it.
-#[derive(Drop)]
+#[derive(Clone, Copy)]
 pub enum Word {
     Is(Answer, usize),
     NoWord,
@@ -85,7 +87,7 @@ fn word_at(line: &[u8], at: usize) -> Word
 // ---- a line
 
 // The first four fields, and the place past them.
-#[derive(Drop)]
+#[derive(Clone, Copy)]
 pub enum Verdict {
     Is {
         t: u64,
@@ -133,7 +135,7 @@ fn verdict_at(line: &[u8]) -> Verdict
 }
 
 // What is printed as a line, whatever its numbers are.
-#[derive(Drop)]
+#[derive(Clone, Copy)]
 pub enum Printed {
     Answer(AnswerLine),
     Bad,

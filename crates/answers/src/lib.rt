@@ -1,32 +1,34 @@
 // What the calls answer, and how a set treats a key's buckets. Each answer may be a refusal with its number; `specs/Rows.antt`
 // gives each one's number and values.
+#![tactic(auto)]
+
 ghost use Rattle.std.specs.Prelude.{◌≡◌};
 ghost use Rattle.answers.specs.HistoryMode.{no_snapshot};
 
 use common::{RateLimit, WindowSize};
 
 // Which end of the buckets stays when a set changes the total.
-#[derive(Drop)]
+#[derive(Clone, Copy)]
 pub enum HistoryPreservation {
     PreserveNewest,
     PreserveOldest,
 }
 
-#[derive(Drop)]
+#[derive(Clone, Copy)]
 pub enum HistoryUpdateMode {
     Replace,
     Preserve(HistoryPreservation),
 }
 
 // Whether the comparator was met, and the live totals before and after.
-#[derive(Drop)]
+#[derive(Clone, Copy)]
 pub struct ConditionalSetOutcome {
     pub matched: bool,
     pub previous_total: u64,
     pub current_total: u64,
 }
 
-#[derive(Drop)]
+#[derive(Clone, Copy)]
 pub struct SuppressedRateLimitSnapshot {
     pub total: u64,
     pub total_declined: u64,
@@ -46,7 +48,7 @@ impl SuppressedRateLimitSnapshot {
 }
 
 // An increment, and whether a key is allowed. `retry_after` is in milliseconds.
-#[derive(Drop)]
+#[derive(Clone, Copy)]
 pub enum RateLimitDecision {
     Allowed,
     Rejected {
@@ -62,26 +64,26 @@ pub enum RateLimitDecision {
 }
 
 // A live total.
-#[derive(Drop)]
+#[derive(Clone, Copy)]
 pub enum TotalAnswer {
     Total(u64),
     Refused(u64),
 }
 
-#[derive(Drop)]
+#[derive(Clone, Copy)]
 pub enum SnapshotAnswer {
     Snapshot(SuppressedRateLimitSnapshot),
     Refused(u64),
 }
 
-#[derive(Drop)]
+#[derive(Clone, Copy)]
 pub enum FactorAnswer {
     Factor(f64),
     Refused(u64),
 }
 
 // Setting a rate: the one before, of a known key.
-#[derive(Drop)]
+#[derive(Clone, Copy)]
 pub enum OldRateAnswer {
     Was(RateLimit),
     Unknown,
@@ -89,42 +91,42 @@ pub enum OldRateAnswer {
 }
 
 // A delete: what the key had.
-#[derive(Drop)]
+#[derive(Clone, Copy)]
 pub enum DeleteAnswer {
     Deleted(u64),
     Unknown,
     Refused(u64),
 }
 
-#[derive(Drop)]
+#[derive(Clone, Copy)]
 pub enum SetAnswer {
     Set(ConditionalSetOutcome),
     Refused(u64),
 }
 
 // Clear and cleanup.
-#[derive(Drop)]
+#[derive(Clone, Copy)]
 pub enum DoneAnswer {
     Done,
     Refused(u64),
 }
 
 // The read-out: how many buckets the key's ring has.
-#[derive(Drop)]
+#[derive(Clone, Copy)]
 pub enum ReadOutAnswer {
     Buckets(u64),
     Refused(u64),
 }
 
 // How many buckets a ring must have, for rooms with these settings.
-#[derive(Drop)]
+#[derive(Clone, Copy)]
 pub enum RingAnswer {
     Ring(u64),
     Refused(u64),
 }
 
 // A shot by its number: the gateway has it already, or what the limiter decided.
-#[derive(Drop)]
+#[derive(Clone, Copy)]
 pub enum ShotAnswer {
     Held,
     Decided(RateLimitDecision),

@@ -1,10 +1,7 @@
 pub mod Holds
 pub mod Count
 pub mod One
-pub mod Calls
-pub mod Whole
 pub mod Told
-pub mod Step
 pub mod Promised
 pub mod Like
 pub mod Apart

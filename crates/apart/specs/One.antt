@@ -114,11 +114,3 @@ key_in op = named_by (touches op)
 
 abbrev pub Named : {kind : RoomKind} → Op kind → Type 0
 Named op = is_named (touches op) ≡ true
-
-pub named-touches : {kind : RoomKind} (op : Op kind) → Named op → touches op ≡ slot_of (key_in op)
-named-touches op = go (touches op)
-  where
-    go : (x : Touch) → is_named x ≡ true → x ≡ slot_of (named_by x)
-    go (slot_of key) e = refl
-    go (stale_by stale) e = absurd (false≢true e)
-    go (whole m) e = absurd (false≢true e)

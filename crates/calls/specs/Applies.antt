@@ -22,7 +22,7 @@ use Rattle.change.specs.Words.{Applies, EditsAt}
 use Rattle.edit.specs.Bodies.{Fits}
 use Rattle.opened.specs.declared.Slot.{Slot}
 use Rattle.judge.specs.Judge.{Passed, slot_in}
-use Rattle.judge.specs.Laws.{free-there}
+use Rattle.judge.proofs.Laws.{free-there}
 use Rattle.opened.specs.Slot.{has_slot}
 use Rattle.plan.specs.Known.{keeping-edits, evicting-edits, opening-edits}
 use Rattle.plan.specs.Plan.{place_of, lacks_at, keeping, relimited}

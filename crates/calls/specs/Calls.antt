@@ -17,8 +17,9 @@ use Rattle.opened.specs.declared.Slot.{Slot}
 use Rattle.opened.specs.Sound.{addressed}
 use Rattle.judge.specs.Judge.{early, judged, Passed, slot_in}
 use Rattle.opened.specs.Slot.{has_slot}
-use Rattle.judge.specs.Laws.{code_is, none_is, slot_is, passed}
-use Rattle.judge.specs.Verdict.{Verdict, Told, call, call-early, call-own, call-done}
+use Rattle.judge.proofs.Laws.{code_is, none_is, slot_is, passed}
+use Rattle.judge.specs.Verdict.{Verdict, Told, call}
+use Rattle.judge.proofs.Verdict.{call-early, call-own, call-done}
 use Rattle.plan.specs.Known.{Found, Known, found, none, at-as, series-known}
 
 -- a call whose own refusals, and what it does, are functions of the slot

@@ -34,7 +34,7 @@ use Rattle.change.specs.Words.{applied}
 use Rattle.opened.specs.declared.Slot.{Slot}
 use Rattle.judge.specs.Held.{held_in}
 use Rattle.judge.specs.Judge.{slot_in}
-use Rattle.judge.specs.Verdict.{call-alike}
+use Rattle.judge.proofs.Verdict.{call-alike}
 use Rattle.plan.specs.Plan.{place_of}
 use Rattle.plan.specs.Seen.{Seen, seen, lacks-is}
 use Rattle.shared_opened.specs.Opened.{deleted_at, old_rate_at}

@@ -21,7 +21,8 @@ use Rattle.change.specs.Words.{applied, Applies}
 use Rattle.judge.specs.declared.Judged.{Judged}
 use Rattle.opened.specs.declared.Slot.{Slot}
 use Rattle.judge.specs.Judge.{judged, slot_in}
-use Rattle.judge.specs.Verdict.{Told, told-as}
+use Rattle.judge.specs.Verdict.{Told}
+use Rattle.judge.proofs.Verdict.{told-as}
 use Rattle.plan.specs.Plan.{place_of, lacks_at}
 use Rattle.sets_opened.specs.Sets.{idle_at, outcome_at, setting, set_own}
 use Rattle.calls.specs.Calls.{judged-passed, judged-slot, judged-none, judged-own, judged-done}

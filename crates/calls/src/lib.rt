@@ -1,4 +1,6 @@
 // The calls with a key that both limiters share: delete, setting a rate and setting a total. The room's kind says whose limit is meant.
+#![tactic(auto)]
+
 ghost use Rattle.parties.specs.Parties.{sent};
 ghost use Rattle.judge.specs.Verdict.{Told};
 ghost use Rattle.calls.specs.Delete.{delete};

@@ -8,7 +8,7 @@ use Rattle.room.specs.Laws.{body-length}
 use Rattle.frame.specs.Frame.{Changed, body-change, put-use, put-release, put-entry, unchanged}
 use Rattle.keys.specs.Keys.{key_of}
 use Rattle.parties.specs.Parties.{Sent, key_for}
-use Rattle.parties.specs.Laws.{mark-small}
+use Rattle.parties.proofs.Laws.{mark-small}
 use Rattle.edit.specs.declared.Edit.{Edit}
 use Rattle.change.specs.declared.Change.{Change}
 use Rattle.change.specs.declared.Change.TheVariants.{Keep, Free, Update, Take}

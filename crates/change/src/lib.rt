@@ -1,4 +1,6 @@
 // What a call changes, as a value, and the one place where it is carried out: a slot's body is lent here, and nowhere else.
+#![tactic(auto)]
+
 ghost use Rattle.std.specs.Prelude.{◌≡◌, ◌+◌, ◌*◌};
 ghost use Rattle.parties.specs.Parties.{sent};
 ghost use Rattle.change.specs.Words.{with_edit, updated, taken, carried, applied, EditsAt, Applies};
@@ -7,7 +9,7 @@ use edit::Edit;
 use parties::Caller;
 
 // What a call that is not refused does, besides storing its reading.
-#[derive(Drop)]
+#[derive(Clone, Copy)]
 pub enum Change {
     Keep,
     Free,

@@ -20,12 +20,13 @@ use Rattle.parties.specs.Parties.{is_party, ours, overdrawn, turns}
 use Rattle.room.specs.Laws.{room-sized, sized-room}
 use Rattle.rules.specs.declared.RoomKind.{RoomKind}
 use Rattle.opened.specs.declared.Slot.{Slot}
-use Rattle.judge.specs.Laws.{faults-positive}
+use Rattle.judge.proofs.Laws.{faults-positive}
 use Rattle.opened.specs.Right.{slot_right, slot-here, right_is}
 use Rattle.opened.specs.Slot.{slot_of}
 use Rattle.opened.specs.Sound.{has_series, has_cached, right_use, sound_series, sound_cached, sound_slot}
 use Rattle.base.specs.Every.{every-at}
-use Rattle.judge.specs.Verdict.{verdict, Told, told-turned, told-done}
+use Rattle.judge.specs.Verdict.{verdict, Told}
+use Rattle.judge.proofs.Verdict.{told-turned, told-done}
 use Rattle.cleanup.specs.Cleanup.{slot_passes, all_pass, misfits, refusal, cleanup}
 use Rattle.stale.specs.Uses.{cleaned, Ready}
 

@@ -1,5 +1,7 @@
 // Cleanup of a room, for both parties: every slot in use is judged before the first write; then each keeps what is not stale. Only uses, who holds a slot
 // and the last reading change.
+#![tactic(auto)]
+
 ghost use Rattle.std.specs.Prelude.{◌≡◌, ◌+◌, ◌<◌, ◌≤◌, true};
 ghost use Rattle.settings.specs.Settings.{window_in, Proper};
 ghost use Rattle.room.specs.Room.{Room, slots_of};

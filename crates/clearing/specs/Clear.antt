@@ -14,8 +14,9 @@ use Rattle.room.specs.Room.{Room, sized, last_of, with_reading, cleared}
 use Rattle.room.specs.Laws.{room-sized, sized-room}
 use Rattle.parties.specs.declared.Caller.{Caller}
 use Rattle.parties.specs.Parties.{mark_of, is_party, ours, turns}
-use Rattle.judge.specs.Laws.{faults-positive}
-use Rattle.judge.specs.Verdict.{Verdict, verdict, unless_refused, Told, told-turned, told-done}
+use Rattle.judge.proofs.Laws.{faults-positive}
+use Rattle.judge.specs.Verdict.{Verdict, verdict, unless_refused, Told}
+use Rattle.judge.proofs.Verdict.{told-turned, told-done}
 
 -- "clear judges lengths only"; 5 is given, "by clear too, where a slot in use is neither party's"; 6: "the reading is below the last of a call not refused"
 unfoldable pub unclear : List ℕ → ℕ → Caller → List (ℕ × Bool)

@@ -1,4 +1,6 @@
 // Clear, for either limiter: every slot of the caller's party is freed. Slots are not judged but for whose they are.
+#![tactic(auto)]
+
 ghost use Rattle.std.specs.Prelude.{◌≡◌};
 ghost use Rattle.judge.specs.Verdict.{Told};
 ghost use Rattle.clearing.specs.Clear.{clear_refusal, clear};

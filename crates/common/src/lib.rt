@@ -1,4 +1,6 @@
 // The leaf: units, limits and comparator. Whatever the room keeps of doubles goes through here as words.
+#![tactic(auto)]
+
 mod comparator;
 mod limits;
 mod units;

@@ -54,7 +54,7 @@ const DEFAULT_BUCKET: u64 = 100;
 const DEFAULT_CACHE: u64 = 100;
 
 // What a number of periods comes to, in the unit's own seconds or milliseconds.
-#[derive(Drop)]
+#[derive(Clone, Copy)]
 pub enum Period {
     Within(u64),
     Outside,
@@ -91,10 +91,10 @@ pub fn is_real_from(least: f64, x: f64) -> bool
 }
 
 // A sliding window, in seconds.
-#[derive(Drop)]
+#[derive(Clone, Copy)]
 pub struct WindowSize(pub u64);
 
-#[derive(Drop)]
+#[derive(Clone, Copy)]
 pub enum WindowSizeAnswer {
     Made(WindowSize),
     Refused(u64),
@@ -214,10 +214,10 @@ impl WindowSize {
 }
 
 // How long increments join one bucket, in milliseconds.
-#[derive(Drop)]
+#[derive(Clone, Copy)]
 pub struct BucketSize(pub u64);
 
-#[derive(Drop)]
+#[derive(Clone, Copy)]
 pub enum BucketSizeAnswer {
     Made(BucketSize),
     Refused(u64),
@@ -296,10 +296,10 @@ impl BucketSize {
 }
 
 // How long a suppression factor is kept, in milliseconds.
-#[derive(Drop)]
+#[derive(Clone, Copy)]
 pub struct SuppressionFactorCachePeriod(pub u64);
 
-#[derive(Drop)]
+#[derive(Clone, Copy)]
 pub enum CachePeriodAnswer {
     Made(SuppressionFactorCachePeriod),
     Refused(u64),
@@ -380,10 +380,10 @@ impl SuppressionFactorCachePeriod {
 }
 
 // A rate, per second.
-#[derive(Drop)]
+#[derive(Clone, Copy)]
 pub struct RateLimit(pub f64);
 
-#[derive(Drop)]
+#[derive(Clone, Copy)]
 pub enum RateLimitAnswer {
     Made(RateLimit),
     Refused(u64),

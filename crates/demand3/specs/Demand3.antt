@@ -16,9 +16,6 @@ use Rattle.suppressed_verdicts.specs.Calls as Calls
 use Rattle.admissions.specs.Log.{in_span, aged}
 use Rattle.steps.specs.Ops.{draws, Call, words, answer_number}
 use Rattle.demand3.specs.History.{admitted, IsKey, limit_word, hard_of, soft_of, Clause, AllBy, LeavesAlone, Spares}
-use Rattle.demand3.specs.Folds.{empty-kept, all-kept, kept-ceiling}
-use Rattle.demand3.specs.Increments.{inc-soft}
-use Rattle.demand3.specs.Mission.{all-spare}
 
 -- "window less bucket milliseconds", and "one window", in ticks: where a millisecond has one, exactly these (`Modes.antt`); where it has more, the span is
 -- less than a millisecond shorter, and the look back less than one longer
@@ -38,15 +35,6 @@ Ceiling span limit P =
     IsKey key → join_ticks s ≤ window_ticks s → AllBy P s key rate (empty slots ring) calls →
     (from : ℕ) → in_span from (from + span s) (admitted s key (empty slots ring) calls) ≤ limit s rate
 
-pub ceiling : Ceiling less_bucket hard_of Spares
-ceiling s slots ring key rate calls is le p from =
-    kept-ceiling s le key is rate (words Suppressed s (empty slots ring) calls) (admitted s key (empty slots ring) calls)
-    (all-kept s le key is rate (empty slots ring) (empty-kept s le key is rate slots ring) calls p) from
-
-pub mission-ceiling : Ceiling less_bucket hard_of LeavesAlone
-mission-ceiling s slots ring key rate calls is le p =
-    ceiling s slots ring key rate calls is le (all-spare s key rate (empty slots ring) calls p)
-
 -- ---- the floor
 
 -- the increment that is asked about, as the newest of the calls
@@ -62,13 +50,3 @@ Floor back limit P =
     answer_number Suppressed s (words Suppressed s (empty slots ring) calls) t (draws key asked count draw) ≡ 0 →
     count + aged (back s) t (admitted s key (empty slots ring) calls) ≤ limit s rate →
     (Calls.inc s (words Suppressed s (empty slots ring) calls) t key asked count draw).answer ≡ Allowed
-
-pub floor : Floor look_back soft_of Spares
-floor s slots ring key rate calls t asked count draw is le (inl refused, p) n = absurd (refused n)
-floor s slots ring key rate calls t asked count draw is le (inr q, p) n =
-    inc-soft s le (limit_word s rate) key is (words Suppressed s (empty slots ring) calls) t (admitted s key (empty slots ring) calls)
-    (all-kept s le key is rate (empty slots ring) (empty-kept s le key is rate slots ring) calls p) asked (q.1 (refl, refl)) count draw n
-
-pub mission-floor : Floor look_back soft_of LeavesAlone
-mission-floor s slots ring key rate calls t asked count draw is le p =
-    floor s slots ring key rate calls t asked count draw is le (all-spare s key rate (empty slots ring) (increment t key asked count draw ∷ calls) p)

@@ -37,18 +37,6 @@ same_bytes [] (y ∷ ys) = false
 same_bytes (x ∷ xs) [] = false
 same_bytes (x ∷ xs) (y ∷ ys) = eqb x y && same_bytes xs ys
 
-pub same-bytes : (a b : List ℕ) → same_bytes a b ≡ true → a ≡ b
-same-bytes [] [] e = refl
-same-bytes [] (y ∷ ys) e = absurd (false≢true e)
-same-bytes (x ∷ xs) [] e = absurd (false≢true e)
-same-bytes (x ∷ xs) (y ∷ ys) e =
-    let p = and-true (eqb x y) _ e in
-    ap₂ (λ (z : ℕ) (zs : List ℕ). z ∷ zs) (eqb-true x y p.0) (same-bytes xs ys p.1)
-
-pub bytes_same : (a : List ℕ) → same_bytes a a ≡ true
-bytes_same [] = refl
-bytes_same (x ∷ xs) = true-and (eqb x x) _ (eq-eqb x x refl) (bytes_same xs)
-
 -- the same key: "A key belongs to the party that sends it", with whatever promises the call comes
 abbrev pub Same : Sent → Sent → Type 0
 Same k key = (k.caller.party ≡ key.caller.party) × (k.bytes ≡ key.bytes)
@@ -59,16 +47,6 @@ Other k key = Same k key → ⊥
 
 abbrev pub same_key : Sent → Sent → Bool
 same_key k key = eqb k.caller.party key.caller.party && same_bytes k.bytes key.bytes
-
-pub key-same : (k key : Sent) → same_key k key ≡ true → Same k key
-key-same k key e =
-    let p = and-true (eqb k.caller.party key.caller.party) _ e in
-    (eqb-true _ _ p.0, same-bytes k.bytes key.bytes p.1)
-
-pub same-key : (k key : Sent) → Same k key → same_key k key ≡ true
-same-key k key p =
-    true-and (eqb k.caller.party key.caller.party) _ (eq-eqb _ _ p.0)
-    (subst (λ (b : List ℕ). same_bytes k.bytes b ≡ true) p.1 (bytes_same k.bytes))
 
 -- the key's log after a call
 abbrev pub logged : Settings → Sent → List ℕ → ℕ → Op kind.Suppressed → List Entry → List Entry

@@ -15,7 +15,8 @@ use Rattle.room.specs.Entries.{used-held}
 use Rattle.frame.specs.Distinct.{Distinct, changed-holder}
 use Rattle.frame.specs.Frame.{Changed}
 use Rattle.opened.specs.Sound.{limit_of, has_series}
-use Rattle.admissions.specs.Good.{Good, good-later}
+use Rattle.admissions.specs.Good.{Good}
+use Rattle.admissions.proofs.Good.{good-later}
 use Rattle.admissions.specs.Log.{Entry}
 use Rattle.places.specs.Has.{Has, Same, other-back}
 

@@ -1,13 +1,5 @@
 pub mod History
-pub mod Keys
 pub mod Kept
-pub mod Decided
-pub mod Cleans
-pub mod Clears
 pub mod Steps
-pub mod Owned
-pub mod Increments
-pub mod Folds
-pub mod Mission
 pub mod Demand3
 pub mod Modes

@@ -1,4 +1,6 @@
 // The program `desk`: standard input to standard output.
-fn main() {
-    desk_run::run(libc::STDIN_FILENO);
+#![tactic(auto)]
+
+fn main(rt: HostRuntime) {
+    desk_run::run(&rt, &mut rt.stdin());
 }

@@ -1,52 +1,51 @@
 // `desk` on inputs that a file has each, the lessons' among them: after a heading, what it prints for it. `many-lines` (many-lines.awk printed it) has
 // answers for five times what `desk` writes at once, and lines that the blocks cut.
-use libc::STDOUT_FILENO;
+#![tactic(auto)]
 
-fn run(name: &[u8]) {
-    io::write_all(STDOUT_FILENO, b"# ");
-    io::write_all(STDOUT_FILENO, name);
-    io::write_all(STDOUT_FILENO, b"\n");
-    let from = os::open_read(name);
-    if from < 0 {
-        os::fail(name);
-        return;
+use std::fs::File;
+use std::io;
+
+fn run(rt: &HostRuntime, name: &str) -> io::Result<()> {
+    println!(rt; "# {name}")?;
+    match File::open(rt, name) {
+        Ok(mut from) => desk_run::run(rt, &mut from),
+        Err(why) => eprintln!(rt; "{name}: {why}")?,
     }
-    desk_run::run(from);
-    libc::close(from);
+    Ok(())
 }
 
-fn main() {
-    run(b"empty");
-    run(b"only-a-newline");
-    run(b"settings-alone");
-    run(b"settings-without-newline");
-    run(b"settings-bad");
-    run(b"settings-1");
-    run(b"settings-2");
-    run(b"settings-3");
-    run(b"settings-4");
-    run(b"largest-settings");
-    run(b"bad-lines");
-    run(b"long-lines");
-    run(b"many-lines");
-    run(b"two-rooms");
-    run(b"five-keys");
-    run(b"full-ring");
-    run(b"thirty-seconds");
-    run(b"refusals");
-    run(b"after-an-empty-call");
-    run(b"no-last-newline");
-    run(b"lesson-1");
-    run(b"lesson-2");
-    run(b"lesson-3");
-    run(b"lesson-3-hundred");
-    run(b"lesson-1-question-1");
-    run(b"lesson-1-question-2");
-    run(b"lesson-1-question-3");
-    run(b"lesson-2-question-1");
-    run(b"lesson-2-question-2");
-    run(b"lesson-2-question-3");
-    run(b"lesson-3-question-1");
-    run(b"lesson-3-question-2");
-    run(b"lesson-3-question-3");
+fn main(rt: HostRuntime) -> io::Result<()> {
+    run(&rt, "empty")?;
+    run(&rt, "only-a-newline")?;
+    run(&rt, "settings-alone")?;
+    run(&rt, "settings-without-newline")?;
+    run(&rt, "settings-bad")?;
+    run(&rt, "settings-1")?;
+    run(&rt, "settings-2")?;
+    run(&rt, "settings-3")?;
+    run(&rt, "settings-4")?;
+    run(&rt, "largest-settings")?;
+    run(&rt, "bad-lines")?;
+    run(&rt, "long-lines")?;
+    run(&rt, "many-lines")?;
+    run(&rt, "two-rooms")?;
+    run(&rt, "five-keys")?;
+    run(&rt, "full-ring")?;
+    run(&rt, "thirty-seconds")?;
+    run(&rt, "refusals")?;
+    run(&rt, "after-an-empty-call")?;
+    run(&rt, "no-last-newline")?;
+    run(&rt, "lesson-1")?;
+    run(&rt, "lesson-2")?;
+    run(&rt, "lesson-3")?;
+    run(&rt, "lesson-3-hundred")?;
+    run(&rt, "lesson-1-question-1")?;
+    run(&rt, "lesson-1-question-2")?;
+    run(&rt, "lesson-1-question-3")?;
+    run(&rt, "lesson-2-question-1")?;
+    run(&rt, "lesson-2-question-2")?;
+    run(&rt, "lesson-2-question-3")?;
+    run(&rt, "lesson-3-question-1")?;
+    run(&rt, "lesson-3-question-2")?;
+    run(&rt, "lesson-3-question-3")
 }

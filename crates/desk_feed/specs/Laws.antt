@@ -17,7 +17,7 @@ use Rattle.desk_feed.specs.declared.Progress.{Progress}
 use Rattle.desk_turn.specs.declared.Turn.{Turn}
 use Rattle.desk_feed.specs.Feed.{Whole, whole, After, after_line, rested, keeping, byte, and_then, feed, takes}
 use Rattle.desk_turn.specs.Lines.{roomy, Effect}
-use Rattle.desk_feed.specs.Contracts.{Kept, Gone, Feeding, slots_of, ring_length, fits_first, FirstMade, BothMade}
+use Rattle.desk_feed.specs.Clauses.{Kept, Gone, Feeding, slots_of, ring_length, fits_first, FirstMade, BothMade}
 use Rattle.desk_turn.specs.Taking.{Took}
 
 -- ---- bytes

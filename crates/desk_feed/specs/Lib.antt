@@ -1,3 +1,3 @@
 pub mod Feed
-pub mod Contracts
+pub mod Clauses
 pub mod Laws

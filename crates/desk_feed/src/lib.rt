@@ -1,9 +1,11 @@
 // The programs `desk` and `shots` on bytes: what was read goes in, in blocks cut anywhere, and what is to be written comes out. A program only
 // reads and writes.
+#![tactic(auto)]
+
 ghost use Rattle.std.specs.Prelude.{◌≡◌, ◌+◌, ◌≤◌, min, length, take};
 ghost use Rattle.desk_feed.specs.Feed.{fresh, rested, whole, byte, is_over, finishing, has_ended};
 ghost use Rattle.desk_turn.specs.Lines.{roomy, turn};
-ghost use Rattle.desk_feed.specs.Contracts.{Gone, Kept, Feeding, slots_of, FirstMade, BothMade};
+ghost use Rattle.desk_feed.specs.Clauses.{Gone, Kept, Feeding, slots_of, FirstMade, BothMade};
 ghost use Rattle.desk_turn.specs.Taking.{Took};
 
 use desk_turn::{Phase, Program, Turn, take_line};
@@ -22,14 +24,14 @@ const RING: u64 = 298;
 // ---- bytes
 
 // Where a program stands between two bytes, whichever it is: the phase, and how many bytes of a line are held.
-#[derive(Drop)]
+#[derive(Clone, Copy)]
 pub struct Desk {
     pub phase: Phase,
     pub held: usize,
 }
 
 // The desk after a byte, and the place past what it printed.
-#[derive(Drop)]
+#[derive(Clone, Copy)]
 pub struct Fed {
     pub desk: Desk,
     pub next: usize,
@@ -148,7 +150,7 @@ fn feed_byte(
 }
 
 // The desk after a block, how many of its bytes were taken, and how many bytes were put at the start of `out`.
-#[derive(Drop)]
+#[derive(Clone, Copy)]
 pub struct Progress {
     pub desk: Desk,
     pub taken: usize,

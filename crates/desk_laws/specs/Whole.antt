@@ -36,7 +36,7 @@ use Rattle.desk_turn.specs.declared.Program.TheVariants.{Desk, Shots}
 use Rattle.desk_turn.specs.declared.Phase.{Phase}
 use Rattle.desk_turn.specs.declared.Phase.TheVariants.{Waiting, Open, Ended}
 use Rattle.desk_feed.specs.Feed.{Whole, whole, fresh, After, after_line, byte_as, byte, feed, is_over, finishing, running}
-use Rattle.desk_feed.specs.Contracts.{new_first, new_second}
+use Rattle.desk_feed.specs.Clauses.{new_first, new_second}
 use Rattle.desk_turn.specs.Lines.{newline, roomy, shown, Effect, phase_in, prints_in, stepped_by, called, turn}
 
 -- ---- the definition

@@ -1,4 +1,6 @@
 // What `desk` and `shots` print of an answer: the line's fields, with the key's totals as stored. One party calls, and is promised every slot.
+#![tactic(auto)]
+
 ghost use Rattle.std.specs.Prelude.{◌≡◌};
 ghost use Rattle.room.specs.Room.{slots_of};
 ghost use Rattle.told.specs.Told.{no_stored};

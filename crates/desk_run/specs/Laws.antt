@@ -1,13 +1,12 @@
 -- What the loops know at each turn and at each return, joined to the definitions: part after part, and block after block, nothing is left out or put twice.
 -- Assumes nothing.
-use Rattle.std.specs.Prelude.{◌≡◌, refl, Bool, true, cond, ◌||◌, List, [], ◌++◌, ℕ, ◌+◌, ◌-◌, ◌≤◌, ◌<◌, min, length, take, drop, ℤ, pos, negsuc, ltb, eqb}
+use Rattle.std.specs.Prelude.{◌≡◌, refl, Bool, true, cond, ◌||◌, List, [], ◌++◌, ℕ, ◌+◌, ◌-◌, ◌≤◌, ◌<◌, min, length, take, drop, ltb, eqb, Ok, Err}
+use Rattle.std.specs.declared.result.Result.{Result}
 use Rattle.std.proofs.Common.{sym, subst, ◌∙◌, true≢false, arith, length-append, length-take, length-drop, take-take, take-add, ltb-true, eq-eqb, ne_eqb}
 use Rattle.std.proofs.Math.Path.{ap}
 use Rattle.std.proofs.Math.Bool.{false}
 use Rattle.std.proofs.lemmas.Bool.{false≢true, eqb-false}
 use Rattle.std.proofs.Math.Seq.{take-length}
-use Rattle.std.specs.Int.Signed.{lt_z}
-use Rattle.io.specs.Counts.{clamp_len}
 use Rattle.room.specs.Room.{fits}
 use Rattle.desk_turn.specs.declared.Program.{Program}
 use Rattle.desk_turn.specs.declared.Program.TheVariants as program
@@ -17,7 +16,7 @@ use Rattle.desk_turn.specs.Lines.{Effect, idle, roomy}
 use Rattle.desk_feed.specs.declared.Desk.{Desk}
 use Rattle.desk_feed.specs.declared.Progress.{Progress}
 use Rattle.desk_feed.specs.Feed.{Whole, whole, fresh, After, and_then, feed, over_in, is_over, finish_as, finishing, finished, running, ended_in, has_ended}
-use Rattle.desk_feed.specs.Contracts.{Feeding, slots_of, ring_length, new_first, new_second, Fitting, BothMade}
+use Rattle.desk_feed.specs.Clauses.{Feeding, slots_of, ring_length, new_first, new_second, Fitting, BothMade}
 use Rattle.desk_feed.specs.Laws.{feed-blocks, feeding-inside, progress}
 use Rattle.desk_run.specs.declared.Pumped.{Pumped}
 use Rattle.desk_run.specs.declared.Served.{Served}
@@ -95,35 +94,30 @@ reached-part w v block at before mid put old r a b h new p f e =
 
 -- ---- a read
 
-pub failed-is : (z : ℤ) (n : ℕ) → lt_z z (pos 0) ≡ true → Failed ≡ heard_of z n
+pub failed-is : {E : Type 0} (r : Result ℕ E) (e : E) (n : ℕ) → r ≡ Err e → Failed ≡ heard_of r n
 unfolding heard_of
-failed-is (pos k) n e = absurd (omega (arith, ltb-true k 0 e))
-failed-is (negsuc k) n e = refl
+failed-is r e n p = sym (ap (λ x. heard_of x n) p)
 
-module _ (z : ℤ) (m n : ℕ) (e : lt_z z (pos 0) ≡ false) (f : m ≡ clamp_len z n) where
-  heard-is : heard_in m ≡ heard_of z n
+module _ {E : Type 0} (r : Result ℕ E) (k m n : ℕ) (e : r ≡ Ok k) (f : m ≡ min k n) where
+  heard-is : heard_in m ≡ heard_of r n
   unfolding heard_of
-  heard-is = go z e f
-    where
-      go : (y : ℤ) → lt_z y (pos 0) ≡ false → m ≡ clamp_len y n → heard_in m ≡ heard_of y n
-      go (pos k) p q = ap heard_in q
-      go (negsuc k) p q = absurd (true≢false p)
+  heard-is = ap heard_in f ∙ sym (ap (λ x. heard_of x n) e)
 
-  pub nothing_is : m ≡ 0 → Nothing ≡ heard_of z n
+  pub nothing_is : m ≡ 0 → Nothing ≡ heard_of r n
   nothing_is g = let h : heard_in m ≡ Nothing = rw (eq-eqb m 0 g) in sym h ∙ heard-is
 
-  pub bytes-is : (m ≡ 0 → ⊥) → Bytes m ≡ heard_of z n
+  pub bytes-is : (m ≡ 0 → ⊥) → Bytes m ≡ heard_of r n
   bytes-is g = let h : heard_in m ≡ Bytes m = rw (ne_eqb m 0 g) in sym h ∙ heard-is
 
 -- bytes that were read are some, and within the block
-pub bytes_inside : (z : ℤ) (m n : ℕ) → Bytes n ≡ heard_of z m → (0 < n) × (n ≤ m)
+pub bytes_inside : {E : Type 0} (r : Result ℕ E) (m n : ℕ) → Bytes n ≡ heard_of r m → (0 < n) × (n ≤ m)
 unfolding heard_of
-bytes_inside (pos k) m n p = go (eqb (min k m) 0) refl p
+bytes_inside (Ok k) m n p = go (eqb (min k m) 0) refl p
   where
     go : (b : Bool) → eqb (min k m) 0 ≡ b → Bytes n ≡ cond b Nothing (Bytes (min k m)) → (0 < n) × (n ≤ m)
     go true e q = let x : ◌≡◌ {A = ℕ} 0 1 = cc in absurd (omega arith)
     go false e q = let x : n ≡ min k m = cc in (omega (arith, eqb-false (min k m) 0 e), omega arith)
-bytes_inside (negsuc k) m n p = let x : ◌≡◌ {A = ℕ} 0 1 = cc in absurd (omega arith)
+bytes_inside (Err e) m n p = let x : ◌≡◌ {A = ℕ} 0 1 = cc in absurd (omega arith)
 
 -- ---- the run
 

@@ -1,7 +1,8 @@
 -- What the loops that read and write leave: the whole desk, and how many bytes went in and out. No contract can say which bytes those are, so a run has read
 -- some bytes, as many as were counted, and the rest is what `desk_feed` makes of them.
 -- Assumes nothing.
-use Rattle.std.specs.Prelude.{◌≡◌, Bool, true, false, cond, ◌||◌, List, [], ℕ, ◌+◌, ◌≤◌, min, length, take, ℤ, pos, negsuc, eqb}
+use Rattle.std.specs.Prelude.{◌≡◌, Bool, true, false, cond, ◌||◌, List, [], ℕ, ◌+◌, ◌≤◌, min, length, take, eqb, Ok, Err}
+use Rattle.std.specs.declared.result.Result.{Result}
 use Rattle.desk_feed.specs.Feed.{Whole, whole, After, feed, finished, running, has_ended}
 use Rattle.desk_run.specs.declared.Pumped.{Pumped}
 use Rattle.desk_run.specs.declared.Served.{Served}
@@ -22,9 +23,9 @@ capped n = min n most
 abbrev pub heard_in : ℕ → Heard
 heard_in n = cond (eqb n 0) Nothing (Bytes n)
 
-unfoldable pub heard_of : ℤ → ℕ → Heard
-heard_of (pos k) n = heard_in (min k n)
-heard_of (negsuc k) n = Failed
+unfoldable pub heard_of : {E : Type 0} → Result ℕ E → ℕ → Heard
+heard_of (Ok k) n = heard_in (min k n)
+heard_of (Err e) n = Failed
 
 abbrev pub is_failed : Heard → Bool
 is_failed Failed = true

@@ -1,14 +1,17 @@
 // Reads the input of `desk` or `shots` and writes the answers, and says where either fails. What is printed is decided in `desk_feed`; here it goes in and
 // out, all of it once. How many bytes went each way is counted, since no contract can say which.
+#![tactic(auto)]
+
 ghost use Rattle.std.specs.Prelude.{◌≡◌, ◌+◌, ◌≤◌, length};
 ghost use Rattle.desk_turn.specs.Lines.{roomy};
 ghost use Rattle.desk_feed.specs.Feed.{whole, fresh, finished};
-ghost use Rattle.desk_feed.specs.Contracts.{new_first, new_second, Fitting};
+ghost use Rattle.desk_feed.specs.Clauses.{new_first, new_second, Fitting};
 ghost use Rattle.desk_run.specs.Run.{capped, heard_of, Pumping, Leaves, Closing, Serves};
 
 use desk_feed::Desk;
 use desk_turn::Program;
-use libc::{STDERR_FILENO, STDOUT_FILENO};
+use std::io;
+use std::io::{Read, Write};
 
 // The words of a room of 4 slots with rings of 298.
 const DESK_ROOM: usize = 3633;
@@ -34,38 +37,42 @@ fn more(count: u64, n: usize) -> u64
     count + n as u64
 }
 
-// Whether a write was fine, and how many bytes were written with it.
-#[derive(Drop)]
+// Whether a write was fine, and how many bytes were written with it; and why it was not.
+#[derive(Clone, Copy)]
 struct Sent {
     fine: bool,
     put: u64,
+    why: Option<io::Error>,
 }
 
 // The first `n` bytes of `out` go out.
-fn write_put(out: &[u8], n: usize, put: u64) -> Sent
+fn write_put<W: Write>(to: &mut W, out: &[u8], n: usize, put: u64) -> Sent
     requires { n ≤ length out.now }
     ensures { result.put ≡ capped (put + n) }
 {
     let part = &out[..n];
-    let fine = io::write_all(STDOUT_FILENO, part);
+    let why = to.write_all(part).err();
     Sent {
-        fine,
+        fine: why.is_none(),
         put: more(put, part.len()),
+        why,
     }
 }
 
 // The desk after a block, how many of its bytes were taken, how many bytes were written, and whether every write was fine.
-#[derive(Drop)]
+#[derive(Clone, Copy)]
 struct Pumped {
     desk: Desk,
     taken: usize,
     put: u64,
     fine: bool,
+    why: Option<io::Error>,
 }
 
 // Takes a block whole, and writes what it prints as often as `out` is full; or stops at a write that fails.
-fn pump(
+fn pump<W: Write>(
     desk: Desk,
+    to: &mut W,
     first: &mut [u64],
     second: &mut [u64],
     hold: &mut [u8],
@@ -79,18 +86,23 @@ fn pump(
 {
     let mut state = desk;
     let mut at = 0;
-    let mut sent = Sent { fine: true, put };
+    let mut sent = Sent {
+        fine: true,
+        put,
+        why: None,
+    };
     while at < block.len() {
         let progress = desk_feed::feed(state, first, second, hold, &block[at..], out);
         state = progress.desk;
         at += progress.taken;
-        sent = write_put(out, progress.put, sent.put);
+        sent = write_put(to, out, progress.put, sent.put);
         if !sent.fine {
             return Pumped {
                 desk: state,
                 taken: at,
                 put: sent.put,
                 fine: false,
+                why: sent.why,
             };
         }
     }
@@ -99,12 +111,14 @@ fn pump(
         taken: at,
         put: sent.put,
         fine: true,
+        why: None,
     }
 }
 
 // The end of the input.
-fn end(
+fn end<W: Write>(
     desk: Desk,
+    to: &mut W,
     first: &mut [u64],
     second: &mut [u64],
     hold: &[u8],
@@ -115,11 +129,11 @@ fn end(
         result.put first.new second.new }
 {
     let turn = desk_feed::finish(desk, first, second, hold, out);
-    write_put(out, turn.next, put)
+    write_put(to, out, turn.next, put)
 }
 
 // What a read gave: it failed, it gave nothing since the input has ended, or it gave bytes.
-#[derive(Drop)]
+#[derive(Clone, Copy)]
 enum Heard {
     Failed,
     Nothing,
@@ -127,13 +141,13 @@ enum Heard {
 }
 
 // What the answer of a read into `block` says.
-fn hear(got: isize, block: &[u8]) -> Heard
+fn hear(got: io::Result<usize>, block: &[u8]) -> Heard
     ensures { result ≡ heard_of got (length block.now) }
 {
-    if got < 0 {
+    let Ok(count) = got else {
         return Heard::Failed;
-    }
-    let n = io::count(got, block);
+    };
+    let n = count.min(block.len());
     if n == 0 {
         return Heard::Nothing;
     }
@@ -141,7 +155,7 @@ fn hear(got: isize, block: &[u8]) -> Heard
 }
 
 // How a run ends: all was read and written, a read failed, a write failed, or there was more to read than can be counted.
-#[derive(Drop)]
+#[derive(Clone, Copy)]
 enum Ending {
     Done,
     Unread,
@@ -149,23 +163,26 @@ enum Ending {
     Endless,
 }
 
-// With what the last read gave, and how many bytes were read and written.
-#[derive(Drop)]
+// With what the last read gave, and how many bytes were read and written; and why a read or a write failed.
+#[derive(Clone, Copy)]
 struct Served {
     ending: Ending,
     last: Heard,
     read: u64,
     put: u64,
+    why: Option<io::Error>,
 }
 
 // After a read that gave no bytes: a read that failed is not the end of the input.
-fn close(
+fn close<W: Write>(
     desk: Desk,
+    to: &mut W,
     first: &mut [u64],
     second: &mut [u64],
     hold: &[u8],
     out: &mut [u8],
     last: Heard,
+    why: Option<io::Error>,
     read: u64,
     put: u64,
 ) -> Served
@@ -178,15 +195,17 @@ fn close(
             last,
             read,
             put,
+            why,
         };
     }
-    let sent = end(desk, first, second, hold, out, put);
+    let sent = end(desk, to, first, second, hold, out, put);
     if !sent.fine {
         return Served {
             ending: Ending::Unwritten,
             last,
             read,
             put: sent.put,
+            why: sent.why,
         };
     }
     Served {
@@ -194,13 +213,15 @@ fn close(
         last,
         read,
         put: sent.put,
+        why: None,
     }
 }
 
 // All answers to what was read are written before the next read.
-fn serve(
+fn serve<R: Read, W: Write>(
     desk: Desk,
-    from: i32,
+    from: &mut R,
+    to: &mut W,
     first: &mut [u64],
     second: &mut [u64],
     hold: &mut [u8; HOLD],
@@ -215,12 +236,23 @@ fn serve(
     let mut put = 0;
     let mut last = Heard::Nothing;
     while read < u64::MAX {
-        let got = libc::read(from, block);
+        let got = from.read(block);
         last = hear(got, block);
         let Heard::Bytes(n) = last else {
-            return close(state, first, second, hold, out, last, read, put);
+            return close(
+                state,
+                to,
+                first,
+                second,
+                hold,
+                out,
+                last,
+                got.err(),
+                read,
+                put,
+            );
         };
-        let pumped = pump(state, first, second, hold, &block[..n], out, put);
+        let pumped = pump(state, to, first, second, hold, &block[..n], out, put);
         state = pumped.desk;
         put = pumped.put;
         read = more(read, n);
@@ -230,6 +262,7 @@ fn serve(
                 last,
                 read,
                 put,
+                why: pumped.why,
             };
         }
         if desk_feed::has_ended(state) {
@@ -238,6 +271,7 @@ fn serve(
                 last,
                 read,
                 put,
+                why: None,
             };
         }
     }
@@ -246,13 +280,15 @@ fn serve(
         last,
         read,
         put,
+        why: None,
     }
 }
 
 // With both memories made anew.
-fn serve_anew(
+fn serve_anew<R: Read, W: Write>(
     program: Program,
-    from: i32,
+    from: &mut R,
+    to: &mut W,
     first: &mut [u64],
     second: &mut [u64],
     hold: &mut [u8; HOLD],
@@ -267,6 +303,7 @@ fn serve_anew(
     serve(
         desk_feed::start(program),
         from,
+        to,
         first,
         second,
         hold,
@@ -275,68 +312,77 @@ fn serve_anew(
     )
 }
 
-// Says what failed, in the program's words.
-fn report(ending: Ending, unread: &[u8], unwritten: &[u8]) {
-    match ending {
-        Ending::Done => {}
-        Ending::Unread => {
-            os::fail(unread);
-        }
-        Ending::Unwritten => {
-            os::fail(unwritten);
-        }
-        Ending::Endless => {
-            io::write_all(STDERR_FILENO, unread);
-            io::write_all(STDERR_FILENO, b": too much input\n");
-        }
+// What failed and the system's words for why, without the number that std puts behind them.
+fn fail<P: Eprint>(rt: &P, what: &str, why: io::Error) -> io::Result<()> {
+    let mut text = io::Cursor::new([0u8; 256]);
+    write!(text, "{why}")?;
+    let bytes = text.into_inner();
+    let words = std::str::from_utf8(&bytes).unwrap_or("");
+    match words.split_once(" (os error ") {
+        Some((words, _)) => eprintln!(rt; "{what}: {words}"),
+        None => eprintln!(rt; "{what}: {why}"),
     }
 }
 
-// A program from a descriptor to standard output. What fails is said on standard error, and ends the run.
-fn run_with(
+// Says what failed, in the program's words.
+fn report<P: Eprint>(rt: &P, served: Served, unread: &str, unwritten: &str) -> io::Result<()> {
+    let why = served.why.unwrap_or(io::Error::from(io::ErrorKind::Other));
+    match served.ending {
+        Ending::Done => Ok(()),
+        Ending::Unread => fail(rt, unread, why),
+        Ending::Unwritten => fail(rt, unwritten, why),
+        Ending::Endless => eprintln!(rt; "{unread}: too much input"),
+    }
+}
+
+// A program from a reader to standard output. What fails is said on standard error, and ends the run.
+fn run_with<P: Print + Eprint, R: Read>(
+    rt: &P,
     program: Program,
-    from: i32,
+    from: &mut R,
     first: &mut [u64],
     second: &mut [u64],
-    unread: &[u8],
-    unwritten: &[u8],
+    unread: &str,
+    unwritten: &str,
 )
     requires { Fitting program first.old second.old }
 {
     let mut hold = [0u8; HOLD];
     let mut block = [0u8; BLOCK];
     let mut out = [0u8; BLOCK];
+    let mut to = io::writer(rt);
     let served = serve_anew(
-        program, from, first, second, &mut hold, &mut block, &mut out,
+        program, from, &mut to, first, second, &mut hold, &mut block, &mut out,
     );
-    let ending = served.ending;
-    report(ending, unread, unwritten);
+    let _ = report(rt, served, unread, unwritten);
 }
 
 // `desk`, with its two rooms.
-pub fn run(from: i32) {
+pub fn run<P: Print + Eprint, R: Read>(rt: &P, from: &mut R) {
     let mut absolute = [0u64; DESK_ROOM];
     let mut suppressed = [0u64; DESK_ROOM];
     run_with(
+        rt,
         Program::Desk,
         from,
         &mut absolute,
         &mut suppressed,
-        b"desk: cannot read",
-        b"desk: cannot write",
+        "desk: cannot read",
+        "desk: cannot write",
     );
 }
 
 // `shots`, with its table and its room.
-pub fn run_shots(from: i32) {
+pub fn run_shots<P: Print + Eprint, R: Read>(rt: &P, from: &mut R) {
     let mut table = [0u64; TABLE];
     let mut room = [0u64; SHOTS_ROOM];
     run_with(
+        rt,
         Program::Shots,
         from,
         &mut table,
         &mut room,
-        b"shots: cannot read",
-        b"shots: cannot write",
+        "shots: cannot read",
+        "shots: cannot write",
     );
 }

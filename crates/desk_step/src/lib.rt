@@ -1,4 +1,6 @@
 // What the program `desk` makes of a line: the settings of the first one; of each other one a call of a limiter, by its one party, and the line to print.
+#![tactic(auto)]
+
 ghost use Rattle.std.specs.Prelude.{◌≡◌};
 ghost use Rattle.judge.specs.Verdict.{Told};
 ghost use Rattle.told.specs.Told.{refused_line};
@@ -121,7 +123,7 @@ pub fn step(
 // ---- the settings line
 
 // What a settings line opens: the desk, or nothing, with the number of the refusal.
-#[derive(Drop)]
+#[derive(Clone, Copy)]
 pub enum Opening {
     Open(Settings),
     Refused(u64),

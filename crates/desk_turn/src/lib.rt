@@ -1,4 +1,6 @@
 // A line taken whole, of `desk` or of `shots`: the settings of the first one, a call or a shot of each other one, and the line that it prints.
+#![tactic(auto)]
+
 ghost use Rattle.std.specs.Prelude.{◌+◌, ◌≤◌, length};
 ghost use Rattle.printing.specs.Answers.{longest};
 ghost use Rattle.printing.specs.Printing.{Put};
@@ -32,14 +34,14 @@ fn put_line(line: AnswerLine, out: &mut [u8], at: usize) -> usize
 }
 
 // Whose lines these are. The two memories that are lent are the absolute and the suppressed room of `desk`, the table and the room of `shots`.
-#[derive(Drop)]
+#[derive(Clone, Copy)]
 pub enum Program {
     Desk,
     Shots,
 }
 
 // What the next line is: the settings, a call or a shot, or nothing any more.
-#[derive(Drop)]
+#[derive(Clone, Copy)]
 pub enum Phase {
     Waiting(Program),
     Open(Program, Settings),
@@ -47,7 +49,7 @@ pub enum Phase {
 }
 
 // The phase after a line, and the place past what it printed.
-#[derive(Drop)]
+#[derive(Clone, Copy)]
 pub struct Turn {
     pub phase: Phase,
     pub next: usize,

@@ -10,7 +10,7 @@ use Rattle.base.specs.Writes.{writes, length-writes, read_past, read_first}
 use Rattle.rules.specs.Buckets.{joins}
 use Rattle.history.specs.Words.{Takes}
 use Rattle.history.specs.Changes.{Became, became, evict-became, increment-became, replace-became}
-use Rattle.preserve.specs.Preserves.{preserve-became}
+use Rattle.preserve.proofs.Preserves.{preserve-became}
 use Rattle.ring.specs.declared.Bucket.{Bucket}
 use Rattle.layout.specs.Layout.{limit_at, factor_at, factor_time_at, fixed_words, most_ring, size_of}
 use Rattle.ring.specs.Ring.{count_of, counts, sum_of, wrap, cell_of, bucket_at, total_of, declined_of, head_of, len_of, buckets, without}

@@ -1,4 +1,6 @@
 // An edit of a slot's body: buckets out, what is done to the rest, and the words beside them.
+#![tactic(auto)]
+
 ghost use Rattle.std.specs.Prelude.{◌≡◌, ◌≤◌, length};
 ghost use Rattle.layout.specs.Layout.{fixed_words};
 ghost use Rattle.edit.specs.Bodies.{begun, started, acted, fixed, edited, Starts, Acts, Edits};
@@ -6,7 +8,7 @@ ghost use Rattle.edit.specs.Bodies.{begun, started, acted, fixed, edited, Starts
 use answers::HistoryPreservation;
 
 // What becomes of the buckets that stay.
-#[derive(Drop)]
+#[derive(Clone, Copy)]
 pub enum Then {
     Nothing,
     Increment {
@@ -24,7 +26,7 @@ pub enum Then {
 
 // A slot's new words: whether its series begins, how many of the oldest buckets go and the totals of those that stay, what is
 // done then, and its limit, cached factor and use.
-#[derive(Drop)]
+#[derive(Clone, Copy)]
 pub struct Edit {
     pub begins: bool,
     pub gone: usize,

@@ -1,4 +1,6 @@
 // A key's suppression factor: the cached one while it may be used, else a fresh one, which is then cached.
+#![tactic(auto)]
+
 ghost use Rattle.std.specs.Prelude.{◌≡◌, ◌≤◌};
 ghost use Rattle.settings.specs.Settings.{window_in, cache_in};
 ghost use Rattle.settings.specs.Clock.{ticks_in, cache_ticks};

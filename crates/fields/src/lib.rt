@@ -1,4 +1,6 @@
 // The parts of a line of `desk`: classes of bytes, numbers, keys, and texts with their numbers.
+#![tactic(auto)]
+
 ghost use Rattle.std.specs.Prelude.{◌≡◌, ◌+◌, drop};
 ghost use Rattle.fields.specs.Bytes.{class_of, digit_of, counts};
 ghost use Rattle.fields.specs.Parts.{run, number_in, number_at, text_at, field_at, key_at};
@@ -6,7 +8,7 @@ ghost use Rattle.fields.specs.Parts.{run, number_in, number_at, text_at, field_a
 // ---- bytes
 
 // What a byte of a line is, by its range. A digit carries its value.
-#[derive(Drop)]
+#[derive(Clone, Copy)]
 pub enum Class {
     Digit(u8),
     Letter,
@@ -55,14 +57,14 @@ fn goes_on(b: u8, letters: bool) -> bool
 // ---- parts of a line
 
 // A number that was read, and the place past it.
-#[derive(Drop)]
+#[derive(Clone, Copy)]
 pub enum Number {
     Found { value: u64, next: usize },
     NoNumber,
 }
 
 // A place past something that was looked for.
-#[derive(Drop)]
+#[derive(Clone, Copy)]
 pub enum Place {
     At(usize),
     Missing,

@@ -1,4 +1,6 @@
 // What the read-out finds before it writes: the refusal, the key's slot, and its buckets one by one.
+#![tactic(auto)]
+
 ghost use Rattle.std.specs.Prelude.{◌≡◌, get_or};
 ghost use Rattle.ring.specs.Ring.{no_bucket, buckets};
 ghost use Rattle.room.specs.Room.{ring_of, last_of, body_of};
@@ -10,7 +12,7 @@ use rules::RoomKind;
 use settings::Settings;
 
 // The refusal, or 0; the key's slot, and how many buckets there are to read.
-#[derive(Drop)]
+#[derive(Clone, Copy)]
 pub struct Found {
     pub code: u64,
     pub slot: usize,

@@ -1,4 +1,6 @@
 // An increment's decision, by where its forecast stands to the soft and the hard limit.
+#![tactic(auto)]
+
 ghost use Rattle.std.specs.Prelude.{◌≡◌, ◌+◌, ◌≤◌};
 ghost use Rattle.layout.specs.Layout.{most_total};
 ghost use Rattle.rules.specs.Suppressed.{reach_of, full_at, drawn, declined_by};

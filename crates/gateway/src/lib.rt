@@ -1,5 +1,7 @@
 // A gateway that knows a shot by its number. All refusals are settled before the first word is written: the limiter settles its own,
 // and the table is written last.
+#![tactic(auto)]
+
 ghost use Rattle.std.specs.Prelude.{◌≡◌};
 ghost use Rattle.parties.specs.Parties.{sent};
 ghost use Rattle.rules.specs.Suppressed.{admits};

@@ -1,4 +1,6 @@
 // A key's history, for both limiters: what increments and replacing sets make of the buckets.
+#![tactic(auto)]
+
 ghost use Rattle.std.specs.Prelude.{◌≡◌, ◌-◌, ◌<◌};
 ghost use Rattle.ring.specs.Ring.{Shape, buckets};
 ghost use Rattle.rules.specs.Buckets.{joins};

@@ -1,4 +1,6 @@
 // What comes in as plain numbers.
+#![tactic(auto)]
+
 ghost use Rattle.std.specs.Prelude.{◌≡◌};
 ghost use Rattle.inputs.specs.Inputs.{clock_of, settings, comparison_of, preserving};
 
@@ -7,14 +9,14 @@ use common::{BucketSize, RateLimitComparator, SuppressionFactorCachePeriod, Wind
 use settings::{ClockMode, Settings};
 
 // The comparator that a number names, if it names one.
-#[derive(Drop)]
+#[derive(Clone, Copy)]
 pub enum Comparison {
     Named(RateLimitComparator),
     Unnamed,
 }
 
 // The mode that a number names, if it names one.
-#[derive(Drop)]
+#[derive(Clone, Copy)]
 pub enum Mode {
     Named(HistoryUpdateMode),
     Unnamed,

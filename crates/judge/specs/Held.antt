@@ -31,16 +31,3 @@ used_by w key = cond (ltb (addressed w key) (slots_of w)) (use_of w (addressed w
 
 unfoldable pub held_in : List ℕ → Sent → Held
 held_in w key = held_of (ring_of w) (used_by w key) (body_of w (addressed w key))
-
-module _ (w : List ℕ) (key : Sent) where
-  pub held-here : addressed w key < slots_of w → held_in w key ≡ held_of (ring_of w) (use_of w (addressed w key)) (body_of w (addressed w key))
-  unfolding held_in
-  held-here h =
-      let at = addressed w key in
-      ap (λ (z : Bool). held_of (ring_of w) (cond z (use_of w at) 0) (body_of w at)) (lt-ltb at (slots_of w) h)
-
-  pub held_none : slots_of w ≤ addressed w key → held_in w key ≡ nothing
-  unfolding held_in
-  held_none h =
-      let at = addressed w key in
-      ap (λ (z : Bool). held_of (ring_of w) (cond z (use_of w at) 0) (body_of w at)) (le-ltb at (slots_of w) h)

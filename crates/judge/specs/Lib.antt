@@ -1,4 +1,3 @@
 pub mod Held
 pub mod Judge
-pub mod Laws
 pub mod Verdict

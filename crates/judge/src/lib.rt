@@ -1,4 +1,6 @@
 // What every call with a key judges before it does anything: refusals 1 to 7, 15 and 16, and the key's slot opened into a value.
+#![tactic(auto)]
+
 ghost use Rattle.std.specs.Prelude.{◌≡◌, false, ◌<◌, ◌≤◌};
 ghost use Rattle.settings.specs.Settings.{Proper, window_in};
 ghost use Rattle.room.specs.Room.{Room};
@@ -22,7 +24,7 @@ pub const NO_LOOK: bool = false;
 
 // The first of refusals 1 to 7, 15 and 16, or 0 with the slot, and whether the caller's party already holds all slots that it is promised. With the slot
 // behind that, every call that takes it out of here costs some 10 ns more.
-#[derive(Drop)]
+#[derive(Clone, Copy)]
 pub struct Judged {
     pub code: u64,
     pub slot: Slot,

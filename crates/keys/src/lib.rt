@@ -1,9 +1,11 @@
 // A key in words: who holds it, its length, and four words of eight bytes.
+#![tactic(auto)]
+
 ghost use Rattle.std.specs.Prelude.{◌≡◌, ◌+◌, ◌*◌, ◌^◌, ◌<◌, ◌≤◌, length, get_or};
 ghost use Rattle.keys.specs.Keys.{pack, key_of, unused_zero};
 
 // A key as the directory has it: the mark of the party that it belongs to, its length, and its bytes in four words, the first one lowest.
-#[derive(Drop)]
+#[derive(Clone, Copy)]
 pub struct Key {
     pub holder: u64,
     pub len: u64,

@@ -1,5 +1,6 @@
 // Where each word of a room stands, and which numbers the words may be. A room is a header, an entry for each slot, and a
 // body for each slot. The header says who holds each slot: a word of 64 bits for each of the two parties.
+#![tactic(auto)]
 
 // The header's words, and how many.
 pub const SLOTS: usize = 0;

@@ -21,7 +21,7 @@ use Rattle.common.specs.declared.units.RateLimit.{RateLimit}
 use Rattle.answers.specs.declared.HistoryUpdateMode.{HistoryUpdateMode}
 use Rattle.answers.specs.declared.HistoryUpdateMode.TheVariants as mode
 use Rattle.rules.specs.Buckets.{live, gone, joins, joined, replaced, preserved}
-use Rattle.preserve.specs.Preserves.{preserved-comes, replaced-comes}
+use Rattle.preserve.proofs.Preserves.{preserved-comes, replaced-comes}
 use Rattle.ring.specs.declared.Bucket.{Bucket}
 use Rattle.layout.specs.Layout.{most_total}
 use Rattle.ring.specs.Ring.{bucket, denied_of, declineds, declined_of, buckets, counts}
@@ -209,11 +209,6 @@ used-cached x limit h = go (eqb limit x.limit) h
     go : (y : Bool) → has_cached (cond y x.used (forgotten x.used)) ≡ true → has_cached x.used ≡ true
     go true g = g
     go false g = forgotten-cached x.used g
-
--- it counts what was asked for
-pub reset-counts : (W t : ℕ) (mode : HistoryUpdateMode) (count : ℕ) (xs : List Bucket) → counts (reset_to W t mode count xs) ≡ count
-reset-counts W t mode.Replace count xs = (replaced-comes t count xs).count
-reset-counts W t (mode.Preserve q) count xs = (preserved-comes q t count (live W t xs)).count
 
 -- a series that begins with one bucket
 pub begins-view : (b t count : ℕ) → joined b t count 0 [] ≡ bucket count 0 t ∷ []

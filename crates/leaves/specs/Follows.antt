@@ -8,8 +8,9 @@ use Rattle.common.specs.Refusals.{first}
 use Rattle.settings.specs.declared.Settings.{Settings}
 use Rattle.rules.specs.declared.RoomKind.{RoomKind}
 use Rattle.judge.specs.Judge.{refusals, early, Passed}
-use Rattle.judge.specs.Laws.{passed, refused-early, refused-own}
-use Rattle.judge.specs.Verdict.{Verdict, Told, unless_refused, call, told-turned}
+use Rattle.judge.proofs.Laws.{passed, refused-early, refused-own}
+use Rattle.judge.specs.Verdict.{Verdict, Told, unless_refused, call}
+use Rattle.judge.proofs.Verdict.{told-turned}
 
 -- a call whose refusal is n, or 0: turned away with every word as it was; or P
 pub record Follows {A : Type 0} (turned : ℕ → A) (w : List ℕ) (n : ℕ) (v : Verdict A) (P : Type 0) : Type 0 where

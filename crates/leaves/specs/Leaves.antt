@@ -31,7 +31,7 @@ use Rattle.rules.specs.declared.RoomKind.TheVariants as kind
 use Rattle.opened.specs.declared.Slot.{Slot}
 use Rattle.judge.specs.Judge.{early, Passed, slot_in, looked_in}
 use Rattle.opened.specs.Slot.{has_slot}
-use Rattle.judge.specs.Laws.{passed}
+use Rattle.judge.proofs.Laws.{passed}
 use Rattle.opened.specs.Right.{slot-addressed}
 use Rattle.opened.specs.Sound.{addressed}
 use Rattle.change.specs.declared.Change.TheVariants.{Keep, Update, Take}

@@ -3,7 +3,6 @@ pub mod Cleanup
 pub mod Unit
 pub mod Follows
 pub mod AbsoluteLeaves
-pub mod Absolute
 pub mod Suppressed
 pub mod Leaves
 pub mod SuppressedFollows

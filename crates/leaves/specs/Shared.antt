@@ -39,7 +39,7 @@ use Rattle.parties.specs.Parties.{Sent, key_for, mark_of, none_left}
 use Rattle.opened.specs.declared.Slot.{Slot}
 use Rattle.judge.specs.Held.{held_in}
 use Rattle.judge.specs.Judge.{refusals, Passed, slot_in}
-use Rattle.judge.specs.Laws.{passed}
+use Rattle.judge.proofs.Laws.{passed}
 use Rattle.opened.specs.Sound.{sound_slot}
 use Rattle.judge.specs.Verdict.{Verdict, verdict}
 use Rattle.change.specs.declared.Change.TheVariants.{Keep, Update}
@@ -58,7 +58,7 @@ use Rattle.cleanup.specs.Cleanup as Cleanup
 use Rattle.stale.specs.Uses as Uses
 use Rattle.cleanup.specs.Laws as CleanupLaws
 use Rattle.leaves.specs.Calls.{Stands, keep-words, delete-frees, delete-keeps, rate-stands, set_keeps, set-frees, set-stands, set-begins-lone, set-begins}
-use Rattle.leaves.specs.Cleanup.{Cleaned, clean_run, clean-sound}
+use Rattle.leaves.specs.Cleanup.{Cleaned}
 use Rattle.leaves.specs.Follows.{follows, unrefused-early, unrefused-own}
 
 -- ---- what the calls are to do
@@ -213,18 +213,3 @@ module _ (kind : RoomKind) (s : Settings) (w : List ℕ) (t : ℕ) (key : Sent) 
       set_does kind s w t key p rate comparator count mode still y (not-false (rate_ok rate.0) g.0) (ltb-false most_total count g.1.0)
       (λ i f c. place-free kind s w t key p f c
       (ap (λ (b : Bool). not b && lacks_at (none_left w key.caller) x) (sym i) ∙ ap (λ (b : Bool). not still && b) l ∙ g.1.1.0)) _ refl refl)).done e
-
-pub clear-follows : (s : Settings) (w : List ℕ) (t : ℕ) (who : Caller) → Clear.clear_refusal s w t who ≡ 0 →
-    ClearRule w (mark_of who.party) t (Clear.clear s w t who)
-clear-follows s w t who e =
-    (follows done.Refused (Clear.clear_refusal s w t who) w (verdict done.Done (with_reading (cleared w (mark_of who.party)) t))
-    (ClearRule w (mark_of who.party) t)
-    (λ z. record { answer = refl; leaves = clear-read-run w (mark_of who.party) (Clear.clear_room s w t who z) t })).done e
-
--- a room that is not turned away, cleaned
-pub clean-follows : (kind : RoomKind) (s : Settings) (w : List ℕ) (t : ℕ) (who : Caller) (stale : ℕ) → Cleanup.refusal kind s w t who ≡ 0 →
-    CleanRule kind s w (Uses.cleaned w t (ticks_in s) stale) t stale
-clean-follows kind s w t who stale e =
-    let p = CleanupLaws.passed kind s w t who e in
-    let c = clean_run w t (ticks_in s) stale p.room in
-    record { leaves = c; sound = clean-sound kind s w (Uses.cleaned w t (ticks_in s) stale) t (ticks_in s) stale who c p }

@@ -158,12 +158,6 @@ abbrev pub FactorOk : FactorAnswer → Type 0
 FactorOk (factor.Factor f) = Within01 f
 FactorOk (factor.Refused n) = ⊥
 
--- the snapshot of a known key, and of an unknown one
-pub snapshot-ok : (known : Bool) (x : SuppressedRateLimitSnapshot) → Within01 x.suppression_factor →
-    SnapshotOk (snapshot.Snapshot (cond known x no_snapshot))
-snapshot-ok true x u = u
-snapshot-ok false x u = nil-within
-
 -- the suppressed limiter rejects nothing: it suppresses
 abbrev pub DecisionOk : RateLimitDecision → Type 0
 DecisionOk Allowed = Unit {0}
@@ -178,6 +172,8 @@ by-reach Hard a t c draw g = (tt, (word-one, omega arith))
 by-reach Soft a t c draw g = (tt, tt)
 by-reach Over a t c draw g = (one-within, (word-one, omega arith))
 by-reach Between a t c draw g = (g.within, g.caching)
+
+-- ---- the factor that is asked for
 
 module _ (s : Settings) (p : Proper s) (w : List ℕ) (t : ℕ) (x : Slot) (o : Sums (ticks_in s) w t x)
     (h : x.cached ≡ true → factor_word_ok x.factor ≡ true) where

@@ -1,5 +1,7 @@
 // The lines of the program `desk`, as functions on bytes: reading a settings line and a call line, by parts that serve the lines of `shots` too.
 // A line stands here without its newline.
+#![tactic(auto)]
+
 ghost use Rattle.std.specs.Prelude.{◌≡◌};
 ghost use Rattle.lines.specs.Reading.{op_at, numbers_at, tail_at, is_exact, read_settings, read_call};
 
@@ -8,7 +10,7 @@ use fields::{Number, Place, field_at, key_at, text_at};
 // ---- the lines that are read
 
 // The operations: an increment or a get, of the absolute or the suppressed limiter.
-#[derive(Drop)]
+#[derive(Clone, Copy)]
 pub enum Op {
     AbsoluteInc,
     AbsoluteGet,
@@ -17,7 +19,7 @@ pub enum Op {
 }
 
 // An operation that was read, and the place past it.
-#[derive(Drop)]
+#[derive(Clone, Copy)]
 pub enum Named {
     Is(Op, usize),
     NoName,
@@ -42,7 +44,7 @@ fn op_at(line: &[u8], at: usize) -> Named
 }
 
 // The three numbers that end a line.
-#[derive(Drop)]
+#[derive(Clone, Copy)]
 pub enum Numbers {
     Are { first: u64, second: u64, third: u64 },
     NoNumbers,
@@ -72,7 +74,7 @@ pub fn numbers_at(line: &[u8], at: usize, first: &[u8], second: &[u8], third: &[
 }
 
 // A key and the three numbers that end its line. The key is the part of the line from `start` up to `end`.
-#[derive(Drop)]
+#[derive(Clone, Copy)]
 pub enum Tail {
     Keyed {
         start: usize,
@@ -126,7 +128,7 @@ pub fn is_exact(n: u64) -> bool
 }
 
 // A settings line: `window=10 bucket=100 factor=2 cache=100`.
-#[derive(Drop)]
+#[derive(Clone, Copy)]
 pub enum SettingsLine {
     Settings {
         window: u64,
@@ -167,7 +169,7 @@ pub fn read_settings(line: &[u8]) -> SettingsLine
 }
 
 // A call line: `t=0 op=sinc key=a rate=60 n=8 draw=0`. The key is the part of the line from `start` up to `end`.
-#[derive(Drop)]
+#[derive(Clone, Copy)]
 pub enum CallLine {
     Call {
         t: u64,

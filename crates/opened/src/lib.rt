@@ -1,4 +1,6 @@
 // A slot opened into a value by one pass over its buckets, and whether its words are right.
+#![tactic(auto)]
+
 ghost use Rattle.std.specs.Prelude.{◌≡◌, ◌≤◌, length};
 ghost use Rattle.sweep.specs.Sweep.{pass_of, looked_pass};
 ghost use Rattle.layout.specs.Layout.{fixed_words};
@@ -13,7 +15,7 @@ use settings::Settings;
 use sweep::{Mark, Pass};
 
 // A key's slot: where it is (the number of slots where there is none), its use, what it holds, and its words.
-#[derive(Drop)]
+#[derive(Clone, Copy)]
 pub struct Slot {
     pub at: usize,
     pub used: u64,

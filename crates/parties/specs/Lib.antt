@@ -1,3 +1,2 @@
 pub mod Parties
 pub mod Census
-pub mod Laws

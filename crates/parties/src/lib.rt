@@ -1,4 +1,6 @@
 // Two parties share a room, each promised a number of its slots: whose a slot is, how many each holds, and what that refuses.
+#![tactic(auto)]
+
 ghost use Rattle.std.specs.Prelude.{◌≡◌, true, ◌%◌, ◌^◌, ◌≤◌};
 ghost use Rattle.common.specs.Refusals.{first};
 ghost use Rattle.room.specs.Room.{Room, slots_of};
@@ -6,7 +8,7 @@ ghost use Rattle.parties.specs.Parties.{is_party, mark_of, none_left, turns, sta
 ghost use Rattle.parties.specs.Census.{census_of, overdrawn_by, Counts};
 
 // Who calls: a party, 1 or 2, and how many slots each of the two is promised.
-#[derive(Drop)]
+#[derive(Clone, Copy)]
 pub struct Caller {
     pub party: u64,
     pub first: u64,
@@ -14,7 +16,7 @@ pub struct Caller {
 }
 
 // Whether every slot in use is a party's, and how many slots each holds, one that both hold for each.
-#[derive(Drop)]
+#[derive(Clone, Copy)]
 pub struct Holdings {
     pub ours: bool,
     pub first: u64,
@@ -22,7 +24,7 @@ pub struct Holdings {
 }
 
 // The first of 5 for a slot that is neither party's, 15 and 16, or 0; and whether the caller's party already holds all slots that it is promised.
-#[derive(Drop)]
+#[derive(Clone, Copy)]
 pub struct Standing {
     pub code: u64,
     pub none: bool,

@@ -11,11 +11,11 @@ use Rattle.room.specs.Laws.{room-sized}
 use Rattle.frame.specs.Distinct.{find-held}
 use Rattle.frame.specs.Whole.{empty-free, empty-room}
 use Rattle.parties.specs.Parties.{Sent, key_for, ours}
-use Rattle.parties.specs.Laws.{none, all-ours}
+use Rattle.parties.proofs.Laws.{none, all-ours}
 use Rattle.rules.specs.declared.RoomKind.{RoomKind}
 use Rattle.opened.specs.Sound.{right_use, has_series, has_cached, sound_series, sound_cached, sound_slot, addressed, sound_at}
 use Rattle.cleanup.specs.Laws.{sound-parts, parts-sound}
-use Rattle.leaves.specs.Cleanup.{series-later, cached-later}
+use Rattle.leaves.proofs.Cleanup.{series-later, cached-later}
 use Rattle.places.specs.Has.{Untouched}
 
 -- the lengths are right, no "slot in use is neither party's", and "a slot is sound if .." of every slot in use

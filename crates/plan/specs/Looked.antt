@@ -15,7 +15,7 @@ use Rattle.ring.specs.declared.Bucket.{Bucket}
 use Rattle.ring.specs.Ring.{no_bucket, buckets}
 use Rattle.rules.specs.Buckets.{older, ahead, gone}
 use Rattle.rules.specs.Both.{overdue}
-use Rattle.rules.specs.Ages.{overdue-ticks, none-overdue}
+use Rattle.rules.proofs.Ages.{overdue-ticks, none-overdue}
 use Rattle.rules.specs.declared.RoomKind.{RoomKind}
 use Rattle.room.specs.Room.{ring_of, last_of, body_of}
 use Rattle.opened.specs.declared.Slot.{Slot}

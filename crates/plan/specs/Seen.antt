@@ -9,7 +9,7 @@ use mathlib.Core.List.{List, []}
 use Rattle.settings.specs.Clock.{window_ticks, look_ticks}
 use Rattle.settings.specs.declared.Settings.{Settings}
 use Rattle.rules.specs.Buckets.{ahead, gone, gone_if, out_if, newest, joins}
-use Rattle.rules.specs.Laws.{newest-drop}
+use Rattle.rules.proofs.Laws.{newest-drop}
 use Rattle.sweep.specs.Sweep.{mark, pass_of, unsound}
 use Rattle.sweep.specs.declared.tally.Pass.{Pass}
 use Rattle.ring.specs.declared.Bucket.{Bucket}
@@ -23,7 +23,8 @@ use Rattle.parties.specs.Parties.{Sent}
 use Rattle.opened.specs.declared.Slot.{Slot}
 use Rattle.opened.specs.Sound.{limit_of, factor_of, factor_time_of, has_series, has_cached, addressed}
 use Rattle.opened.specs.Slot.{no_slot, pick_pass, opened, has_slot, passing, all_stay, first_look}
-use Rattle.judge.specs.Held.{held_by, held_of, held_in, held-here, held_none}
+use Rattle.judge.specs.Held.{held_by, held_of, held_in}
+use Rattle.judge.proofs.Held.{held-here, held_none}
 use Rattle.judge.specs.Judge.{Passed, slot_in}
 use Rattle.plan.specs.Plan.{lacks_at, joins_after, full_after}
 use Rattle.plan.specs.Looked.{by-overdue}

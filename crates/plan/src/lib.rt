@@ -1,5 +1,7 @@
 // What the limiters plan on a key's slot: where it stands, whether an increment fits, and the edits, of the slot as it is, without its expired
 // buckets, or with a series that begins.
+#![tactic(auto)]
+
 ghost use Rattle.std.specs.Prelude.{◌≡◌, ◌-◌};
 ghost use Rattle.rules.specs.Both.{passes};
 ghost use Rattle.room.specs.Room.{Room};

@@ -1,6 +1,4 @@
 pub mod Preserving
 pub mod Ends
 pub mod Shortage
-pub mod Surplus
 pub mod Preserves
-pub mod Turns

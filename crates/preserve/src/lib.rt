@@ -1,4 +1,6 @@
 // A set that preserves a key's history: a surplus goes to the kept end, a shortage comes out at the other.
+#![tactic(auto)]
+
 ghost use Rattle.std.specs.Prelude.{◌≡◌, ◌-◌, ◌<◌};
 ghost use Rattle.ring.specs.Ring.{Shape};
 ghost use Rattle.rules.specs.Buckets.{kept_end};
@@ -9,7 +11,7 @@ ghost use Rattle.preserve.specs.Preserves.{OutLeaves};
 use answers::HistoryPreservation;
 
 // What a shortage takes: whole buckets, then `rest` of the next one; `declined` is the total without the whole ones.
-#[derive(Drop)]
+#[derive(Clone, Copy)]
 struct Cut {
     pub whole: usize,
     pub rest: u64,

@@ -1,4 +1,6 @@
 // The line that `desk` prints for a call and `shots` for a shot, written into a lent slice. A line stands here without its newline.
+#![tactic(auto)]
+
 ghost use Rattle.std.specs.Prelude.{◌≡◌, ◌+◌, ◌≤◌, ◌<◌, ◌++◌, length};
 ghost use Rattle.fields.specs.Numbers.{show_number};
 ghost use Rattle.lines.specs.Shown.{factor_text};
@@ -6,7 +8,7 @@ ghost use Rattle.printing.specs.Answers.{show_field, answer_text, show_hex16, he
 ghost use Rattle.printing.specs.Printing.{Put, PutField, PutFour, Printed};
 
 // The words of an answer.
-#[derive(Drop)]
+#[derive(Clone, Copy)]
 pub enum Answer {
     Allowed,
     Rejected,
@@ -18,7 +20,7 @@ pub enum Answer {
 }
 
 // What a line says. `factor` is the factor's bits.
-#[derive(Drop)]
+#[derive(Clone, Copy)]
 pub struct AnswerLine {
     pub t: u64,
     pub code: u64,

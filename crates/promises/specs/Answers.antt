@@ -51,33 +51,3 @@ rule_row kind s w t (delete key) = delete_row (rules.deleted s t (held_in w key)
 rule_row kind s w t (cleanup who stale) = row 0 1 0 0 0
 rule_row kind s w t (cleanup_both who other whose stale) = row 0 1 0 0 0
 rule_row kind s w t (clear who) = row 0 1 0 0 0
-
--- ---- and that they do
-
-row_done : {A : Type 0} (row_of : A → List ℕ) (turned : ℕ → A) (n : ℕ) (w : List ℕ) (v : Verdict A) → n ≡ 0 →
-    row_of (unless_refused turned n w v).answer ≡ row_of v.answer
-unfolding unless_refused
-row_done row_of turned n w v e = ap (λ (b : Bool). row_of (cond b v.answer (turned n))) (eq-eqb n 0 e)
-
-both-done : (kind : RoomKind) (s : Settings) (w : List ℕ) (t : ℕ) (who : Caller) (other : List ℕ) (whose : Caller) (stale : ℕ) →
-    first (both_table kind s w who other whose t) ≡ 0 → done_row (cleaned_both kind s w who other whose t stale).answer ≡ row 0 1 0 0 0
-unfolding Provider.decided done_row
-both-done Absolute s w t who other whose stale e = rw (both-by-table s w other t who whose ∙ e)
-both-done Suppressed s w t who other whose stale e = rw (both-by-table s other w t whose who ∙ e)
-
-pub answered : (kind : RoomKind) (s : Settings) (w : List ℕ) (t : ℕ) (op : Op kind) → first (table_of kind s w t op) ≡ 0 →
-    answer_row kind s w t op ≡ rule_row kind s w t op
-unfolding OnAbsolute.inc OnAbsolute.is_allowed OnAbsolute.get OnSuppressed.inc OnSuppressed.get OnSuppressed.get_factor Rate.set_rate_limit Set.set Delete.delete
-    Cleanup.cleanup total_row snapshot_row factor_row done_row
-answered kind s w t (inc key rate count) e = row_done decision_row decision.Refused _ w _ e
-answered kind s w t (is_allowed key) e = row_done decision_row decision.Refused _ w _ e
-answered kind s w t (get key) e = row_done total_row total.Refused _ w _ e
-answered kind s w t (draws key rate count draw) e = row_done decision_row decision.Refused _ w _ e
-answered kind s w t (snapshot key) e = row_done snapshot_row snapshot_answer.Refused _ w _ e
-answered kind s w t (get_factor key) e = row_done factor_row factor.Refused _ w _ e
-answered kind s w t (set_rate key rate) e = row_done old_rate_row old_rate.Refused _ w _ e
-answered kind s w t (set key rate comparator count mode) e = row_done set_row set_answer.Refused _ w _ e
-answered kind s w t (delete key) e = row_done delete_row delete_answer.Refused _ w _ e
-answered kind s w t (cleanup who stale) e = row_done done_row done.Refused _ w _ e
-answered kind s w t (cleanup_both who other whose stale) e = both-done kind s w t who other whose stale e
-answered kind s w t (clear who) e = row_done done_row done.Refused _ w _ e

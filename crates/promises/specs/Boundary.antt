@@ -377,14 +377,5 @@ computed = record {
   };
 }
 
-pub boundary : Boundary
-boundary = computed.table
-
-pub nano-boundary : NanoBoundary
-nano-boundary = computed.nano-table
-
-pub party-boundary : PartyBoundary
-party-boundary = computed.party-table
-
 pub further : Further
 further = computed.further

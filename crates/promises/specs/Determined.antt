@@ -32,7 +32,7 @@ use Rattle.desk_turn.specs.declared.Program.{Program}
 use Rattle.desk_turn.specs.declared.Turn.{Turn}
 use Rattle.desk_feed.specs.Feed.{Whole, whole, feed}
 use Rattle.desk_turn.specs.Lines.{Effect}
-use Rattle.desk_feed.specs.Contracts.{Feeding, BothMade}
+use Rattle.desk_feed.specs.Clauses.{Feeding, BothMade}
 use Rattle.desk_turn.specs.Taking.{Took}
 use Rattle.printing.specs.Printing.{pasted, Printed}
 use Rattle.printing.specs.declared.AnswerLine.{AnswerLine}
@@ -45,27 +45,6 @@ Once {R} C = (x y : R) → C x → C y → x ≡ y
 -- a call on one room allows one answer with one room
 abbrev pub TellsOne : {A : Type 0} → Verdict A → Type 0
 TellsOne {A} v = Once {R = Verdict A} (λ x. Told v x.answer x.words)
-
--- ---- by the form of the contract
-
--- `Told v r exit`
-pub told-one : {A : Type 0} (v : Verdict A) → TellsOne v
-told-one v x y p q = λ i. record { answer = (p.answer ∙ sym q.answer) i; words = (p.words ∙ sym q.words) i }
-
--- `r ≡ v`, and `exit ≡ v`
-pub same-one : {A : Type 0} (v : A) → Once {R = A} (λ r. r ≡ v)
-same-one v x y p q = p ∙ sym q
-
--- `Decides r P`
-pub decides-one : (P : Type 0) → Once {R = Bool} (λ r. Decides r P)
-decides-one P true true p q = refl
-decides-one P true false p q = absurd (q p)
-decides-one P false true p q = absurd (p q)
-decides-one P false false p q = refl
-
--- so what is promised of a verdict is promised of the answer that a caller gets and of the words that it finds
-pub told-so : {A : Type 0} (v : Verdict A) (r : A) (exit : List ℕ) (P : Verdict A → Type 0) → Told v r exit → P v → P (verdict r exit)
-told-so v r exit P o p = subst P (told-one v v (verdict r exit) (record { answer = refl; words = refl }) o) p
 
 -- ---- by function
 
@@ -109,64 +88,3 @@ pub record Determined : Type 1 where
   pub from-stored-window-limit : (W : ℕ) (F : Float) (limit : ℕ) → Once {R = RateLimit} (λ r. r.0 ≡ rate_back W F limit)
   -- every other public function says `r ≡ ..`, or `exit ≡ ..` where it answers nothing
   pub others : {A : Type 0} (v : A) → Once {R = A} (λ r. r ≡ v)
-
--- how much of a block is taken decides the rest
-feeding-one : (w : Whole) (block out : List ℕ) → Once {R = Progress × List ℕ × List ℕ × List ℕ × List ℕ}
-    (λ x. Feeding w block out x.0 x.1 x.2 x.3 x.4)
-feeding-one w block out x y p q =
-    let t : x.0.taken ≡ y.0.taken = p.taken ∙ sym q.taken in
-    let after : whole x.0.desk x.1 x.2 x.3 ≡ whole y.0.desk y.1 y.2 y.3 =
-    p.after ∙ ap (λ (n : ℕ). (feed w (take n block)).whole) t ∙ sym q.after in
-    let prints : List ℕ → ℕ = λ (b : List ℕ). 0 + length b in
-    let next : x.0.put ≡ y.0.put = p.put.past ∙ ap (λ (n : ℕ). prints (feed w (take n block)).prints) t ∙ sym q.put.past in
-    let bytes : x.4 ≡ y.4 = p.put.is ∙ ap (λ (n : ℕ). pasted out 0 (feed w (take n block)).prints) t ∙ sym q.put.is in
-    λ i. (record { desk = (after i).desk; taken = t i; put = next i }, (after i).first, (after i).second, (after i).hold, bytes i)
-
-line-one : (line : List ℕ) → Once {R = ℕ × List ℕ} (λ x. LineGiven line x.0 x.1)
-line-one line x y p q =
-    let same : p.answer ≡ q.answer = one-meaning line p.answer q.answer p.reads q.reads in
-    let number : x.0 ≡ y.0 = p.given.number ∙ ap (λ (r : LineAnswer). number_of (line_row r)) same ∙ sym q.given.number in
-    let row : x.1 ≡ y.1 = p.given.answer ∙ ap line_row same ∙ sym q.given.answer in
-    λ i. (number i, row i)
-
-pub determined : Determined
-determined = record {
-  calls = λ kind s w t op. told-one (verdict_of kind s w t op);
-  provider-cleanup = λ s a b t c d stale x y p q i. record {
-    answer = (p.answer ∙ sym q.answer) i;
-    absolute = (p.absolute ∙ sym q.absolute) i;
-    suppressed = (p.suppressed ∙ sym q.suppressed) i;
-  };
-  read_out = λ kind s w key row x y p q i. record { answer = (p.answer ∙ sym q.answer) i; row = (p.row ∙ sym q.row) i };
-  make = λ slots ring w x y p q i. ((p.answer ∙ sym q.answer) i, (p.words ∙ sym q.words) i);
-  shot = λ s w r t key number rate draw x y p q i. record {
-    answer = (p.answer ∙ sym q.answer) i;
-    table = (p.table ∙ sym q.table) i;
-    room = (p.room ∙ sym q.room) i;
-  };
-  new-season = λ w. told-one (Gateway.new_season w);
-  make-table = λ w x y p q i. ((p.answer ∙ sym q.answer) i, (p.words ∙ sym q.words) i);
-  faces = λ f x y p q i. ((p.number ∙ sym q.number) i, record { row = (p.answer ∙ sym q.answer) i; words = (p.left ∙ sym q.left) i });
-  give = λ row x y p q i. ((p.number ∙ sym q.number) i, (p.answer ∙ sym q.answer) i);
-  desk-memories = λ g a b x y p q i. ((p.answer ∙ sym q.answer) i, (p.first ∙ sym q.first) i, (p.second ∙ sym q.second) i);
-  desk-feed = feeding-one;
-  desk-finish = λ v out at x y p q i. (
-    record { phase = (p.phase ∙ sym q.phase) i; next = (p.put.past ∙ sym q.put.past) i },
-    (p.first ∙ sym q.first) i,
-    (p.second ∙ sym q.second) i,
-    (p.put.is ∙ sym q.put.is) i,
-  );
-  step = λ v x y p q i. record {
-    answer = (p.answer ∙ sym q.answer) i;
-    first = (p.first ∙ sym q.first) i;
-    second = (p.second ∙ sym q.second) i;
-  };
-  print = λ line out x y p q i. ((p.long ∙ sym q.long) i, (p.bytes ∙ sym q.bytes) i);
-  read-line = one-meaning;
-  face-line = line-one;
-  sized = λ w. decides-one (Room w);
-  fit = λ r b. decides-one (Shape r b);
-  start = λ w s x y p q. p.at ∙ sym q.at;
-  from-stored-window-limit = λ W F limit x y p q i. record { 0 = (p ∙ sym q) i };
-  others = same-one;
-}

@@ -7,4 +7,3 @@ pub mod Rules
 pub mod Cases
 pub mod Boundary
 pub mod Sound
-pub mod Apart

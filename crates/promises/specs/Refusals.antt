@@ -27,12 +27,14 @@ use Rattle.inputs.specs.declared.Mode.TheVariants as chosen
 use Rattle.unnamed_set.specs.Unnamed as Unnamed
 use Rattle.unnamed_set.specs.Unnamed.{unnamed}
 use Rattle.abi.specs.Faces.{shown_set}
-use Rattle.steps.specs.Order.{TurnedBy, turned_by}
+use Rattle.steps.specs.Order.{TurnedBy}
+use Rattle.steps.proofs.Order.{turned_by}
 use Rattle.steps.specs.Ops as Ops
 use Rattle.steps.specs.Ops.{Op, after, answer_row}
-use Rattle.steps.specs.Table.{table_of, sets, cleans_both, turned, both-turned}
-use Rattle.promises.specs.Shots.{TurnsShots, turns-shots}
-use Rattle.promises.specs.Units.{Makes, makes}
+use Rattle.steps.specs.Table.{table_of, sets, cleans_both}
+use Rattle.steps.proofs.Table.{turned, both-turned}
+use Rattle.promises.specs.Shots.{TurnsShots}
+use Rattle.promises.specs.Units.{Makes}
 
 -- ---- the read_out's table: the calls' stand with the steps (`table_of`)
 
@@ -73,50 +75,3 @@ pub record Demand1 : Type 0 where
       (shown_set kind s w t key rate comparison count mode).words
   -- a gateway's shots, and its new season
   pub gateway : TurnsShots
-
-pub reads-number : (kind : RoomKind) (s : Settings) (w : List ℕ) (key : Sent) → Finding.refusal kind s w key ≡ first (reads kind s w key)
-unfolding Finding.refusal
-reads-number kind s w key = refl
-
-read-turned : (kind : RoomKind) (s : Settings) (w : List ℕ) (key : Sent) (cells : List Bucket) →
-    TurnedBy (reads kind s w key) (read_out_row (ReadOut.read_out kind s w key cells).answer) cells (ReadOut.read_out kind s w key cells).row
-unfolding ReadOut.read_out read_out_row faults
-read-turned kind s w key cells =
-    let e = reads-number kind s w key in
-    turned_by (reads kind s w key) _ _ _ (omega arith)
-    (λ z. rw (e, ne_eqb (first (reads kind s w key)) 0 z))
-    (λ z. rw (e, eq-eqb (first (reads kind s w key)) 0 z))
-    (λ z. rw (e, ne_eqb (first (reads kind s w key)) 0 z))
-
-ring-turned : (s : Settings) → TurnedBy {B = Unit {0}} (faults s) (ring_row (ring_for s)) tt tt
-unfolding ring_for ring_row faults
-ring-turned s =
-    turned_by (faults s) _ tt tt (omega arith)
-    (λ z. rw (ne_eqb (first (faults s)) 0 z))
-    (λ z. rw (eq-eqb (first (faults s)) 0 z))
-    (λ z. refl)
-
--- a number is always given, and 14 where none is met before it
-unnamed-turned : (kind : RoomKind) (s : Settings) (w : List ℕ) (t : ℕ) (key : Sent) (rate : RateLimit) (count : ℕ) →
-    TurnedBy (unnamed kind s w t key rate count) (refused_row (Unnamed.refusal kind s w t key rate count)) w w
-unfolding Unnamed.refusal faults misfits turns
-unnamed-turned kind s w t key rate count = turned_by (unnamed kind s w t key rate count) _ w w (omega arith) (λ z. refl) (λ z. z) (λ z. refl)
-
-set-turned : (kind : RoomKind) (s : Settings) (w : List ℕ) (t : ℕ) (key : Sent) (rate : RateLimit) (comparison : Comparison) (count : ℕ) (mode : Mode) →
-    TurnedBy (sets_shown kind s w t key rate comparison count mode) (shown_set kind s w t key rate comparison count mode).row w
-    (shown_set kind s w t key rate comparison count mode).words
-unfolding shown_set
-set-turned kind s w t key rate (compared.Named c) count (chosen.Named m) = turned kind s w t (Ops.set key rate c count m)
-set-turned kind s w t key rate (compared.Named c) count chosen.Unnamed = unnamed-turned kind s w t key rate count
-set-turned kind s w t key rate compared.Unnamed count m = unnamed-turned kind s w t key rate count
-
-pub demand1 : Demand1
-demand1 = record {
-  calls = turned;
-  provider-cleanup = both-turned;
-  read_out = read-turned;
-  sufficient-ring = ring-turned;
-  units = makes;
-  set-shown = set-turned;
-  gateway = turns-shots;
-}

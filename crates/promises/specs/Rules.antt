@@ -28,12 +28,13 @@ use Rattle.calls.specs.Rate as Rate
 use Rattle.calls.specs.Set as Sets
 use Rattle.cleanup.specs.Cleanup as Cleanup
 use Rattle.stale.specs.Uses as Uses
-use Rattle.leaves.specs.Cleanup.{done-answer, done-words}
+use Rattle.leaves.proofs.Cleanup.{done-answer, done-words}
 use Rattle.absolute_verdicts.specs.Calls as Absolute
 use Rattle.suppressed_verdicts.specs.Calls as Suppressed
 use Rattle.leaves.specs.AbsoluteLeaves.{GetLaw, AskLaw, IncLaw}
-use Rattle.leaves.specs.Absolute as Absolutely
+use Rattle.leaves.proofs.Absolute as Absolutely
 use Rattle.leaves.specs.SuppressedFollows as Own
+use Rattle.leaves.proofs.SuppressedFollows as Own_laws
 use Rattle.leaves.specs.SuppressedFollows.{Gets, GivesFactor, Counts}
 use Rattle.rules.specs.Sets.{still_for}
 use Rattle.rules.specs.Suppressed.{limit_for, outcome}
@@ -41,13 +42,15 @@ use Rattle.judge.specs.Held.{held_in}
 use Rattle.provider.specs.Provider as Provider
 use Rattle.provider.specs.Laws.{lowest-none, both-by-table}
 use Rattle.readout.specs.ReadOut as ReadOut
-use Rattle.readout.specs.Rule.{ReadsOut, reads-out}
+use Rattle.readout.specs.Rule.{ReadsOut}
+use Rattle.readout.proofs.Rule.{reads-out}
 use Rattle.steps.specs.Ops.{Op, answer_row}
 use Rattle.steps.specs.Table.{table_of, absolute_inc, plain, suppressed_inc, suppressed_factor, set_rate, sets, clears, cleans, cleans_both}
-use Rattle.promises.specs.Answers.{rule_row, answered}
-use Rattle.promises.specs.Refusals.{reads, reads-number}
-use Rattle.leaves.specs.Shared.{RateRule, DeleteRule, SetRule, ClearRule, CleanRule, rate-follows, delete-follows, set-follows, clear-follows}
-use Rattle.leaves.specs.Shared.{clean-follows}
+use Rattle.promises.specs.Answers.{rule_row}
+use Rattle.promises.specs.Refusals.{reads}
+use Rattle.leaves.specs.Shared.{RateRule, DeleteRule, SetRule, ClearRule, CleanRule, rate-follows, delete-follows, set-follows}
+use Rattle.leaves.proofs.Shared.{clear-follows}
+use Rattle.leaves.proofs.Shared.{clean-follows}
 
 -- cleanup of one room
 pub record CleansRoom (kind : RoomKind) (s : Settings) (w : List ℕ) (t : ℕ) (who : Caller) (stale : ℕ) : Type 0 where
@@ -127,44 +130,3 @@ pub record Demand2 : Type 0 where
   pub provider-cleanup : (s : Settings) (a b : List ℕ) (t : ℕ) (c d : Caller) (stale : ℕ) → first (cleans_both s a b t c d) ≡ 0 → CleansBoth s a b t c d stale
   pub read_out : (kind : RoomKind) (s : Settings) (w : List ℕ) (key : Sent) (cells : List Bucket) → first (reads kind s w key) ≡ 0 →
       ReadsOut w key cells (ReadOut.read_out kind s w key cells)
-
-cleans-room : (kind : RoomKind) (s : Settings) (w : List ℕ) (t : ℕ) (who : Caller) (stale : ℕ) → Cleanup.refusal kind s w t who ≡ 0 →
-    CleansRoom kind s w t who stale
-cleans-room kind s w t who stale e =
-    record {
-      answer = done-answer kind s w t who stale e;
-      room = subst (λ (v : List ℕ). CleanRule kind s w v t stale) (sym (done-words kind s w t who stale e))
-          (clean-follows kind s w t who stale e);
-    }
-
-cleans-both : (s : Settings) (a b : List ℕ) (t : ℕ) (c d : Caller) (stale : ℕ) → first (cleans_both s a b t c d) ≡ 0 → CleansBoth s a b t c d stale
-unfolding Provider.decided
-cleans-both s a b t c d stale e =
-    let n : Provider.refusal_of_both s a b t c d ≡ 0 = both-by-table s a b t c d ∙ e in
-    let z = lowest-none (Cleanup.refusal kind.Absolute s a t c) (Cleanup.refusal kind.Suppressed s b t d) n in
-    let y : true ≡ eqb (Provider.refusal_of_both s a b t c d) 0 = sym (eq-eqb _ 0 n) in
-    record {
-      answer = rw n;
-      absolute = subst (λ (x : Bool). CleanRule kind.Absolute s a (cond x (Uses.cleaned a t (ticks_in s) stale) a) t stale) y
-          (clean-follows kind.Absolute s a t c stale z.0);
-      suppressed = subst (λ (x : Bool). CleanRule kind.Suppressed s b (cond x (Uses.cleaned b t (ticks_in s) stale) b) t stale) y
-          (clean-follows kind.Suppressed s b t d stale z.1);
-    }
-
-pub demand2 : Demand2
-demand2 = record {
-  answers = answered;
-  absolute-inc = λ s w t key rate count draw y e. (Absolutely.inc-follows s w t key rate count y).done e;
-  absolute-is-allowed = λ s w t key e. (Absolutely.ask-follows s w t key).done e;
-  absolute-get = λ s w t key e. (Absolutely.get-follows s w t key).done e;
-  suppressed-inc = λ s w t key rate count draw y e. (Own.inc-follows s w t key rate count draw y).done e;
-  suppressed-get = λ s w t key y e. (Own.get-follows s w t key y).done e;
-  suppressed-factor = λ s w t key y e. (Own.factor-follows s w t key y).done e;
-  set-rate-limit = rate-follows;
-  delete = delete-follows;
-  set_if = set-follows;
-  clear = clear-follows;
-  cleanup = cleans-room;
-  provider-cleanup = cleans-both;
-  read_out = λ kind s w key cells e. reads-out kind s w key cells (reads-number kind s w key ∙ e);
-}

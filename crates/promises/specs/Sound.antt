@@ -26,23 +26,22 @@ use Rattle.clearing.specs.Clear as Clear
 use Rattle.provider.specs.Provider as Provider
 use Rattle.readout.specs.ReadOut as ReadOut
 use Rattle.places.specs.SoundRoom.{SoundRoom, five-unmet}
-use Rattle.steps.specs.Each.{step}
-use Rattle.steps.specs.History.{empty-sane, history}
-use Rattle.steps.specs.Order.{met, not-given}
+use Rattle.steps.proofs.Each.{step}
+use Rattle.steps.proofs.History.{empty-sane, history}
+use Rattle.steps.specs.Order.{met}
+use Rattle.steps.proofs.Order.{not-given}
 use Rattle.steps.specs.Ops as Ops
 use Rattle.steps.specs.Ops.{Op, Call, Keyed, AllKeyed, after, answer_number, words}
-use Rattle.steps.specs.Sound.{step-sound}
-use Rattle.steps.specs.Table.{table_of, clears, cleans_both, unmet}
-use Rattle.promises.specs.Refusals.{demand1, reads}
+use Rattle.steps.proofs.Sound.{step-sound}
+use Rattle.steps.specs.Table.{table_of, clears, cleans_both}
+use Rattle.steps.proofs.Table.{unmet}
+use Rattle.promises.specs.Refusals.{reads}
 
 -- every call of either limiter, and the provider's cleanup. A key that may enter the room is to be of bytes (`Keyed`)
 abbrev pub StaysSound : Type 0
 StaysSound =
     (kind : RoomKind) (s : Settings) (w : List ℕ) (t : ℕ) (op : Op kind) → Keyed op →
     SoundRoom kind s w → SoundRoom kind s (after kind s w t op)
-
-pub stays-sound : StaysSound
-stays-sound kind s w t op by o = step-sound kind s w t op (after kind s w t op) o (step kind s w t op by)
 
 -- ---- a call on a sound room is not answered 5
 
@@ -55,68 +54,7 @@ abbrev pub OtherSound : (kind : RoomKind) → Settings → Op kind → Type 0
 OtherSound kind s op =
     (who : Caller) (other : List ℕ) (whose : Caller) (stale : ℕ) → op ≡ Ops.cleanup_both who other whose stale → SoundRoom (other_kind kind) s other
 
--- "Cleanup judges every slot in use"
-each-passes : (p : ℕ → Bool) (n : ℕ) → ((i : ℕ) → i < n → p i ≡ true) → every p n ≡ true
-unfolding every
-each-passes p zero f = refl
-each-passes p (suc n) f = true-and (every p n) (p n) (each-passes p n (λ i h. f i (omega arith))) (f n (omega arith))
-
-clean-unmet : (kind : RoomKind) (s : Settings) (w : List ℕ) → SoundRoom kind s w → sized w && (ours w && all_pass kind s w) ≡ true
-clean-unmet kind s w o =
-    true-and (sized w) _ (room-sized w o.room)
-    (true-and (ours w) _ o.theirs (each-passes (slot_passes kind s w) (slots_of w) (λ i h. go i h (ℕ_discrete (holder_of w i) 0))))
-  where
-    go : (i : ℕ) → i < slots_of w → Dec (holder_of w i ≡ 0) → slot_passes kind s w i ≡ true
-    go i h (yes e) = sym (passes-free kind s w i e)
-    go i h (no n) = passes-used kind s w i n ∙ o.slots i h n
-
-both-unmet : (s : Settings) (a b : List ℕ) (t : ℕ) (c d : Caller) → SoundRoom Absolute s a → SoundRoom Suppressed s b → met (cleans_both s a b t c d) 5 ≡ false
-unfolding met faults
-both-unmet s a b t c d o p = rw (clean-unmet Absolute s a o, clean-unmet Suppressed s b p)
-
--- "clear judges lengths only", and that no "slot in use is neither party's"
-clear-fails : (s : Settings) (w : List ℕ) (t : ℕ) (who : Caller) → Room w → ours w ≡ true → met (clears s w t who) 5 ≡ false
-unfolding met faults turns Clear.unclear
-clear-fails s w t who o theirs = rw (room-sized w o, theirs)
-
--- the condition of 5 does not hold
-five-fails : (kind : RoomKind) (s : Settings) (w : List ℕ) (t : ℕ) (op : Op kind) → SoundRoom kind s w → OtherSound kind s op →
-    met (table_of kind s w t op) 5 ≡ false
-unfolding met faults rate_turns turns Judge.misfits Cleanup.misfits
-five-fails kind s w t (Ops.inc key rate count) o b = rw (five-unmet kind s w key o)
-five-fails kind s w t (Ops.is_allowed key) o b = rw (five-unmet kind s w key o)
-five-fails kind s w t (Ops.get key) o b = rw (five-unmet kind s w key o)
-five-fails kind s w t (Ops.draws key rate count draw) o b = rw (five-unmet kind s w key o)
-five-fails kind s w t (Ops.snapshot key) o b = rw (five-unmet kind s w key o)
-five-fails kind s w t (Ops.get_factor key) o b = rw (five-unmet kind s w key o)
-five-fails kind s w t (Ops.set_rate key rate) o b = rw (five-unmet kind s w key o)
-five-fails kind s w t (Ops.set key rate comparator count mode) o b = rw (five-unmet kind s w key o)
-five-fails kind s w t (Ops.delete key) o b = rw (five-unmet kind s w key o)
-five-fails kind s w t (Ops.cleanup who stale) o b = rw (clean-unmet kind s w o)
-five-fails Absolute s w t (Ops.cleanup_both who other whose stale) o b = both-unmet s w other t who whose o (b who other whose stale refl)
-five-fails Suppressed s w t (Ops.cleanup_both who other whose stale) o b = both-unmet s other w t whose who (b who other whose stale refl) o
-five-fails kind s w t (Ops.clear who) o b = clear-fails s w t who o.room o.theirs
-
-pub sound-unmet : (kind : RoomKind) (s : Settings) (w : List ℕ) (t : ℕ) (op : Op kind) → SoundRoom kind s w → OtherSound kind s op →
-    answer_number kind s w t op ≢ 5
-sound-unmet kind s w t op o b = unmet kind s w t op 5 (λ z. omega (arith, z)) (five-fails kind s w t op o b)
-
--- clear is not, whatever its slots hold, where each that is in use is a party's
-pub clear-unmet : (kind : RoomKind) (s : Settings) (w : List ℕ) (t : ℕ) (who : Caller) → Room w → ours w ≡ true → answer_number kind s w t (Ops.clear who) ≢ 5
-clear-unmet kind s w t who o theirs = unmet kind s w t (Ops.clear who) 5 (λ z. omega (arith, z)) (clear-fails s w t who o theirs)
-
-read-unmet : (kind : RoomKind) (s : Settings) (w : List ℕ) (key : Sent) (cells : List Bucket) → SoundRoom kind s w →
-    number_of (read_out_row (ReadOut.read_out kind s w key cells).answer) ≢ 5
-unfolding met faults
-read-unmet kind s w key cells o =
-    not-given (reads kind s w key) _ _ _ (demand1.read_out kind s w key cells) 5 (λ z. omega (arith, z)) (rw (five-unmet kind s w key o))
-
 -- ---- over whole histories
-
--- from an empty room of any size, after any calls with the same settings
-module _ (kind : RoomKind) (s : Settings) (slots ring l : ℕ) (fit : fits slots ring l ≡ true) (calls : List (Call kind)) (by : AllKeyed calls) where
-  pub always-sound : SoundRoom kind s (words kind s (empty slots ring) calls)
-  always-sound = (history kind s (λ v. Unit {0}) (λ w t op v o p m. tt) (empty slots ring) (empty-sane kind s slots ring l fit) tt calls by).0.sound
 
 -- No call is ever answered 5: after any history from an empty room, with the same settings, whatever the call, its key, its reading and its other arguments.
 -- `calls` asks of the provider's cleanup that the room beside it is sound too; `provider-cleanup` speaks of two rooms with a history each
@@ -132,14 +70,3 @@ pub record NeverFive : Type 0 where
   pub read_out : (kind : RoomKind) (s : Settings) (slots ring l : ℕ) → fits slots ring l ≡ true → (made : List (Call kind)) → AllKeyed made →
       (key : Sent) (cells : List Bucket) →
       number_of (read_out_row (ReadOut.read_out kind s (words kind s (empty slots ring) made) key cells).answer) ≢ 5
-
-pub never-five : NeverFive
-never-five = record {
-  calls = λ kind s slots ring l e made k t op b. sound-unmet kind s _ t op (always-sound kind s slots ring l e made k) b;
-  provider-cleanup = λ s slots ring l e made k slots' ring' l' e' made' k' t c d stale.
-      let a = words Absolute s (empty slots ring) made in
-      let b = words Suppressed s (empty slots' ring') made' in
-      not-given (cleans_both s a b t c d) _ _ _ (demand1.provider-cleanup s a b t c d stale) 5 (λ z. omega (arith, z))
-      (both-unmet s a b t c d (always-sound Absolute s slots ring l e made k) (always-sound Suppressed s slots' ring' l' e' made' k'));
-  read_out = λ kind s slots ring l e made k key cells. read-unmet kind s _ key cells (always-sound kind s slots ring l e made k);
-}

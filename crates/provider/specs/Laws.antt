@@ -17,7 +17,7 @@ use Rattle.settings.specs.declared.Settings.{Settings}
 use Rattle.room.specs.Room.{sized, last_of}
 use Rattle.parties.specs.declared.Caller.{Caller}
 use Rattle.parties.specs.Parties.{is_party, ours, overdrawn, turns}
-use Rattle.judge.specs.Laws.{faults-positive}
+use Rattle.judge.proofs.Laws.{faults-positive}
 use Rattle.rules.specs.declared.RoomKind.TheVariants.{Absolute, Suppressed}
 use Rattle.cleanup.specs.Cleanup.{all_pass, misfits, refusal}
 use Rattle.stale.specs.Uses.{cleaned, Ready}

@@ -1,4 +1,6 @@
 // What the provider does with both rooms at once: its cleanup, which judges both before it writes in either.
+#![tactic(auto)]
+
 ghost use Rattle.std.specs.Prelude.{◌≡◌};
 ghost use Rattle.provider.specs.Provider.{lowest, refusal_of_both, cleanup, Told};
 

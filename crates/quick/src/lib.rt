@@ -1,5 +1,7 @@
 // A key's buckets judged with no branch on what they say: where this finds them sound they are. Many of them go through a loop that the
 // compiler turns into vector code.
+#![tactic(auto)]
+
 ghost use Rattle.std.specs.Prelude.{◌≡◌, false, ◌+◌, ◌<◌, ◌≤◌, length};
 ghost use Rattle.ring.specs.Ring.{bucket, wrap, buckets, Shape};
 ghost use Rattle.quick.specs.Quick.{minus, plus, full_turn, plain_turn, turn_of, run_of, rows, cells, plainly, met_of, shown};
@@ -14,7 +16,7 @@ const EARLY: u64 = 9223372036854775808;
 const FEW: usize = 24;
 
 // What a pass carries: the last time, the sums of what was admitted and of what was declined, and the bits of all that must be small.
-#[derive(Drop)]
+#[derive(Clone, Copy)]
 pub struct Acc {
     pub lo: u64,
     pub kept: u64,

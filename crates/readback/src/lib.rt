@@ -1,4 +1,6 @@
 // Reading a line of `desk` back: what it tells, or refusal 14. A line stands here without its newline.
+#![tactic(auto)]
+
 ghost use Rattle.std.specs.Prelude.{◌≡◌};
 ghost use Rattle.told.specs.Range.{timeless, Reads};
 ghost use Rattle.readback.specs.Meaning.{told_by, totals_fit, factor_fits, refusal_fits, is_fit, same_numbers, meaning_of};

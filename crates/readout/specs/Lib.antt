@@ -1,4 +1,3 @@
 pub mod Row
 pub mod ReadOut
-pub mod Laws
 pub mod Rule

@@ -1,5 +1,7 @@
 // The read-out: a key's buckets, oldest first, written to a row of bucket records that is lent. Everything is decided before
 // the first store, by functions on plain words; `read_out` alone has the row.
+#![tactic(auto)]
+
 ghost use Rattle.std.specs.Prelude.{◌≡◌, min};
 ghost use Rattle.readout.specs.ReadOut.{answer_of, plan_of, read_out, Shown};
 ghost use Rattle.finding.specs.Finding.{asked, found};
@@ -11,7 +13,7 @@ use rules::RoomKind;
 use settings::Settings;
 
 // What the read-out is to do: what it answers, and how many buckets of which slot it writes.
-#[derive(Drop)]
+#[derive(Clone, Copy)]
 pub struct Plan {
     pub answer: ReadOutAnswer,
     pub slot: usize,

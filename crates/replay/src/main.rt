@@ -1,7 +1,9 @@
 // Replays a list of calls with their answers and states: cases worked out by hand, and a sample of the original's answers. The
 // list's lines are described in oracle/README.md; a line that starts with '#' is a heading. For each heading one line says how many calls
 // came out, and each call that did not is shown with what was found. Every call is of party 1, which is promised every slot.
-ghost use Rattle.std.specs.Prelude.{◌+◌, ◌≤◌, length};
+#![tactic(auto)]
+
+ghost use Rattle.std.specs.Prelude.{◌+◌, ◌≤◌, length, IfOk};
 
 use answers::{
     DeleteAnswer, DoneAnswer, FactorAnswer, HistoryPreservation, HistoryUpdateMode, OldRateAnswer,
@@ -13,10 +15,12 @@ use common::{
 use desk_lines::alone;
 use rules::RoomKind;
 use settings::{ClockMode, Settings};
+use std::io;
+use std::io::Read;
 
 // ---- answers as the list has them: a kind and three numbers; a refusal is kind 0 with its number
 
-#[derive(Drop)]
+#[derive(Clone, Copy)]
 struct Row {
     kind: u64,
     x: u64,
@@ -139,7 +143,7 @@ fn settings_of(n: [u64; 6]) -> Settings {
 }
 
 // A call with all its arguments, those too that it has no use for.
-#[derive(Drop)]
+#[derive(Clone, Copy)]
 struct Call {
     op: u64,
     reading: u64,
@@ -217,7 +221,7 @@ fn called(s: Settings, a: &mut [u64], b: &mut [u64], key: &[u8], c: Call) -> Row
 
 // ---- the key's slot after the call: use, total, declined, buckets, factor bits and factor time, 0 where it has none
 
-#[derive(Drop)]
+#[derive(Clone, Copy)]
 struct State {
     used: u64,
     total: u64,
@@ -275,7 +279,7 @@ fn state_of(w: &[u64], key: &[u8]) -> State {
 
 // ---- reading the list
 
-#[derive(Drop)]
+#[derive(Clone, Copy)]
 struct Number {
     value: u64,
     next: usize,
@@ -367,7 +371,7 @@ fn unpack(word: u64, from: usize, out: &mut [u8])
 
 // ---- the run: settings, the rooms' length, and how many calls came out or did not
 
-#[derive(Drop)]
+#[derive(Clone, Copy)]
 struct Run {
     settings: Settings,
     long: usize,
@@ -387,9 +391,9 @@ fn begun() -> Run {
 fn counted(run: Run, same: bool) -> Run {
     let mut next = run;
     if same {
-        next.right = std::num::wrapping_add_u64(run.right, 1);
+        next.right = run.right.wrapping_add(1);
     } else {
-        next.wrong = std::num::wrapping_add_u64(run.wrong, 1);
+        next.wrong = run.wrong.wrapping_add(1);
     }
     next
 }
@@ -441,27 +445,33 @@ fn same_state(x: State, e: State) -> bool {
     x.time == e.time
 }
 
-fn put(name: &[u8], n: u64) {
-    io::write_all(1, name);
-    io::print_decimal(1, n);
+fn put(rt: &impl Print, name: &str, n: u64) -> io::Result<()> {
+    print!(rt; "{name}{n}")
 }
 
-fn show(r: Row, x: State) {
-    put(b"WRONG, found ", r.kind);
-    put(b" ", r.x);
-    put(b" ", r.y);
-    put(b" ", r.z);
-    put(b" with ", x.used);
-    put(b" ", x.total);
-    put(b" ", x.declined);
-    put(b" ", x.buckets);
-    put(b" ", x.factor);
-    put(b" ", x.time);
-    io::write_all(1, b" in: ");
+fn show(rt: &impl Print, r: Row, x: State) -> io::Result<()> {
+    put(rt, "WRONG, found ", r.kind)?;
+    put(rt, " ", r.x)?;
+    put(rt, " ", r.y)?;
+    put(rt, " ", r.z)?;
+    put(rt, " with ", x.used)?;
+    put(rt, " ", x.total)?;
+    put(rt, " ", x.declined)?;
+    put(rt, " ", x.buckets)?;
+    put(rt, " ", x.factor)?;
+    put(rt, " ", x.time)?;
+    print!(rt; " in: ")
 }
 
 // Whether a call's answer and the key's state after it are the list's; else they are shown.
-fn is_same(s: Settings, a: &mut [u64], b: &mut [u64], key: &[u8], n: [u64; 24]) -> bool {
+fn is_same(
+    rt: &impl Print,
+    s: Settings,
+    a: &mut [u64],
+    b: &mut [u64],
+    key: &[u8],
+    n: [u64; 24],
+) -> io::Result<bool> {
     let c = call_of(n);
     let r = called(s, a, b, key, c);
     let x = if c.op < 10 {
@@ -471,52 +481,67 @@ fn is_same(s: Settings, a: &mut [u64], b: &mut [u64], key: &[u8], n: [u64; 24]) 
     };
     if same_row(r, row_in(n)) {
         if same_state(x, state_in(n)) {
-            return true;
+            return Ok(true);
         }
     }
-    show(r, x);
-    false
+    show(rt, r, x)?;
+    Ok(false)
 }
 
 // The call, with the first bytes of `key` for its key: they are written here.
-fn key_call(s: Settings, a: &mut [u64], b: &mut [u64], key: &mut [u8], n: [u64; 24]) -> bool {
+fn key_call(
+    rt: &impl Print,
+    s: Settings,
+    a: &mut [u64],
+    b: &mut [u64],
+    key: &mut [u8],
+    n: [u64; 24],
+) -> io::Result<bool> {
     let len = n[2] as usize;
     if key.len() < 32 {
-        return false;
+        return Ok(false);
     }
     if key.len() < len {
-        return false;
+        return Ok(false);
     }
     unpack(n[3], 0, key);
     unpack(n[4], 8, key);
     unpack(n[5], 16, key);
     unpack(n[6], 24, key);
     let from = 0;
-    is_same(s, a, b, &key[from..len], n)
+    is_same(rt, s, a, b, &key[from..len], n)
 }
 
-fn call_line(line: &[u8], run: Run, a: &mut [u64], b: &mut [u64], key: &mut [u8]) -> Run {
+fn call_line(
+    rt: &impl Print,
+    line: &[u8],
+    run: Run,
+    a: &mut [u64],
+    b: &mut [u64],
+    key: &mut [u8],
+) -> io::Result<Run> {
     let long = run.long;
     if a.len() < long {
-        return counted(run, false);
+        return Ok(counted(run, false));
     }
     if b.len() < long {
-        return counted(run, false);
+        return Ok(counted(run, false));
     }
     let settings = run.settings;
     let from = 0;
     let same = key_call(
+        rt,
         settings,
         &mut a[from..long],
         &mut b[from..long],
         key,
         all(line, 1),
-    );
+    )?;
     if !same {
-        io::write_all(1, line);
-        io::write_all(1, b"\n");
+        rt.write_all(line)?;
+        println!(rt)?;
     }
-    counted(run, same)
+    Ok(counted(run, same))
 }
 
 // The words of a room of these slots and ring, 0 where there is none.
@@ -572,64 +597,85 @@ fn word_line(line: &[u8], a: &mut [u64], b: &mut [u64]) {
     }
 }
 
-fn summary(run: Run) {
-    put(b"  ", run.right);
-    put(b" calls came out, ", run.wrong);
-    io::write_all(1, b" did not\n");
+fn summary(rt: &impl Print, run: Run) -> io::Result<()> {
+    put(rt, "  ", run.right)?;
+    put(rt, " calls came out, ", run.wrong)?;
+    println!(rt; " did not")
 }
 
 // What is left of the counts of the heading before, if there was one, is told; the new one begins.
-fn heading(line: &[u8], run: Run) -> Run {
+fn heading(rt: &impl Print, line: &[u8], run: Run) -> io::Result<Run> {
     if run.long != 0 {
-        summary(run);
+        summary(rt, run)?;
     }
-    io::write_all(1, line);
-    io::write_all(1, b"\n");
+    rt.write_all(line)?;
+    println!(rt)?;
     let mut next = run;
     next.right = 0;
     next.wrong = 0;
-    next
+    Ok(next)
 }
 
-fn take_line(line: &[u8], run: Run, a: &mut [u64], b: &mut [u64], key: &mut [u8]) -> Run {
+fn take_line(
+    rt: &impl Print,
+    line: &[u8],
+    run: Run,
+    a: &mut [u64],
+    b: &mut [u64],
+    key: &mut [u8],
+) -> io::Result<Run> {
     if line.len() == 0 {
-        return run;
+        return Ok(run);
     }
     let first = line[0];
     match first {
-        b'#' => heading(line, run),
-        b'h' => history_line(line, run, a, b),
-        b'c' => call_line(line, run, a, b, key),
+        b'#' => heading(rt, line, run),
+        b'h' => Ok(history_line(line, run, a, b)),
+        b'c' => call_line(rt, line, run, a, b, key),
         _ => {
             word_line(line, a, b);
-            run
+            Ok(run)
         }
     }
 }
 
-fn play(s: &[u8], a: &mut [u64], b: &mut [u64], key: &mut [u8]) {
+fn play(rt: &impl Print, s: &[u8], a: &mut [u64], b: &mut [u64], key: &mut [u8]) -> io::Result<()> {
     let mut run = begun();
     let mut at = 0;
     while at < s.len() {
         let end = line_end(s, at);
         if s.len() < end {
-            return;
+            return Ok(());
         }
-        run = take_line(&s[at..end], run, a, b, key);
+        run = take_line(rt, &s[at..end], run, a, b, key)?;
         if s.len() <= end {
-            summary(run);
-            return;
+            return summary(rt, run);
         }
         at = end + 1;
     }
-    summary(run);
+    summary(rt, run)
 }
 
-fn main() {
+// Reads until `buf` is full or the input ends, and says how many bytes it put at the start of `buf`.
+fn read_full<R: Read>(from: &mut R, buf: &mut [u8]) -> io::Result<usize>
+    ensures { IfOk result (λ n. n ≤ length buf.new) }
+{
+    let mut done = 0;
+    while done < buf.len() {
+        let n = from.read(&mut buf[done..])?;
+        if n == 0 {
+            return Ok(done);
+        }
+        done += n;
+    }
+    Ok(done)
+}
+
+fn main(rt: HostRuntime) -> io::Result<()> {
     let mut input = [0u8; 400000];
-    let n = io::read_full(0, &mut input);
+    let n = read_full(&mut rt.stdin(), &mut input)?;
     let mut a = [0u64; 4096];
     let mut b = [0u64; 4096];
     let mut key = [120u8; 64];
-    play(&input[..n], &mut a, &mut b, &mut key);
+    play(&rt, &input[..n], &mut a, &mut b, &mut key)
 }

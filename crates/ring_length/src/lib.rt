@@ -1,4 +1,6 @@
 // How long a ring must be for its room never to meet refusal 12. That so many buckets suffice, and that one less does not, stands in the crate `rings`.
+#![tactic(auto)]
+
 ghost use Rattle.std.specs.Prelude.{◌≡◌};
 ghost use Rattle.ring_length.specs.RingLength.{ring_for};
 

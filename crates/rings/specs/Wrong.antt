@@ -46,13 +46,13 @@ use Rattle.apart.specs.Apart.{Limiter, words_by}
 use Rattle.rings.specs.Window.{apart_ticks, apart-joins, BucketsApart}
 use Rattle.rings.specs.Row.{row-full}
 use Rattle.rings.specs.Zeros.{zero_op, zeros, state}
-use Rattle.rings.specs.Rings.{Limiters, rows_by, newest_number, SufficientBy, Meets, NecessaryBy, lone, lone-sends, zeros-keyed, one-fits}
+use Rattle.rings.specs.Rings.{Limiters, rows_by, newest_number, SufficientBy, Meets, NecessaryBy, lone}
 
 -- 12 by all buckets that are stored, expired ones too
-abbrev hastily : Bool → List ℕ → Verdict RateLimitDecision → Verdict RateLimitDecision
+abbrev pub hastily : Bool → List ℕ → Verdict RateLimitDecision → Verdict RateLimitDecision
 hastily full w v = cond full (verdict (Refused 12) w) v
 
-abbrev hasty_inc : Settings → Limiter Absolute
+abbrev pub hasty_inc : Settings → Limiter Absolute
 hasty_inc s w t (inc key rate c) = hastily (ring_full (ring_of w) (join_ticks s) t (held_in w key).buckets) w (verdict_of Absolute s w t (inc key rate c))
 hasty_inc s w t (is_allowed key) = verdict_of Absolute s w t (is_allowed key)
 hasty_inc s w t (get key) = verdict_of Absolute s w t (get key)
@@ -71,59 +71,14 @@ hasty Suppressed s = verdict_of Suppressed s
 abbrev pub single : Settings
 single = sized 1 1000
 
-single-unrefused : first (faults single) ≡ 0
-unfolding faults first Ranges.factor_ok Ieee.le Ieee.fits
-single-unrefused = refl
-
-abbrev key : Sent
+abbrev pub key : Sent
 key = lone 1
 
-abbrev room : ℕ → List ℕ
+abbrev pub room : ℕ → List ℕ
 room n = words Absolute single (empty 1 1) (zeros Absolute single key n)
-
-one-bucket : fits 1 1 (length_of 1 1) ≡ true
-one-bucket = one-fits 1 (omega arith) (omega arith)
-
--- after n increments of 0, 1,001 ms apart, the next one finds all of them stored
-stored : (n : ℕ) → n ≤ 1 → ring_full (ring_of (room n)) (join_ticks single) (n * apart_ticks single) (held_in (room n) key).buckets ≡ leb 1 n
-stored n h =
-    let x = state single (proper single single-unrefused) 1 key (lone-sends 1 (omega arith)) Absolute 1 (length_of 1 1) one-bucket n h (omega arith) in
-    ap₂ (λ (r : ℕ) (xs : List Bucket). ring_full r (join_ticks single) (n * apart_ticks single) xs) x.ring-is x.lined.view ∙
-    row-full (apart_ticks single) (join_ticks single) (apart-joins single) 1 n
-
--- the first is counted, and the second finds its bucket expired
-same_first : words_by (hasty Absolute single) (empty 1 1) (zeros Absolute single key 1) ≡ room 1
-same_first =
-    let v = verdict_of Absolute single (room 0) (0 * apart_ticks single) (zero_op Absolute key) in
-    ap (λ (z : Bool). (hastily z (room 0) v).words) (stored 0 (omega arith))
-
-told-second : newest_number (rows_by (hasty Absolute single) (empty 1 1) (zeros Absolute single key 2)) ≡ 12
-unfolding decision_row
-told-second =
-    let t = 1 * apart_ticks single in
-    ap (λ (w : List ℕ). number_of (decision_row (hasty_inc single w t (zero_op Absolute key)).answer)) same_first ∙
-    ap (λ (z : Bool). number_of (decision_row (hastily z (room 1) (verdict_of Absolute single (room 1) t (zero_op Absolute key))).answer)) (stored 1 (omega arith))
-
-pub hasty-full : SufficientBy hasty sufficient_ring → ⊥
-hasty-full f = (f Absolute single 1 1 (length_of 1 1) one-bucket (omega arith) (zeros Absolute single key 2) (zeros-keyed Absolute single 1 2)).0 told-second
-
-pub never-full : (l : Limiters) → ((k : RoomKind) (s : Settings) (w : List ℕ) (t : ℕ) (op : Op k) → number_of (row_of op (l k s w t op).answer) ≢ 12) →
-    NecessaryBy l sufficient_ring → ⊥
-never-full l n f = go m.calls m.told
-  where
-    m : Meets l Absolute defaults 1 297
-    m = f Absolute defaults 1 297 (length_of 1 297) (one-fits 297 (omega arith) (omega arith)) defaults-unrefused (omega arith)
-
-    go : (calls : List (Call Absolute)) → newest_number (rows_by (l Absolute defaults) (empty 1 297) calls) ≡ 12 → ⊥
-    go [] e = omega (arith, e)
-    go (c ∷ cs) e = n Absolute defaults _ c.reading c.op e
 
 -- ---- a set that adds a bucket
 
 -- what it would have to keep, whatever the reading and the surplus
 abbrev pub AddsApart : Type 0
 AddsApart = (s : Settings) (t m : ℕ) (xs : List Bucket) → BucketsApart s xs → BucketsApart s (xs ++ (bucket m 0 t ∷ []))
-
--- at once after an increment, that is two buckets of one time
-pub surplus-anew : AddsApart → ⊥
-surplus-anew f = omega (arith, (f single 0 1 (bucket 0 0 0 ∷ []) (omega arith, tt)).1.0)

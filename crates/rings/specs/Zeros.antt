@@ -40,19 +40,22 @@ use Rattle.frame.specs.Keys.{Bytes}
 use Rattle.frame.specs.Whole.{empty-free}
 use Rattle.parties.specs.Parties.{Sent, is_party, ours, slots_held, promised, holding, none_left}
 use Rattle.opened.specs.Sound.{addressed}
-use Rattle.judge.specs.Held.{held_in, held_none}
+use Rattle.judge.specs.Held.{held_in}
+use Rattle.judge.proofs.Held.{held_none}
 use Rattle.judge.specs.Judge.{Passed}
-use Rattle.judge.specs.Laws.{early-none, refused-own}
+use Rattle.judge.proofs.Laws.{early-none, refused-own}
 use Rattle.places.specs.SoundRoom.{addressed-held, five-unmet}
 use Rattle.steps.specs.Ops.{Op, inc, draws, Call, after, words, answer_number}
 use Rattle.steps.specs.Table.{table_of}
-use Rattle.apart.specs.Holds.{held-short}
+use Rattle.apart.proofs.Holds.{held-short}
 use Rattle.apart.specs.One.{plainly, left_by, key_in}
-use Rattle.apart.specs.Step.{own_held, slots-after, ring-after}
-use Rattle.apart.specs.Told.{row_for, told-row}
+use Rattle.apart.proofs.Step.{own_held, slots-after, ring-after}
+use Rattle.apart.specs.Told.{row_for}
+use Rattle.apart.proofs.Told.{told-row}
 use Rattle.apart.specs.Promised.{Gives, Kept}
-use Rattle.apart.specs.Like.{Fine, over-is}
-use Rattle.apart.specs.Apart.{empty-fine, fine-after}
+use Rattle.apart.specs.Like.{Fine}
+use Rattle.apart.proofs.Like.{over-is}
+use Rattle.apart.proofs.Apart.{empty-fine, fine-after}
 use Rattle.rings.specs.Window.{apart_ticks, apart-joins}
 use Rattle.rings.specs.Row.{row, row-none, row-begun, row_counts, young, row-joined, row-full}
 

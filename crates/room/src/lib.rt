@@ -1,4 +1,6 @@
 // A lent room: its lengths, its directory, and where a slot's body starts. What a body holds is not known here.
+#![tactic(auto)]
+
 ghost use Rattle.std.specs.Prelude.{◌≡◌, ◌+◌, ◌*◌, ◌<◌, length, replicate};
 ghost use Rattle.base.specs.Decides.{Decides};
 ghost use Rattle.base.specs.Bits.{bit_at, with_bit};

@@ -1,4 +1,6 @@
 // The answer row: five words, as `answers`' specs/Rows.antt gives them for each answer; and of a line that was read back, seven, as `told`'s does.
+#![tactic(auto)]
+
 ghost use Rattle.std.specs.Prelude.{◌≡◌};
 ghost use Rattle.answers.specs.Rows.{refused_row, said, decision_row, total_row, snapshot_row, factor_row, old_rate_row, delete_row, set_row, done_row};
 ghost use Rattle.answers.specs.Rows.{ring_row, shot_row};

@@ -1,10 +1,7 @@
 pub mod Buckets
 pub mod Held
 pub mod Both
-pub mod Ages
 pub mod Absolute
 pub mod Suppressed
 pub mod Sets
 pub mod Stale
-pub mod Laws
-pub mod Cases

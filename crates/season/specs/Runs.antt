@@ -9,7 +9,7 @@ use Rattle.table.specs.Table.{empty_table}
 use Rattle.gateway.specs.Gateway.{Told, admits_shot}
 use Rattle.season.specs.Log.{Pair, times}
 use Rattle.season.specs.Season.{Shot, Event, shoots, AllBytes, table_after, told, noted, log_of, by_log, Judged}
-use Rattle.season.specs.Own.{own, own-by-log, season}
+use Rattle.season.specs.Own.{own}
 
 -- a shot that was made, and what came back
 pub record Made : Type 0 where
@@ -41,42 +41,3 @@ Ran (m ∷ ms) = Told (own.shot (left ms) m.shot) m.answer m.table m.room × Ran
 pub record IsSeason (made : List Made) : Type 0 where
   pub table_is : left made ≡ table_after own (events_of made)
   pub log_is : logged_of made ≡ log_of own (events_of made)
-
--- the answer that came back is the season's
-answer-is : (m : Made) (ms : List Made) → Ran (m ∷ ms) → IsSeason ms → m.answer ≡ (told own (events_of ms) m.shot).answer
-answer-is m ms r h = r.0.answer ∙ ap (λ (w : List ℕ). (own.shot w m.shot).answer) h.table_is
-
-pub run-season : (made : List Made) → Ran made → IsSeason made
-run-season [] r = record { table_is = refl; log_is = refl }
-run-season (m ∷ ms) r =
-    let h = run-season ms r.1 in
-    record {
-      table_is = r.0.table ∙ ap (λ (w : List ℕ). (own.shot w m.shot).table) h.table_is;
-      log_is = ap₂ (λ (a : ShotAnswer) (log : List Pair). noted (admits_shot a) m.shot log) (answer-is m ms r h) h.log_is;
-    }
-
--- ---- so of what came back, with the log of what came back
-
-module _ (m : Made) (ms : List Made) (b : AllBytes (events_of (m ∷ ms))) (r : Ran (m ∷ ms)) where
-  -- answer and room are by the log
-  pub run-by-log : Judged (by_log (logged_of ms) m.shot) (record { answer = m.answer; table = m.table; room = m.room })
-  run-by-log =
-      let h = run-season ms r.1 in
-      let j = own-by-log (events_of ms) m.shot b in
-      record {
-        answer = answer-is m ms r h ∙ j.answer ∙ ap (λ (log : List Pair). (by_log log m.shot).0) (sym h.log_is);
-        room = r.0.room ∙ ap (λ (w : List ℕ). (own.shot w m.shot).room) h.table_is ∙ j.room ∙
-            ap (λ (log : List Pair). (by_log log m.shot).1) (sym h.log_is);
-      }
-
-  -- "a shot that is `held` was admitted before"
-  pub run-held : m.answer ≡ Held → 1 ≤ times m.shot.controller m.shot.number (logged_of ms)
-  run-held e =
-      let h = run-season ms r.1 in
-      subst (λ (log : List Pair). 1 ≤ times m.shot.controller m.shot.number log) (sym h.log_is)
-      (season.held-was-admitted (events_of ms) m.shot b (sym (answer-is m ms r h) ∙ e))
-
--- "no pair of controller and number is admitted twice"
-pub run-never-twice : (made : List Made) → AllBytes (events_of made) → Ran made → (key : List ℕ) (n : ℕ) → times key n (logged_of made) ≤ 1
-run-never-twice made b r key n =
-    subst (λ (log : List Pair). times key n log ≤ 1) (sym (run-season made r).log_is) (season.never-twice (events_of made) b key n)

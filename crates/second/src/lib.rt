@@ -1,4 +1,6 @@
 // What a key's buckets count in the last second, from the newest back: the suppressed limiter's fresh factor asks for it.
+#![tactic(auto)]
+
 ghost use Rattle.std.specs.Prelude.{◌≡◌, ◌≤◌, drop};
 ghost use Rattle.ring.specs.Ring.{counts, len_of, buckets};
 ghost use Rattle.ring.specs.Sound.{Sound};

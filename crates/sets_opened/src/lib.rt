@@ -1,4 +1,6 @@
 // A set on a key's slot as a value: whether it changes nothing, its outcome, its edit, its own refusals.
+#![tactic(auto)]
+
 ghost use Rattle.std.specs.Prelude.{◌≡◌, not, ◌&&◌};
 ghost use Rattle.common.specs.Refusals.{first};
 ghost use Rattle.rules.specs.Sets.{preserves};

@@ -1,4 +1,6 @@
 // The settings of a room: they begin as the defaults, and each setter hands them back with one value changed.
+#![tactic(auto)]
+
 ghost use Rattle.std.specs.Prelude.{◌≡◌, ◌≤◌};
 ghost use Rattle.common.specs.Ranges.{factor_ok};
 ghost use Rattle.common.specs.Refusals.{first};
@@ -15,7 +17,7 @@ const DEFAULT_FACTOR: f64 = 1.0;
 pub const MILLISECONDS_PER_SECOND: u64 = 1000;
 
 // The ticks that readings, bucket times and cache times are in.
-#[derive(Drop)]
+#[derive(Clone, Copy)]
 pub enum ClockMode {
     Milliseconds,
     Nanoseconds,
@@ -42,7 +44,7 @@ impl ClockMode {
     }
 }
 
-#[derive(Drop)]
+#[derive(Clone, Copy)]
 pub struct Settings {
     pub window_size: WindowSize,
     pub bucket_size: BucketSize,

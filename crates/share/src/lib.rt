@@ -1,19 +1,21 @@
 // floor(a * b / c) for any words, with no number past 64 bits: a * b is built by halving b, and held as a multiple of
 // c and a part below c.
+#![tactic(auto)]
+
 ghost use Rattle.std.specs.Prelude.{◌≡◌, ◌*◌, ◌+◌, ◌<◌};
 ghost use Rattle.share.specs.Share.{mul_div, value, Comes, Carried, Parts, Halved, Twice};
 
 const MOST: u64 = 18_446_744_073_709_551_615;
 
 // The number whole * c + part.
-#[derive(Drop)]
+#[derive(Clone, Copy)]
 pub struct Share {
     pub whole: u64,
     pub part: u64,
 }
 
 // A number that should be held, or the news that its whole passes a word.
-#[derive(Drop)]
+#[derive(Clone, Copy)]
 pub enum ShareAnswer {
     Fits(Share),
     Over,

@@ -1,5 +1,7 @@
 // The decisions of the calls that both limiters have, on a key's slot that is opened: delete and setting a rate. The room's kind says whose
 // limit is meant. The sets have `sets_opened`; the calls stand above, in `calls`.
+#![tactic(auto)]
+
 ghost use Rattle.std.specs.Prelude.{◌≡◌};
 ghost use Rattle.common.specs.Refusals.{first};
 ghost use Rattle.rules.specs.Both.{limit_in};

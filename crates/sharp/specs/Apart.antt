@@ -8,33 +8,13 @@ use Rattle.rules.specs.declared.RoomKind.TheVariants as kind
 use Rattle.frame.specs.Keys.{Bytes}
 use Rattle.steps.specs.Ops.{Call, verdict_of}
 use Rattle.apart.specs.Apart.{ApartBy, AllGive, itself}
-use Rattle.sharp.specs.Histories.{quiet, overrun, twice, twice_among, by_free, numbers, computed}
+use Rattle.sharp.specs.Histories.{quiet, overrun, twice, twice_among, by_free, numbers}
 
 -- the number that was told last
-abbrev newest : List ℕ → ℕ
+abbrev pub newest : List ℕ → ℕ
 newest [] = 0
 newest (n ∷ ns) = n
 
-no_byte : Bytes []
-no_byte i = omega arith
-
-a_byte : Bytes (1 ∷ [])
-a_byte zero = omega arith
-a_byte (suc i) = omega arith
-
 -- nothing is asked of the promises
-abbrev Any : List (Call kind.Suppressed) → Type 0
+abbrev pub Any : List (Call kind.Suppressed) → Type 0
 Any calls = Unit {0}
-
-pub promises-stay : ApartBy kind.Suppressed ten_seconds (verdict_of kind.Suppressed ten_seconds) Any 1 2 2 → ⊥
-promises-stay f =
-    let e = f quiet overrun (no_byte, tt) (no_byte, (a_byte, (no_byte, tt))) 0 (omega arith, tt) (omega arith, (omega arith, (omega arith, tt))) tt tt
-    (refl, itself _, tt) in
-    omega (arith, ap newest (sym computed.quiet_told ∙ ap numbers e ∙ computed.overrun-told))
-
-pub by-free-slots : ApartBy kind.Suppressed ten_seconds by_free (AllGive 1 1) 1 2 2 → ⊥
-by-free-slots f =
-    let e = f twice twice_among (a_byte, (no_byte, tt)) (a_byte, (no_byte, (no_byte, tt))) 0 (omega arith, (omega arith, tt))
-    (omega arith, (omega arith, (omega arith, tt))) ((refl, refl), ((refl, refl), tt)) ((refl, refl), ((refl, refl), ((refl, refl), tt)))
-    (refl, itself _, (refl, itself _, tt)) in
-    omega (arith, ap newest (sym computed.twice-by-free ∙ ap numbers e ∙ computed.among-by-free))

@@ -1,4 +1,6 @@
 // The shot lines of the program `shots`, read by the parts of `desk`'s lines. A line stands here without its newline.
+#![tactic(auto)]
+
 ghost use Rattle.std.specs.Prelude.{◌≡◌};
 ghost use Rattle.shot_lines.specs.Reading.{read_shot};
 
@@ -6,7 +8,7 @@ use fields::{Number, field_at};
 use lines::{Tail, is_exact, tail_at};
 
 // A shot line: `t=0 ctl=a shot=17 rate=60 draw=0`. The controller's key is the part of the line from `start` up to `end`.
-#[derive(Drop)]
+#[derive(Clone, Copy)]
 pub enum ShotLine {
     Shot {
         t: u64,

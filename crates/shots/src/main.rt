@@ -1,4 +1,6 @@
 // The program `shots`: standard input to standard output.
-fn main() {
-    desk_run::run_shots(libc::STDIN_FILENO);
+#![tactic(auto)]
+
+fn main(rt: HostRuntime) {
+    desk_run::run_shots(&rt, &mut rt.stdin());
 }

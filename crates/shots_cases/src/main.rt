@@ -1,41 +1,40 @@
 // `shots` on inputs that a file has each, lesson 4's among them: after a heading, what it prints for it.
-use libc::STDOUT_FILENO;
+#![tactic(auto)]
 
-fn run(name: &[u8]) {
-    io::write_all(STDOUT_FILENO, b"# ");
-    io::write_all(STDOUT_FILENO, name);
-    io::write_all(STDOUT_FILENO, b"\n");
-    let from = os::open_read(name);
-    if from < 0 {
-        os::fail(name);
-        return;
+use std::fs::File;
+use std::io;
+
+fn run(rt: &HostRuntime, name: &str) -> io::Result<()> {
+    println!(rt; "# {name}")?;
+    match File::open(rt, name) {
+        Ok(mut from) => desk_run::run_shots(rt, &mut from),
+        Err(why) => eprintln!(rt; "{name}: {why}")?,
     }
-    desk_run::run_shots(from);
-    libc::close(from);
+    Ok(())
 }
 
-fn main() {
-    run(b"empty");
-    run(b"settings-alone");
-    run(b"settings-bad");
-    run(b"settings-1");
-    run(b"bad-lines");
-    run(b"long-lines");
-    run(b"numbers");
-    run(b"lower");
-    run(b"sixty-five");
-    run(b"no-slot-free");
-    run(b"full-ring");
-    run(b"thirty-seconds");
-    run(b"held");
-    run(b"long-after");
-    run(b"turned-away");
-    run(b"two-controllers");
-    run(b"clock-back");
-    run(b"refusals");
-    run(b"no-last-newline");
-    run(b"lesson-4");
-    run(b"lesson-4-question-1");
-    run(b"lesson-4-question-2");
-    run(b"lesson-4-question-3");
+fn main(rt: HostRuntime) -> io::Result<()> {
+    run(&rt, "empty")?;
+    run(&rt, "settings-alone")?;
+    run(&rt, "settings-bad")?;
+    run(&rt, "settings-1")?;
+    run(&rt, "bad-lines")?;
+    run(&rt, "long-lines")?;
+    run(&rt, "numbers")?;
+    run(&rt, "lower")?;
+    run(&rt, "sixty-five")?;
+    run(&rt, "no-slot-free")?;
+    run(&rt, "full-ring")?;
+    run(&rt, "thirty-seconds")?;
+    run(&rt, "held")?;
+    run(&rt, "long-after")?;
+    run(&rt, "turned-away")?;
+    run(&rt, "two-controllers")?;
+    run(&rt, "clock-back")?;
+    run(&rt, "refusals")?;
+    run(&rt, "no-last-newline")?;
+    run(&rt, "lesson-4")?;
+    run(&rt, "lesson-4-question-1")?;
+    run(&rt, "lesson-4-question-2")?;
+    run(&rt, "lesson-4-question-3")
 }

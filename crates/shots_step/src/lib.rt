@@ -1,4 +1,6 @@
 // What the program `shots` makes of a line: a shot at the gateway, by its one party, and the line to print.
+#![tactic(auto)]
+
 ghost use Rattle.desk_lines.specs.Step.{Answered};
 ghost use Rattle.shots_step.specs.Shots.{shot_of, stepped};
 

@@ -1,4 +1,6 @@
 // Freeing what a cleanup finds stale: series by their newest bucket, cached factors by their time.
+#![tactic(auto)]
+
 ghost use Rattle.std.specs.Prelude.{◌≡◌, ◌≤◌, ◌<◌};
 ghost use Rattle.settings.specs.Clock.{age_in_milliseconds};
 ghost use Rattle.ring.specs.Ring.{buckets, Shape};

@@ -1,9 +1,7 @@
 pub mod Ops
 pub mod Moves
 pub mod Places
-pub mod Rights
 pub mod Step
-pub mod Each
 pub mod Leaves
 pub mod Sound
 pub mod History

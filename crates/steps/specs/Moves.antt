@@ -75,13 +75,6 @@ Stores kind s t Free = Unit {0}
 Stores kind s t (Update e) = Right kind s t e
 Stores kind s t (Take e) = Right kind s t e
 
--- so other keys' slots stand, and keys stay distinct (`Placed-same`, `placed-distinct`)
-pub moves-placed : (x : Slot) (w : List ℕ) (k : Key) (at : ℕ) (change : Change) → Moves x w k at change → Placed w at k change
-moves-placed x w k at Keep m = tt
-moves-placed x w k at Free m = m
-moves-placed x w k at (Update e) m = m.owns
-moves-placed x w k at (Take e) m = m.lacks
-
 -- a call that passed refusals 1 to 7, 15 and 16, and its change
 pub record Does (kind : RoomKind) (s : Settings) (w : List ℕ) (t : ℕ) (key : Sent) (at : ℕ) (change : Change) : Type 0 where
   pub passed : Passed kind s w t key

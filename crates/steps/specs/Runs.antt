@@ -44,26 +44,8 @@ pub record IsHistory (kind : RoomKind) (s : Settings) (w : List ℕ) (made : Lis
   pub words_are : left w made ≡ words kind s w (calls_of made)
   pub rows_are : rows_of made ≡ rows kind s w (calls_of made)
 
-pub run-history : (kind : RoomKind) (s : Settings) (w : List ℕ) (made : List (Made kind)) → Ran kind s w made → IsHistory kind s w made
-run-history kind s w [] r = record { words_are = refl; rows_are = refl }
-run-history kind s w (m ∷ ms) r =
-    let h = run-history kind s w ms r.1 in
-    record {
-      words_are = r.0.words ∙ ap (λ (v : List ℕ). after kind s v m.reading m.op) h.words_are;
-      rows_are =
-          ap₂ (λ (x : List ℕ) (xs : List (List ℕ)). x ∷ xs)
-          (ap (row_of m.op) r.0.answer ∙ ap (λ (v : List ℕ). answer_row kind s v m.reading m.op) h.words_are) h.rows_are;
-    }
-
 -- ---- the provider's cleanup has a contract of both rooms: it meets each room's
 
 pub record BothTold (s : Settings) (a b : List ℕ) (t : ℕ) (c d : Caller) (stale : ℕ) (r : DoneAnswer) (x y : List ℕ) : Type 0 where
   pub absolute : Told (verdict_of Absolute s a t (cleanup_both c b d stale)) r x
   pub suppressed : Told (verdict_of Suppressed s b t (cleanup_both d a c stale)) r y
-
-pub both_told : (s : Settings) (a b : List ℕ) (t : ℕ) (c d : Caller) (stale : ℕ) (r : DoneAnswer) (x y : List ℕ) →
-    Provider.Told (Provider.cleanup s a b t c d stale) r x y → BothTold s a b t c d stale r x y
-both_told s a b t c d stale r x y o = record {
-  absolute = record { answer = o.answer; words = o.absolute };
-  suppressed = record { answer = o.answer; words = o.suppressed };
-}

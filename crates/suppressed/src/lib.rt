@@ -1,4 +1,6 @@
 // The suppressed limiter whole: its own calls, and those that both limiters have.
+#![tactic(auto)]
+
 ghost use Rattle.parties.specs.Parties.{sent};
 ghost use Rattle.judge.specs.Verdict.{Told};
 ghost use Rattle.clearing.specs.Clear as Clear;

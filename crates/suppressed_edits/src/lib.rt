@@ -1,4 +1,6 @@
 // What the calls change of a key's slot, once its factor is known.
+#![tactic(auto)]
+
 ghost use Rattle.std.specs.Prelude.{◌≡◌};
 ghost use Rattle.suppressed_edits.specs.Edits.{use_left, recached, get_change, lone_by, lone_change, factor_change, inc_edit, inc_change};
 

@@ -1,4 +1,6 @@
 // The suppressed limiter's increment. Everything that is refused is settled before the first word is written.
+#![tactic(auto)]
+
 ghost use Rattle.std.specs.Prelude.{◌≡◌, ◌≤◌};
 ghost use Rattle.common.specs.Refusals.{first};
 ghost use Rattle.settings.specs.Settings.{bucket_in};

@@ -1,4 +1,6 @@
 // What the suppressed limiter says of a key without counting: its live totals with its factor, and the factor alone, which takes a slot.
+#![tactic(auto)]
+
 ghost use Rattle.std.specs.Prelude.{◌≡◌};
 ghost use Rattle.parties.specs.Parties.{sent};
 ghost use Rattle.judge.specs.Verdict.{Told};

@@ -1,4 +1,6 @@
 // An increment's own refusals 8 to 12.
+#![tactic(auto)]
+
 ghost use Rattle.std.specs.Prelude.{◌≡◌, ◌≤◌};
 ghost use Rattle.common.specs.Refusals.{first};
 ghost use Rattle.settings.specs.Settings.{bucket_in};

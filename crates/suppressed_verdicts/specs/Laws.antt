@@ -27,8 +27,9 @@ use Rattle.opened.specs.declared.Slot.{Slot}
 use Rattle.judge.specs.Held.{held_in}
 use Rattle.judge.specs.Judge.{early, judged_with, Passed, slot_in, looked_in}
 use Rattle.opened.specs.Slot.{has_slot}
-use Rattle.judge.specs.Laws.{code_is, none_is, slot_is, passed, free-there}
-use Rattle.judge.specs.Verdict.{Told, call-early, call-own, call-done}
+use Rattle.judge.proofs.Laws.{code_is, none_is, slot_is, passed, free-there}
+use Rattle.judge.specs.Verdict.{Told}
+use Rattle.judge.proofs.Verdict.{call-early, call-own, call-done}
 use Rattle.change.specs.declared.Change.{Change}
 use Rattle.change.specs.declared.Change.TheVariants.{Keep, Update, Take}
 use Rattle.edit.specs.declared.Edit.{Edit}

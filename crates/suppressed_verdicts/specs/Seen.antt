@@ -36,7 +36,7 @@ use Rattle.change.specs.Words.{applied}
 use Rattle.opened.specs.declared.Slot.{Slot}
 use Rattle.judge.specs.Held.{held_in}
 use Rattle.judge.specs.Judge.{Passed, slot_in, looked_in}
-use Rattle.judge.specs.Verdict.{call-alike}
+use Rattle.judge.proofs.Verdict.{call-alike}
 use Rattle.plan.specs.Plan.{place_of, lacks_at, full_after}
 use Rattle.opened.specs.Look.{look_at, look-series}
 use Rattle.plan.specs.Seen.{Seen, seen, seen-looked, held-there, full-after, lacks-is}

@@ -6,7 +6,7 @@ use Rattle.std.proofs.Common.{sym, ap, ap₂, subst, ◌∙◌, arith}
 use Rattle.std.proofs.Math.Bool.{true, false, not, cond}
 use Rattle.std.proofs.lemmas.Bool.{false≢true}
 use Rattle.std.proofs.Math.Decide.{dec_lt}
-use Rattle.rules.specs.Laws.{recent-among}
+use Rattle.rules.proofs.Laws.{recent-among}
 use Rattle.settings.specs.Clock.{longest, window_ticks, look_ticks}
 use Rattle.settings.specs.declared.Settings.{Settings}
 use Rattle.rules.specs.Buckets.{last_second}

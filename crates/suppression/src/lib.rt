@@ -1,11 +1,13 @@
 // The suppression factor: worked out, judged as a word of the room, and held against a draw.
+#![tactic(auto)]
+
 ghost use Rattle.std.specs.Prelude.{◌≡◌};
 ghost use Rattle.suppression.specs.Factor.{larger, fresh_factor, factor_word_ok, admitted};
 
 use common::{WindowSize, double_of};
 
 // A factor and the reading at which it was cached.
-#[derive(Drop)]
+#[derive(Clone, Copy)]
 pub struct CachedFactor {
     pub suppression_factor: f64,
     pub time: u64,

@@ -38,9 +38,9 @@ module _ (r : ℕ) (b : List ℕ) (last t w look : ℕ) where
   pub looked-not : sound_buckets r b last ≡ false → unsound ≡ looked_pass look t b (pass_of r b last t w)
   looked-not n = look-unsound look t b ∙ ap (looked_pass look t b) (pass-not r b last t w n)
 
-  all_in : sound_buckets r b last ≡ true → ahead w t (buckets r b) ≡ 0 →
+  all-in : sound_buckets r b last ≡ true → ahead w t (buckets r b) ≡ 0 →
       all_in (total_of b) (declined_of b) (found (len_of b) (buckets r b) t w) ≡ found (len_of b) (buckets r b) t w
-  all_in e z =
+  all-in e z =
       let xs = buckets r b in
       let k = sound-true r b last e in
       let total = k.total ∙ ap (λ (n : ℕ). counts (drop n xs)) (sym z) in
@@ -58,7 +58,7 @@ module _ (r : ℕ) (b : List ℕ) (last t w look : ℕ) where
       p = found (len_of b) (buckets r b) t w
 
       go : (z : Bool) → eqb (ahead w t (buckets r b)) 0 ≡ z → all_in (total_of b) (declined_of b) p ≡ looked_pass look t b p
-      go true q = all_in e (eqb-true _ _ q) ∙ look_none look t b p (ap (λ (z : Bool). not (z || ltb look (t - (get_or (buckets r b) 0 no_bucket).time))) q)
+      go true q = all-in e (eqb-true _ _ q) ∙ look_none look t b p (ap (λ (z : Bool). not (z || ltb look (t - (get_or (buckets r b) 0 no_bucket).time))) q)
       go false q = sym (rw (q, h))
 
   -- what is sound finds what the rules say; the fields as the code has them

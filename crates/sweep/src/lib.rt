@@ -1,4 +1,6 @@
 // A key's buckets judged and measured, for both limiters.
+#![tactic(auto)]
+
 ghost use Rattle.std.specs.Prelude.{◌≡◌, ◌-◌, ltb, get_or};
 ghost use Rattle.ring.specs.Ring.{Shape, no_bucket, buckets};
 ghost use Rattle.rules.specs.Buckets as Rules;

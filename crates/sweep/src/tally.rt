@@ -1,7 +1,7 @@
 // What the pass over a key's buckets carries and finds.
 
 // What a sweep has met so far: the last time, and what the totals (`left` of the counts, `spare` of the declined) have left.
-#[derive(Drop)]
+#[derive(Clone, Copy)]
 pub struct Tally {
     pub lo: u64,
     pub left: u64,
@@ -9,7 +9,7 @@ pub struct Tally {
 }
 
 // The oldest buckets that go: how many, and the totals without them.
-#[derive(Drop)]
+#[derive(Clone, Copy)]
 pub struct Gone {
     pub buckets: usize,
     pub total: u64,
@@ -17,7 +17,7 @@ pub struct Gone {
 }
 
 // Of a bucket what a rejection and a first look ask for.
-#[derive(Drop)]
+#[derive(Clone, Copy)]
 pub struct Mark {
     pub count: u64,
     pub time: u64,
@@ -25,7 +25,7 @@ pub struct Mark {
 
 // What a pass finds at a look: `expired` is how many go, `oldest` the oldest that is left, `eldest` the oldest of all. Where the buckets are
 // not sound, all is zero.
-#[derive(Drop)]
+#[derive(Clone, Copy)]
 pub struct Pass {
     pub sound: bool,
     pub buckets: usize,

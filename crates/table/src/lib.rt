@@ -1,5 +1,7 @@
 // A gateway's table in lent words: judging it, finding a controller, and remembering a number. Header and entries stand as in a room; nobody
 // holds an entry, since a controller is known by its bytes alone.
+#![tactic(auto)]
+
 ghost use Rattle.std.specs.Prelude.{◌≡◌, ◌+◌, ◌≤◌, ◌<◌, set};
 ghost use Rattle.base.specs.Decides.{Decides};
 ghost use Rattle.layout.specs.Layout.{slots_word};
@@ -18,7 +20,7 @@ const WORDS: usize = layout::HEADER + layout::ENTRY * MOST_CONTROLLERS;
 const LONGEST_KEY: usize = layout::LONGEST_KEY as usize;
 
 // Whether the table is sound for a controller, and if so its entry and its last number: the number of entries and 0 where it is not known.
-#[derive(Drop)]
+#[derive(Clone, Copy)]
 pub struct Looked {
     pub sound: bool,
     pub at: usize,

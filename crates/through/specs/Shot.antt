@@ -23,20 +23,11 @@ use Rattle.suppressed_verdicts.specs.Calls.{inc}
 use Rattle.table.specs.Table.{sound_for}
 use Rattle.gateway.specs.Gateway.{is_held, gate_turns, limiter_turns, unless_held, shot_turns, as_shot, admits_shot, Verdict, passed, unless_refused, shot}
 use Rattle.gateway.specs.Steps.{asked}
-use Rattle.gateway.specs.Laws.{shot-asked}
+use Rattle.gateway.proofs.Laws.{shot-asked}
 
 -- whether the limiter is asked: the table is sound, 19 to 21 are not met, and the shot is not held
 unfoldable pub asks : List ℕ → List ℕ → ℕ → Bool
 asks w key number = sound_for w key && (eqb (first (gate_turns w key number)) 0 && not (is_held w key number))
-
--- ---- the limiter's answer, handed on
-
-pub as-shot-row : (d : RateLimitDecision) → shot_row (as_shot d) ≡ decision_row d
-unfolding shot_row decision_row
-as-shot-row decision.Allowed = refl
-as-shot-row (decision.Rejected window wait rest) = refl
-as-shot-row (decision.Suppressed f is) = refl
-as-shot-row (decision.Refused n) = refl
 
 -- ---- a shot that the limiter is not asked about
 
@@ -45,58 +36,3 @@ pub record Quiet (r : List ℕ) (v : Verdict) : Type 0 where
   pub room : v.room ≡ r
   pub none : admits_shot v.answer ≡ false
   pub said : (v.answer ≡ Held) ⊎ (number_of (shot_row v.answer) ≢ 0)
-
-five-unmet : (sound : Bool) → first ((5, not sound) ∷ []) ≡ 0 → sound ≡ true
-unfolding first
-five-unmet true e = refl
-five-unmet false e = absurd (omega arith)
-
-module _ (s : Settings) (w r : List ℕ) (t : ℕ) (key : Sent) (number : ℕ) (rate : RateLimit) (draw : ℕ) where
-  asks-then : sound_for w key.bytes ≡ true → first (gate_turns w key.bytes number) ≡ 0 → is_held w key.bytes number ≡ false →
-      asks w key.bytes number ≡ true
-  unfolding asks
-  asks-then o g h = rw (o, eq-eqb (first (gate_turns w key.bytes number)) 0 g, h)
-
-  -- where nothing refuses a shot that is not held, the table is sound and the limiter is asked
-  then-asks : first (gate_turns w key.bytes number ++ limiter_turns s w r t key rate draw) ≡ 0 → is_held w key.bytes number ≡ false →
-      asks w key.bytes number ≡ true
-  unfolding gate_turns faults
-  then-asks e h =
-      let g = first-both (gate_turns w key.bytes number) (limiter_turns s w r t key rate draw) (omega arith) e in
-      let f = first-both (faults s) _ (omega arith) g.1 in
-      let o = first-both ((5, not (sound_for w key.bytes)) ∷ []) _ (omega arith) f.1 in
-      asks-then (five-unmet (sound_for w key.bytes) o.0) g.0 h
-
-  pub shot-quiet : asks w key.bytes number ≡ false → Quiet r (shot s w r t key number rate draw)
-  unfolding shot unless_refused shot_row
-  shot-quiet e = go (is_held w key.bytes number) refl (eqb (first (shot_turns s w r t key number rate draw)) 0) refl
-    where
-      go : (h : Bool) → is_held w key.bytes number ≡ h → (z : Bool) →
-          let n = first (gate_turns w key.bytes number ++ unless_held h (limiter_turns s w r t key rate draw)) in
-          let v = passed h s w r t key number rate draw in
-          eqb n 0 ≡ z → Quiet r (record { answer = cond z v.answer (Refused n); table = cond z v.table w; room = cond z v.room r })
-      go true p true q = record { room = refl; none = refl; said = inl refl }
-      go true p false q = record { room = refl; none = refl; said = inr (eqb-false _ 0 q) }
-      go false p true q = absurd (false≢true (sym e ∙ then-asks (eqb-true _ 0 q) p))
-      go false p false q = record { room = refl; none = refl; said = inr (eqb-false _ 0 q) }
-
-  -- ---- and one that it is
-
-  pub shot-by-limiter : asks w key.bytes number ≡ true → asked s w r t key number rate draw ≡ shot s w r t key number rate draw
-  unfolding asks
-  shot-by-limiter e =
-      let a = and-true (sound_for w key.bytes) _ e in
-      let b = and-true (eqb (first (gate_turns w key.bytes number)) 0) _ a.1 in
-      shot-asked s w r t key number rate draw a.0 (eqb-true _ 0 b.0) (unheld (is_held w key.bytes number) b.1)
-    where
-      unheld : (h : Bool) → not h ≡ true → h ≡ false
-      unheld true q = absurd (false≢true q)
-      unheld false q = refl
-
-  pub limiter-answers : asks w key.bytes number ≡ true → (shot s w r t key number rate draw).answer ≡ as_shot (inc s r t key rate 1 draw).answer
-  unfolding asked
-  limiter-answers e = ap (λ (v : Verdict). v.answer) (sym (shot-by-limiter e))
-
-  pub limiter-leaves : asks w key.bytes number ≡ true → (shot s w r t key number rate draw).room ≡ (inc s r t key rate 1 draw).words
-  unfolding asked
-  limiter-leaves e = ap (λ (v : Verdict). v.room) (sym (shot-by-limiter e))

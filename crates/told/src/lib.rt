@@ -1,4 +1,6 @@
 // What a line of `desk` tells, in the words of `answers`, and the line that tells it. `readback` reads it back.
+#![tactic(auto)]
+
 ghost use Rattle.std.specs.Prelude.{◌≡◌};
 ghost use Rattle.told.specs.Told.{bad_line, said, yes_or_no, refused_line, decided, live, snapped, decision_of, line_of};
 
@@ -9,14 +11,14 @@ use printing::{Answer, AnswerLine};
 pub const BAD_LINE: u64 = 14;
 
 // A key's totals.
-#[derive(Drop)]
+#[derive(Clone, Copy)]
 pub struct Stored {
     pub total: u64,
     pub declined: u64,
 }
 
 // What is told of a call. `wait` is in milliseconds.
-#[derive(Drop)]
+#[derive(Clone, Copy)]
 pub enum Told {
     Allowed(Stored),
     Rejected {
@@ -37,21 +39,21 @@ pub enum Told {
 }
 
 // A line of `desk`: a reading, and what is told of the call made at it.
-#[derive(Drop)]
+#[derive(Clone, Copy)]
 pub struct ToldLine {
     pub t: u64,
     pub told: Told,
 }
 
 // What reading a line back answers.
-#[derive(Drop)]
+#[derive(Clone, Copy)]
 pub enum LineAnswer {
     Line(ToldLine),
     Refused(u64),
 }
 
 // A decision that was told, if it was one.
-#[derive(Drop)]
+#[derive(Clone, Copy)]
 pub enum DecisionTold {
     Decision(RateLimitDecision),
     NoDecision,

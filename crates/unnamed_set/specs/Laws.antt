@@ -19,7 +19,7 @@ use Rattle.rules.specs.Held.{Held, lacks_slot}
 use Rattle.rules.specs.Sets.{still_for, set_turns}
 use Rattle.judge.specs.declared.Judged.{Judged}
 use Rattle.judge.specs.Judge.{refusals, early, judged, slot_in}
-use Rattle.judge.specs.Laws.{code_is, refused-early, refused-own}
+use Rattle.judge.proofs.Laws.{code_is, refused-early, refused-own}
 use Rattle.sets_opened.specs.Sets.{set_own}
 use Rattle.unnamed_set.specs.Unnamed.{bad_call, blind_turns, refusal}
 

@@ -1,4 +1,6 @@
 // A set whose comparator or mode is not named: it is judged as far as it can be without them.
+#![tactic(auto)]
+
 ghost use Rattle.std.specs.Prelude.{◌≡◌};
 ghost use Rattle.parties.specs.Parties.{sent};
 ghost use Rattle.unnamed_set.specs.Unnamed.{refusal};

@@ -1,3 +1,2 @@
 pub mod Limiters
-pub mod Totals
 pub mod Histories

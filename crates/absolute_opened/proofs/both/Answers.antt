@@ -1,0 +1,12 @@
+-- By the first.
+use borrow.Author.Tests.{not-true, not-false}
+use borrow.Author.Rules.{rules}
+use Rattle.absolute_opened.proofs.both.Goals as goal
+
+pub returns-then-not-a : goal.returns-then-not-a
+returns-then-not-a c =
+    rw c.if-not-a.true
+
+pub returns : goal.returns
+returns c =
+    rw c.if-not-a.false

@@ -1,0 +1,28 @@
+-- By whether a live bucket is left.
+use mathlib.Core.Path.{sym, subst}
+use Prim.Native.Nat.{ℕ, ◌≤◌}
+use borrow.Author.Tests.{lt-ltb, le-ltb}
+use Rattle.settings.specs.Clock.{ticks-some}
+use Rattle.absolute_test.specs.Test.{rejected_at}
+use borrow.Author.Rules.{rules}
+use Rattle.absolute_test.proofs.rejected.Goals as goal
+
+pub returns-then-buckets-expired : goal.returns-then-buckets-expired
+unfolding rejected_at
+returns-then-buckets-expired c =
+    let x = c.args.x in rw (le-ltb x.pass.expired x.pass.buckets c.if-buckets-expired.true)
+
+pub nonzero_div-less : goal.nonzero_div-less
+nonzero_div-less c =
+    subst (λ (n : ℕ). 1 ≤ n) (sym c.ticks_per_millisecond.ensures) (ticks-some c.args.settings)
+
+pub returns : goal.returns
+unfolding rejected_at
+returns c =
+    let x = c.args.x in
+    rw (
+      lt-ltb x.pass.expired x.pass.buckets c.if-buckets-expired.false,
+      c.less-2.ensures,
+      c.less.ensures,
+      c.ticks_per_millisecond.ensures,
+    )

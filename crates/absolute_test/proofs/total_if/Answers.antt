@@ -1,0 +1,12 @@
+-- By whether they are out.
+use borrow.Author.Tests.{not-true, not-false}
+use borrow.Author.Rules.{rules}
+use Rattle.absolute_test.proofs.total_if.Goals as goal
+
+pub returns-then-not-out : goal.returns-then-not-out
+returns-then-not-out c =
+    rw c.if-not-out.true
+
+pub returns : goal.returns
+returns c =
+    rw c.if-not-out.false

@@ -1,0 +1,3 @@
+pub mod Buckets
+pub mod Good
+pub mod Log

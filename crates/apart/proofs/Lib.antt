@@ -1,0 +1,12 @@
+pub mod Alone
+pub mod Apart
+pub mod Calls
+pub mod Count
+pub mod Holds
+pub mod Like
+pub mod One
+pub mod Own
+pub mod Promised
+pub mod Step
+pub mod Told
+pub mod Whole

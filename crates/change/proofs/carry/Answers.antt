@@ -1,0 +1,38 @@
+-- Each arm is its case of the definition.
+use Rattle.room.specs.Laws.{room-directory}
+use Rattle.change.specs.Words.{Applies, carried}
+use borrow.Author.Rules.{rules}
+use Rattle.change.proofs.carry.Goals as goal
+
+pub release-requires : goal.release-requires
+release-requires c =
+    let p = rw c.in-Free.is at c.requires in
+    (room-directory p.room, p.inside)
+
+pub update-requires : goal.update-requires
+update-requires c =
+    rw c.in-Update.is at c.requires
+
+pub take-requires : goal.take-requires
+take-requires c =
+    rw c.in-Take.is at c.requires
+
+pub returns-in-Keep : goal.returns-in-Keep
+unfolding carried
+returns-in-Keep c =
+    rw c.in-Keep.is
+
+pub returns-in-Free : goal.returns-in-Free
+unfolding carried
+returns-in-Free c =
+    rw c.in-Free.is c.release.ensures
+
+pub returns-in-Update : goal.returns-in-Update
+unfolding carried
+returns-in-Update c =
+    rw c.in-Update.is c.update.ensures
+
+pub returns-in-Take : goal.returns-in-Take
+unfolding carried
+returns-in-Take c =
+    rw c.in-Take.is c.take.ensures

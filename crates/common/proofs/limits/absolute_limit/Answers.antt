@@ -1,0 +1,9 @@
+-- The word is that of the product.
+use Rattle.common.specs.Limits.{absolute_word}
+use Rattle.std.proofs.Common.{rules}
+use Rattle.common.proofs.limits.absolute_limit.Goals as goal
+
+pub returns : goal.returns
+unfolding absolute_word
+returns c =
+    rw c.nearest_u64_to_f64.ensures at c.word_of.ensures

@@ -1,0 +1,13 @@
+-- A NaN fails the first test. The constant's bits are the largest finite double's.
+use lib.Ieee.{of_bits}
+use Rattle.common.proofs.units.is_real_from.Goals as goal
+
+pub returns-then-x-least : goal.returns-then-x-least
+unfolding of_bits
+returns-then-x-least c =
+    simp c.if-x-least.true
+
+pub returns-else-x-least : goal.returns-else-x-least
+unfolding of_bits
+returns-else-x-least c =
+    simp c.if-x-least.false

@@ -1,0 +1,13 @@
+pub mod Cleans
+pub mod Clears
+pub mod Decided
+pub mod Demand3
+pub mod Folds
+pub mod History
+pub mod Increments
+pub mod Keys
+pub mod Mission
+pub mod Modes
+pub mod Owned
+pub mod Steps
+pub mod MissionPromises

@@ -1,0 +1,13 @@
+-- A byte past the room that is lent is passed over.
+-- Assumes nothing.
+use Rattle.desk_feed.specs.Laws.{keep-full, keep-more}
+use borrow.Author.Rules.{rules}
+use Rattle.desk_feed.proofs.keep.Goals as goal
+
+pub returns-then-hold-held : goal.returns-then-hold-held
+returns-then-hold-held c =
+    let a = c.args in keep-full a.desk a.hold.now a.b c.if-hold-held.true
+
+pub returns : goal.returns
+returns c =
+    let a = c.args in keep-more a.desk a.hold.now a.b c.if-hold-held.false

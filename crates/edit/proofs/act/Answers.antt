@@ -1,0 +1,36 @@
+-- Each arm is its case of the definition.
+use Rattle.edit.specs.Bodies.{Acts, acted}
+use borrow.Author.Rules.{rules}
+use Rattle.edit.proofs.act.Goals as goal
+
+pub increment-requires : goal.increment-requires
+increment-requires c =
+    rw c.in-Increment.is at c.requires
+
+pub replace-requires : goal.replace-requires
+replace-requires c =
+    rw c.in-Replace.is at c.requires
+
+pub preserve-requires : goal.preserve-requires
+preserve-requires c =
+    rw c.in-Preserve.is at c.requires
+
+pub returns-in-Nothing : goal.returns-in-Nothing
+unfolding acted
+returns-in-Nothing c =
+    rw c.in-Nothing.is
+
+pub returns-in-Increment : goal.returns-in-Increment
+unfolding acted
+returns-in-Increment c =
+    rw c.in-Increment.is c.increment.ensures
+
+pub returns-in-Replace : goal.returns-in-Replace
+unfolding acted
+returns-in-Replace c =
+    rw c.in-Replace.is c.replace.ensures
+
+pub returns-in-Preserve : goal.returns-in-Preserve
+unfolding acted
+returns-in-Preserve c =
+    rw c.in-Preserve.is c.preserve.ensures

@@ -1,0 +1,7 @@
+-- The words are opened.
+use borrow.Author.Rules.{rules}
+use Rattle.factor_opened.proofs.kept.Goals as goal
+
+pub returns : goal.returns
+returns c =
+    rw c.double_of.ensures

@@ -1,0 +1,23 @@
+-- `lines::digit` meets its contract: each arm knows the class, and the class is `class_of b`.
+-- Assumes nothing.
+use mathlib.Core.Path.{sym, ap, ◌∙◌}
+use Prim.Native.Nat.{◌+◌}
+use Rattle.fields.specs.Bytes.{digit_in, digit_of, digit-small}
+use borrow.Author.Rules.{rules}
+use Rattle.fields.proofs.digit.Goals as goal
+
+pub returns-in-Digit : goal.returns-in-Digit
+returns-in-Digit c =
+    sym (ap digit_in (sym c.class_of-c.ensures ∙ c.in-Digit.is))
+
+pub returns-in-Letter : goal.returns-in-Letter
+returns-in-Letter c =
+    sym (ap digit_in (sym c.class_of-c.ensures ∙ c.in-Letter.is))
+
+pub returns-in-Separator : goal.returns-in-Separator
+returns-in-Separator c =
+    sym (ap digit_in (sym c.class_of-c.ensures ∙ c.in-Separator.is))
+
+pub returns-in-Bad : goal.returns-in-Bad
+returns-in-Bad c =
+    sym (ap digit_in (sym c.class_of-c.ensures ∙ c.in-Bad.is))

@@ -1,0 +1,17 @@
+use native.Mathlib.Omega.{arith}
+use Prim.Native.Nat.{◌+◌, ◌-◌, ◌*◌, ◌≤◌, ◌<◌}
+use mathlib.Core.Path.{◌≡◌, refl, sym, ap, ◌∙◌}
+use lib.ListN.{length, get_or, drop}
+use Rattle.fields.specs.Numbers.{value, value_from}
+use Rattle.fields.specs.Ranges.{largest}
+use Rattle.fields.specs.Turns.{value-past, digit-read, number-turn, number-over, number_fits}
+use borrow.Author.Rules.{rules}
+use Rattle.fields.proofs.number_in.Given as goal
+
+abbrev pub invariant-loop-i : goal.invariant-loop-i
+invariant-loop-i l =
+    (value l.digits ≡ value_from l.value (drop l.i l.digits)) × (l.value ≤ largest)
+
+abbrev pub decreases-loop-i : goal.decreases-loop-i
+decreases-loop-i l =
+    length l.digits - l.i

@@ -1,0 +1,7 @@
+-- Each value is what its number says.
+use borrow.Author.Rules.{rules}
+use Rattle.inputs.proofs.settings.Goals as goal
+
+pub returns : goal.returns
+returns c =
+    rw c.clock_of.ensures

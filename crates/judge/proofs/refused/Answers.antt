@@ -1,0 +1,7 @@
+-- Its slot is none.
+use borrow.Author.Rules.{rules}
+use Rattle.judge.proofs.refused.Goals as goal
+
+pub returns : goal.returns
+returns c =
+    rw c.no_slot.ensures

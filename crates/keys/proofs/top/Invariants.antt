@@ -1,0 +1,13 @@
+use mathlib.Core.Path.{◌≡◌, refl, ap, ◌∙◌}
+use Prim.Native.Nat.{◌-◌, ◌≤◌, ◌^◌}
+use native.Mathlib.Omega.{arith}
+use Rattle.keys.specs.KeyLaws.{power-fits, power-turn}
+use Rattle.keys.proofs.top.Given as goal
+
+abbrev pub invariant-loop-k : goal.invariant-loop-k
+invariant-loop-k l =
+    (l.k ≤ l.n) × (l.x ≡ 256 ^ l.k)
+
+abbrev pub decreases-loop-k : goal.decreases-loop-k
+decreases-loop-k l =
+    l.n - l.k

@@ -1,0 +1,8 @@
+-- A slot is its parts.
+-- Assumes nothing.
+use borrow.Author.Rules.{rules}
+use Rattle.opened.proofs.rebuilt.Goals as goal
+
+pub returns : goal.returns
+returns c =
+    rw (← c.again.ensures, ← c.again-2.ensures) c.with_pass.ensures

@@ -1,0 +1,18 @@
+-- `printing::hex_digit` meets its contract: a digit below ten, and a letter from ten on.
+-- Assumes nothing.
+use mathlib.Core.Path.{sym}
+use native.Mathlib.Omega.{arith}
+use borrow.Author.Tests.{lt-ltb, le-ltb}
+use Rattle.printing.specs.Answers.{hex_digit}
+use borrow.Author.Rules.{rules}
+use Rattle.printing.proofs.hex_digit.Goals as goal
+
+pub returns-then-d-lt10 : goal.returns-then-d-lt10
+unfolding hex_digit
+returns-then-d-lt10 c =
+    rw (lt-ltb _ _ c.if-d-lt10.true)
+
+pub returns-else-d-lt10 : goal.returns-else-d-lt10
+unfolding hex_digit
+returns-else-d-lt10 c =
+    rw (le-ltb _ _ c.if-d-lt10.false)

@@ -1,0 +1,15 @@
+-- `printing::put_counts` meets its contract: four fields, one after the other.
+-- Assumes nothing.
+use native.Mathlib.Omega.{arith}
+use Rattle.printing.specs.Answers.{show_counts}
+use Rattle.printing.specs.Printing.{put_four}
+use borrow.Author.Rules.{rules}
+use Rattle.printing.proofs.put_counts.Goals as goal
+
+pub returns : goal.returns
+unfolding show_counts
+returns c =
+    put_four _ _ _ _ _ _ _ _ _ _ _ _ _ _
+    c.put_field-a.ensures c.put_field-b.ensures
+    c.put_field-c.ensures c.put_field.ensures
+    c.requires

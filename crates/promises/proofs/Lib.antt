@@ -1,0 +1,10 @@
+pub mod Answers
+pub mod Apart
+pub mod Boundary
+pub mod Determined
+pub mod Refusals
+pub mod Rules
+pub mod Shots
+pub mod Sound
+pub mod Units
+pub mod NeverFive

@@ -1,0 +1,16 @@
+-- `quick::part` meets its contract. Assumes nothing.
+use borrow.Author.Rules.{rules}
+use native.Mathlib.Omega.{arith}
+use mathlib.Core.Path.{◌≡◌, refl, sym, ap, ◌∙◌}
+use Prim.Native.Nat.{◌-◌, ◌+◌, ◌*◌, ◌≤◌, ◌<◌}
+use lib.ListN.{length}
+use Rattle.quick.specs.Quick.{run_of}
+use Rattle.quick.specs.Turns.{rows-cells}
+use borrow.Author.Rules.{rules}
+use Rattle.quick.proofs.part.Goals as goal
+
+pub returns : goal.returns
+returns c =
+    let a = c.args in
+    let p = c.requires in
+    c.run.ensures ∙ ap (run_of a.plain a.a) (rows-cells a.r a.b.now a.j a.m p.0.long p.1)

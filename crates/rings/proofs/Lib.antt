@@ -1,0 +1,6 @@
+pub mod Rings
+pub mod Roomy
+pub mod Spaced
+pub mod Window
+pub mod Wrong
+pub mod Least

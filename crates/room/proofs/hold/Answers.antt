@@ -1,0 +1,20 @@
+-- Each word with its bit.
+-- Assumes nothing.
+use mathlib.Core.Path.{ap₂}
+use Prim.Native.Nat.{ℕ}
+use native.Mathlib.Omega.{arith}
+use lib.ListN.{set, length-set}
+use borrow.Author.Rules.{rules}
+use Rattle.layout.specs.Layout.{firsts_word, seconds_word}
+use Rattle.room.specs.Room.{held}
+use Rattle.room.proofs.hold.Goals as goal
+
+pub bounds-w-4-2 : goal.bounds-w-4-2
+bounds-w-4-2 c =
+    simp length-set (omega arith)
+
+pub returns : goal.returns
+unfolding held
+returns c =
+    let w = c.args.w.now in
+    ap₂ (λ (x y : ℕ). set (set w firsts_word x) seconds_word y) c.with_bit-firsts.ensures c.with_bit-seconds.ensures

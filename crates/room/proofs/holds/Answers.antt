@@ -1,0 +1,21 @@
+-- A slot with another key has not this one; one with it has it where it is in use.
+-- Assumes nothing.
+use mathlib.Core.Path.{sym, ap, ◌∙◌}
+use mathlib.Core.Bool.{not}
+use Prim.Native.Nat.{ℕ}
+use lib.Dec.{eqb}
+use borrow.Author.Rules.{rules}
+use borrow.Author.Tests.{not-true, not-false}
+use Rattle.room.specs.Entries.{has_other, has_same}
+use Rattle.room.proofs.holds.Goals as goal
+
+pub returns-then-not-is_key_at : goal.returns-then-not-is_key_at
+returns-then-not-is_key_at c =
+    let a = c.args in
+    sym (has_other a.w.now a.k a.s (sym c.is_key_at.ensures ∙ c.if-not-is_key_at.true))
+
+pub returns : goal.returns
+returns c =
+    let a = c.args in
+    ap (λ (u : ℕ). not (eqb u 0)) c.holder_of.ensures ∙
+    sym (has_same a.w.now a.k a.s (sym c.is_key_at.ensures ∙ c.if-not-is_key_at.false))

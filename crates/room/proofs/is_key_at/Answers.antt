@@ -1,0 +1,20 @@
+-- By the bytes, then by who holds it.
+-- Assumes nothing.
+use mathlib.Core.Path.{sym, ap, ◌∙◌}
+use Prim.Native.Nat.{ℕ}
+use lib.Dec.{eqb}
+use borrow.Author.Rules.{rules}
+use borrow.Author.Tests.{not-true, not-false}
+use Rattle.room.specs.Entries.{same-unspelled, same-spelled}
+use Rattle.room.proofs.is_key_at.Goals as goal
+
+pub returns-then-not-spells : goal.returns-then-not-spells
+returns-then-not-spells c =
+    let a = c.args in
+    sym (same-unspelled a.w.now a.k a.s (sym c.spells.ensures ∙ c.if-not-spells.true))
+
+pub returns : goal.returns
+returns c =
+    let a = c.args in
+    ap (λ (h : ℕ). eqb h a.k.holder) c.holder_of.ensures ∙
+    sym (same-spelled a.w.now a.k a.s (sym c.spells.ensures ∙ c.if-not-spells.false))

@@ -1,0 +1,9 @@
+pub mod Exact
+pub mod Histories
+pub mod Judging
+pub mod Log
+pub mod Own
+pub mod Runs
+pub mod Sharp
+pub mod Table
+pub mod Wrong

@@ -1,0 +1,14 @@
+use Prim.Native.Nat.{◌≤◌}
+use Rattle.ring.specs.Ring.{len_of}
+use Rattle.second.specs.Walk.{Walks, walk_start, walk-fits, walk-on, walk-old, walk_end}
+use borrow.Author.Rules.{rules}
+use native.Mathlib.Omega.{arith}
+use Rattle.second.proofs.last_second.Given as goal
+
+abbrev pub invariant-loop-k : goal.invariant-loop-k
+invariant-loop-k l =
+    (l.k ≤ len_of l.b) × Walks l.r l.b l.most l.reading l.k l.sum × (l.gone ≤ l.k)
+
+abbrev pub decreases-loop-k : goal.decreases-loop-k
+decreases-loop-k l =
+    l.k

@@ -1,0 +1,9 @@
+-- The difference, divided.
+use mathlib.Core.Path.{ap}
+use Prim.Native.Nat.{ℕ, ◌/◌}
+use borrow.Author.Rules.{rules}
+use Rattle.stale.proofs.milliseconds.Goals as goal
+
+pub returns : goal.returns
+returns c =
+    ap (λ (a : ℕ). a / c.args.ticks) c.less.ensures

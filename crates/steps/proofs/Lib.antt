@@ -1,0 +1,10 @@
+pub mod Each
+pub mod History
+pub mod Keys
+pub mod Leaves
+pub mod Moves
+pub mod Order
+pub mod Rights
+pub mod Runs
+pub mod Sound
+pub mod Table

@@ -1,0 +1,69 @@
+-- Words that are no table; a controller that is not known; one whose entry is unsound; one that stands there.
+-- Assumes nothing.
+use mathlib.Core.Path.{sym, ◌∙◌}
+use native.Mathlib.Omega.{arith}
+use borrow.Author.Rules.{rules}
+use borrow.Author.Tests.{not-true, not-false}
+use Rattle.base.specs.Decides.{decided, undecided}
+use Rattle.table.specs.Table.{Table}
+use Rattle.table.specs.Laws.{table-directory, looked-not, looked-new, looked-unsound, looked-known}
+use Rattle.std.proofs.Common.{ap}
+use Rattle.std.proofs.Common.{not}
+use Rattle.table.proofs.look.Goals as goal
+
+pub returns-then-not-sized : goal.returns-then-not-sized
+returns-then-not-sized c =
+    let a = c.args in
+    let o = c.sized in
+    c.unsound.ensures ∙ looked-not a.w.now a.key.now (undecided o.result (ap not c.if-not-sized.true) o.ensures)
+
+pub entry_for-at-requires : goal.entry_for-at-requires
+entry_for-at-requires c =
+    let table : Table c.args.w.now =
+    let o = c.sized in decided o.result (ap not c.if-not-sized.false) o.ensures in
+    table
+
+pub bounds-w-0 : goal.bounds-w-0
+bounds-w-0 c =
+    let table : Table c.args.w.now =
+    let o = c.sized in decided o.result (ap not c.if-not-sized.false) o.ensures in
+    let t = table in omega arith
+
+pub returns-then-w-at : goal.returns-then-w-at
+returns-then-w-at c =
+    let table : Table c.args.w.now =
+    let o = c.sized in decided o.result (ap not c.if-not-sized.false) o.ensures in
+    let a = c.args in
+    looked-new a.w.now a.key.now c.entry_for-at.result (table) c.entry_for-at.ensures c.if-w-at.true
+
+pub once-requires : goal.once-requires
+once-requires c =
+    let table : Table c.args.w.now =
+    let o = c.sized in decided o.result (ap not c.if-not-sized.false) o.ensures in
+    (table, c.if-w-at.false)
+
+pub returns-then-not-once : goal.returns-then-not-once
+returns-then-not-once c =
+    let table : Table c.args.w.now =
+    let o = c.sized in decided o.result (ap not c.if-not-sized.false) o.ensures in
+    let a = c.args in
+    let x = c.once in
+    c.unsound-then-not-once.ensures ∙
+    looked-unsound a.w.now a.key.now c.entry_for-at.result (table) (λ i. omega (arith, c.shared_slice_known-2-1.given i))
+    c.entry_for-at.ensures c.if-w-at.false (sym x.ensures ∙ c.if-not-once.true)
+
+pub use_of-requires : goal.use_of-requires
+use_of-requires c =
+    let table : Table c.args.w.now =
+    let o = c.sized in decided o.result (ap not c.if-not-sized.false) o.ensures in
+    (table-directory (table), omega arith)
+
+pub returns : goal.returns
+returns c =
+    let table : Table c.args.w.now =
+    let o = c.sized in decided o.result (ap not c.if-not-sized.false) o.ensures in
+    let a = c.args in
+    let x = c.once in
+    looked-known a.w.now a.key.now c.entry_for-at.result (table) (λ i. omega (arith, c.shared_slice_known-2-1.given i))
+    c.entry_for-at.ensures c.if-w-at.false c.use_of.result c.use_of.ensures
+    (sym x.ensures ∙ c.if-not-once.false)

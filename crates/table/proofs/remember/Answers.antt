@@ -1,0 +1,32 @@
+-- A known controller's number alone, or an entry more.
+-- Assumes nothing.
+use mathlib.Core.Path.{ap, ◌∙◌}
+use Prim.Native.Nat.{◌+◌}
+use native.Mathlib.Omega.{arith}
+use lib.ListN.{set}
+use borrow.Author.Rules.{rules}
+use Rattle.layout.specs.Layout.{slots_word}
+use Rattle.room.specs.Room.{entered}
+use Rattle.table.specs.Table.{known_of}
+use Rattle.table.specs.Laws.{table-directory, remembered-known, remembered-new}
+use Rattle.table.proofs.remember.Goals as goal
+
+pub set_use-requires : goal.set_use-requires
+set_use-requires c =
+    (table-directory c.requires.table, omega arith)
+
+pub enter-requires : goal.enter-requires
+enter-requires c =
+    (c.requires.table, omega (arith, c.requires.room, c.if-at-w.false))
+
+pub returns-then-at-w : goal.returns-then-at-w
+returns-then-at-w c =
+    c.set_use.ensures ∙
+    remembered-known c.args.w.now c.args.key.now c.args.at c.args.number c.requires.entry c.if-at-w.true
+
+pub returns-else-at-w : goal.returns-else-at-w
+returns-else-at-w c =
+    let w = c.args.w.now in
+    let v = set w slots_word (known_of w + 1) in
+    c.enter.ensures ∙ ap (entered v (known_of w) c.args.number) c.key_of.ensures ∙
+    remembered-new w c.args.key.now c.args.at c.args.number c.requires.entry c.if-at-w.false

@@ -1,0 +1,4 @@
+pub mod Events
+pub mod Rings
+pub mod Shot
+pub mod Through
