@@ -74,7 +74,151 @@ use Rattle.promises.specs.Cases.{half, hard_by, per_second, key, room, ainc, age
 use Rattle.promises.specs.Cases.{at, ninc, nask, nget, ndraws, nfactor, nsnapshot, nclean, nthree, nten, ntwenty, neight}
 use Rattle.promises.specs.Cases.{sent_by, pinc, pclear, pair, of_one, of_both}
 use Rattle.promises.specs.Cases.{inc_at, most, full, single, in_slot, seven_five, preserve, twentieth, link_tested}
-use Rattle.promises.specs.Boundary.{Boundary, NanoBoundary, PartyBoundary, computed}
+use Rattle.promises.specs.Boundary.{Boundary, NanoBoundary, PartyBoundary, Further, Computed}
+
+pub computed : Computed
+unfolding Seek.seek Splice.splice Tab.tab Factor.fresh_factor Factor.factor_word_ok Factor.admitted Limits.absolute_word Limits.hard_word Limits.cut_word
+    Limits.soft_word Limits.limit_ok Ranges.rate_ok Ranges.factor_ok Refusals.first Settings.faults Share.mul_div Order.fine Ring.sum_of Ring.wrap Ring.bucket_at
+    Ring.buckets Ring.shaped Ring.pushed Ring.rewritten Ring.without RingSound.sound_buckets Rules.older Rules.recent Rules.ahead Rules.joins Rules.partial
+    Sweep.pass_of HistoryWords.incremented Preserving.wholes Preserving.part_words Preserving.shrunk_words Preserving.preserved_words Room.fits Room.empty
+    Keys.key_of Keys.same_key Keys.unused_zero Keys.key_fits Bits.bit_at Bits.with_bit
+    Room.holder_of Room.held Room.key_at Room.free Room.has Room.body_from Room.entered Room.with_use Room.with_reading
+    Room.released Room.released_own Room.freed Parties.ours Parties.many Parties.slots_held Parties.overdrawn Parties.turns Parties.none_left Judge.misfits
+    Slot.opened Slot.slot_of Slot.first_look Sound.right_use Sound.sound_series Sound.sound_cached Sound.sound_slot Sound.addressed Sound.sound_at
+    Verdicts.unless_refused Bodies.begun Bodies.started Bodies.acted Bodies.fixed Bodies.edited Words.with_edit Words.updated Words.taken Words.carried
+    Words.applied Every.every Uses.use_after Uses.settled Uses.swept Uses.cleaned Cleanup.slot_passes Cleanup.misfits Cleanup.cleanup Clear.unclear
+    Absolute.get Absolute.is_allowed Absolute.inc Edits.recached Edits.get_change Edits.factor_change Edits.inc_edit Edits.inc_change Finding.buckets_of Ieee.le
+    Ieee.lt Ieee.eq Ieee.mul Ieee.div Ieee.sub Ieee.add Ieee.of_int Ieee.of_bits Ieee.of_fields Ieee.to_bits Ieee.to_unsigned Ieee.fits SuppressedCalls.get
+    SuppressedCalls.get_factor SuppressedCalls.inc Sets.set Held.held_in Plan.place_of Both.overdue Both.passes Both.ring_full AbsoluteRules.below
+    AbsoluteRules.tested AbsoluteRules.allowed AbsoluteRules.decided AbsoluteRules.takes_out AbsoluteEdits.get_change AbsoluteEdits.inc_change
+    SuppressedRules.stays SuppressedRules.asked SuppressedRules.reach_of SuppressedRules.drawn SuppressedRules.outcome SuppressedSlots.stays_at
+    SetRules.already SetRules.idle SetRules.outcome SetsOpened.stored SetsOpened.setting Stale.series_stays Stale.factor_stays
+computed = record {
+  table = record {
+    live-10000 = refl;
+    expired-10001 = refl;
+    joins-100 = refl;
+    adds-101 = refl;
+    cached-2450 = refl;
+    used-99 = refl;
+    afresh-100 = refl;
+    second-1000 = refl;
+    second-1001 = refl;
+    forecast-20 = refl;
+    forecast-21 = refl;
+    forecast-19 = refl;
+    seven-five = refl;
+    three-two = refl;
+    nine-allowed = refl;
+    nine-total = refl;
+    rejected-50 = refl;
+    rejected-10000 = refl;
+    allowed-10001 = refl;
+    empty-allowed = refl;
+    shot-admitted = refl;
+    draw-admits = refl;
+    draw-declines = refl;
+    most-taken = refl;
+    most-passed = refl;
+    both-before = refl;
+    series-after = refl;
+  };
+  nano-table = record {
+    live-get = refl;
+    live-left = refl;
+    live-rejected = refl;
+    gone-get = refl;
+    gone-left = refl;
+    gone-snapshot = refl;
+    gone-after = refl;
+    left-inc = refl;
+    left-rejected = refl;
+    left-asked = refl;
+    left-draws = refl;
+    left-factor = refl;
+    evicts-inc = refl;
+    evicts-asked = refl;
+    evicts-left = refl;
+    evicts-draws = refl;
+    evicts-factor = refl;
+    joins-100 = refl;
+    adds-101 = refl;
+    cached-2450 = refl;
+    used-99 = refl;
+    afresh-100 = refl;
+    second-1000 = refl;
+    second-1001 = refl;
+    waits-50 = refl;
+    back-1 = refl;
+    both-499 = refl;
+    series-500 = refl;
+    none-501 = refl;
+  };
+  party-table = record {
+    first-own = refl;
+    second-own = refl;
+    one_free = refl;
+    none-left = refl;
+    one_left = refl;
+    none_needed = refl;
+    party-0 = refl;
+    party-3 = refl;
+    promised-2 = refl;
+    promised-3 = refl;
+    promised-most = refl;
+    holds_more = refl;
+    long-first = refl;
+    party-first = refl;
+    promise-first = refl;
+    stray = refl;
+    stray-clear = refl;
+    clear-frees = refl;
+    clear-leaves = refl;
+  };
+  further = record {
+    empty-slot = refl;
+    empty-buckets = refl;
+    absolute = record {
+      faulty = refl;
+      fills = refl;
+      filled = refl;
+      single-allowed = refl;
+      single-buckets = refl;
+      single-slot = refl;
+      more-allowed = refl;
+      more-slot = refl;
+    };
+    absolute-unknown = refl;
+    absolute-first = refl;
+    absolute-known = refl;
+    absolute-below = refl;
+    absolute-same = refl;
+    suppressed = record {
+      faulty = refl;
+      fills = refl;
+      filled = refl;
+      single-allowed = refl;
+      single-buckets = refl;
+      single-slot = refl;
+      more-allowed = refl;
+      more-slot = refl;
+    };
+    suppressed-first = refl;
+    suppressed-same = refl;
+    hard-20 = refl;
+    soft-10 = refl;
+    twenty-full = refl;
+    link-factor = refl;
+    link-snapshot = refl;
+    twenty-known = refl;
+    twenty-given = refl;
+    made_up = λ n h. rw (ne_eqb n 20 h);
+    absolute-made-up = λ n h. rw (ne_eqb n 10 h);
+  };
+}
+
+pub further : Further
+further = computed.further
 
 pub boundary : Boundary
 boundary = computed.table

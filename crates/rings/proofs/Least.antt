@@ -24,7 +24,8 @@ use Rattle.apart.proofs.Apart.{words-by}
 use Rattle.rings.specs.Window.{apart_ticks, BucketsApart}
 use Rattle.rings.specs.Roomy.{Roomy}
 use Rattle.rings.proofs.Roomy.{apart-closed, roomy-keeps, key_apart, roomy-untold}
-use Rattle.rings.specs.Zeros.{zeros, Sender, zeros_within, zeros-full}
+use Rattle.rings.specs.Zeros.{zeros, Sender}
+use Rattle.rings.proofs.Zeros.{zeros_within, zeros-full}
 use Rattle.rings.specs.Rings.{rows_by, NeverFull, newest_number, Limiters, Meets, Sufficient, Necessary, lone}
 use Rattle.rings.proofs.Rings.{necessary, sufficient}
 

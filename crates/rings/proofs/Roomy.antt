@@ -36,8 +36,8 @@ use Rattle.steps.specs.History.{Sane, Closed}
 use Rattle.steps.proofs.History.{everywhere-keeps}
 use Rattle.steps.specs.Step.{Step}
 use Rattle.rings.proofs.Spaced.{spaced-drop, acted-kept}
-use Rattle.rings.specs.Window.{apart_ticks, apart-joins, BucketsApart}
-use Rattle.rings.proofs.Window.{looked-room, found-room}
+use Rattle.rings.specs.Window.{apart_ticks, BucketsApart}
+use Rattle.rings.proofs.Window.{apart-joins, looked-room, found-room}
 use Rattle.rings.specs.Roomy.{Roomy}
 
 -- whatever a call does to a key's buckets, they lie apart

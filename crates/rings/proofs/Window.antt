@@ -24,7 +24,11 @@ use Rattle.rules.specs.Absolute.{tests_again, whole_limit, takes_out, found_for}
 use Rattle.sweep.specs.Measured.{ahead_after}
 use Rattle.rings.specs.Spaced.{Spaced}
 use Rattle.rings.proofs.Spaced.{spaced-drop, spaced-span, unjoined}
-use Rattle.rings.specs.Window.{apart_ticks, apart-joins, BucketsApart, Young}
+use Rattle.rings.specs.Window.{apart_ticks, BucketsApart, Young}
+
+-- one more than the longest age that joins
+pub apart-joins : (s : Settings) → apart_ticks s ≡ join_ticks s + 1
+apart-joins s = omega (arith, ticks-some s)
 
 or-false : (a b : Bool) → a || b ≡ false → b ≡ false
 or-false true b e = absurd (true≢false e)

@@ -43,9 +43,11 @@ use Rattle.steps.specs.Ops.{
   words,
 }
 use Rattle.apart.specs.Apart.{Limiter, words_by}
-use Rattle.rings.specs.Window.{apart_ticks, apart-joins, BucketsApart}
+use Rattle.rings.specs.Window.{apart_ticks, BucketsApart}
+use Rattle.rings.proofs.Window.{apart-joins}
 use Rattle.rings.specs.Row.{row-full}
-use Rattle.rings.specs.Zeros.{zero_op, zeros, state}
+use Rattle.rings.specs.Zeros.{zero_op, zeros}
+use Rattle.rings.proofs.Zeros.{state}
 use Rattle.rings.specs.Rings.{Limiters, rows_by, newest_number, SufficientBy, Meets, NecessaryBy, lone}
 use Rattle.rings.proofs.Rings.{lone-sends, zeros-keyed}
 use Rattle.rings.proofs.Least.{one-fits}

@@ -25,7 +25,7 @@ use Rattle.apart.specs.Apart.{Limiter, words_by, Rising}
 use Rattle.apart.proofs.Apart.{words-by}
 use Rattle.rings.specs.Window.{apart_ticks, BucketsApart}
 use Rattle.rings.specs.Roomy.{Roomy}
-use Rattle.rings.specs.Zeros.{zeros, Sender, zeros_within, zeros-full}
+use Rattle.rings.specs.Zeros.{zeros, Sender}
 
 -- ---- what a history is told
 

@@ -35,7 +35,7 @@ use Rattle.steps.proofs.Leaves.{step-leaves}
 use Rattle.steps.specs.History.{Sane, Closed}
 use Rattle.steps.proofs.History.{everywhere-keeps}
 use Rattle.steps.specs.Step.{Step}
-use Rattle.rings.specs.Window.{apart_ticks, apart-joins, BucketsApart}
+use Rattle.rings.specs.Window.{apart_ticks, BucketsApart}
 
 -- every slot's buckets lie apart, and the ring is long enough
 pub record Roomy (s : Settings) (w : List ℕ) : Type 0 where

@@ -28,10 +28,6 @@ use Rattle.rings.specs.Spaced.{Spaced}
 abbrev pub apart_ticks : Settings → ℕ
 apart_ticks s = ticks_in s * (bucket_in s + 1)
 
--- one more than the longest age that joins
-pub apart-joins : (s : Settings) → apart_ticks s ≡ join_ticks s + 1
-apart-joins s = omega (arith, ticks-some s)
-
 -- "the times of a key's buckets lie at least b + 1 milliseconds apart"
 abbrev pub BucketsApart : Settings → List Bucket → Type 0
 BucketsApart s xs = Spaced (apart_ticks s) 0 xs

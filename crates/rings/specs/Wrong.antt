@@ -43,9 +43,9 @@ use Rattle.steps.specs.Ops.{
   words,
 }
 use Rattle.apart.specs.Apart.{Limiter, words_by}
-use Rattle.rings.specs.Window.{apart_ticks, apart-joins, BucketsApart}
+use Rattle.rings.specs.Window.{apart_ticks, BucketsApart}
 use Rattle.rings.specs.Row.{row-full}
-use Rattle.rings.specs.Zeros.{zero_op, zeros, state}
+use Rattle.rings.specs.Zeros.{zero_op, zeros}
 use Rattle.rings.specs.Rings.{Limiters, rows_by, newest_number, SufficientBy, Meets, NecessaryBy, lone}
 
 -- 12 by all buckets that are stored, expired ones too

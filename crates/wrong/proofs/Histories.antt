@@ -26,7 +26,7 @@ use Rattle.demand3.specs.Demand3.{less_bucket}
 use Rattle.demand3.proofs.MissionPromises.{mission-ceiling, mission-floor}
 use Rattle.promises.specs.Rules.{Inc}
 use Rattle.promises.specs.Cases.{hard_by, per_second, key, room, single}
-use Rattle.promises.specs.Boundary.{further}
+use Rattle.promises.proofs.Boundary.{further}
 use Rattle.wrong.specs.Limiters.{Always, case_of, SameAnswers, Idles, Once}
 use Rattle.wrong.proofs.Limiters.{key-bytes, some-held}
 use Rattle.wrong.specs.Histories.{Shot, shot_by, words_by, log_by, hard, soft, Ceiling, Floor, calls, at0, spent}

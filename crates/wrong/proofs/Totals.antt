@@ -18,8 +18,7 @@ use Rattle.promises.proofs.Refusals.{demand1}
 use Rattle.promises.specs.Rules.{TotalByRules, SnapshotByRules}
 use Rattle.promises.proofs.Rules.{demand2}
 use Rattle.promises.specs.Cases.{hard_by, key, aget, ten, sget, twenty}
-use Rattle.promises.specs.Boundary.{further}
-use Rattle.promises.proofs.Boundary.{boundary}
+use Rattle.promises.proofs.Boundary.{boundary, further}
 use Rattle.steps.proofs.Order.{taken}
 use Rattle.wrong.proofs.Limiters.{key-bytes}
 

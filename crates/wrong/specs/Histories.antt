@@ -26,7 +26,7 @@ use Rattle.demand3.specs.Demand3.{less_bucket}
 use Rattle.demand3.proofs.MissionPromises.{mission-ceiling, mission-floor}
 use Rattle.promises.specs.Rules.{Inc}
 use Rattle.promises.specs.Cases.{hard_by, per_second, key, room, single}
-use Rattle.promises.specs.Boundary.{further}
+use Rattle.promises.proofs.Boundary.{further}
 use Rattle.wrong.specs.Limiters.{Always, case_of, SameAnswers, Idles, Once}
 
 -- ---- histories of any limiter

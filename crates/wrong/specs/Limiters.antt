@@ -34,8 +34,8 @@ use Rattle.promises.proofs.Refusals.{demand1}
 use Rattle.promises.specs.Rules.{Inc, inc_of, inc_table, IncRule, IncByRules}
 use Rattle.promises.proofs.Rules.{demand2}
 use Rattle.promises.specs.Cases.{per_second, key, room, settings_for, ask_at, inc_at, most, full, single, in_slot}
-use Rattle.promises.specs.Boundary.{Fills, further}
-use Rattle.promises.proofs.Boundary.{boundary}
+use Rattle.promises.specs.Boundary.{Fills}
+use Rattle.promises.proofs.Boundary.{boundary, further}
 
 -- ---- what limiters are to keep
 
