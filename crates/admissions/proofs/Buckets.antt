@@ -14,7 +14,7 @@ use Rattle.rules.specs.Buckets.{older, recent, newest, raised, joins, joined}
 use Rattle.ring.specs.declared.Bucket.{Bucket}
 use Rattle.ring.specs.Order.{Fine}
 use Rattle.ring.specs.Ring.{bucket, no_bucket, sum_of, counts, declineds}
-use Rattle.admissions.specs.Log.{Entry, entry, pick, since}
+use Rattle.admissions.specs.Log.{pick, since}
 use Rattle.admissions.proofs.Log.{pick-mono}
 use Rattle.admissions.specs.Buckets.{mass}
 

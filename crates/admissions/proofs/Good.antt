@@ -9,7 +9,7 @@ use Rattle.rules.specs.Buckets.{recent, newest, joined}
 use Rattle.ring.specs.declared.Bucket.{Bucket}
 use Rattle.ring.specs.Order.{Fine}
 use Rattle.ring.specs.Ring.{counts, declineds}
-use Rattle.admissions.specs.Log.{Entry, noted, pick, in_span, aged, since}
+use Rattle.admissions.specs.Log.{Entry, noted, pick, in_span, aged}
 use Rattle.admissions.proofs.Log.{pick-le, since-mono, span-since, since-aged}
 use Rattle.admissions.specs.Buckets.{mass}
 use Rattle.admissions.proofs.Buckets.{mass-total, evict-less, evict-keeps, evict-live, joined-low, joined-high, mass-old}

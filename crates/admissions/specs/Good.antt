@@ -1,15 +1,9 @@
 -- What holds of a key's buckets and of the log of its admitted counts, from call to call; the ceiling is a part of it, the floor follows from it.
 -- In ticks are w, the window, b, the longest age that joins, at most w, and t, the reading; top is the hard limit.
 -- Assumes nothing.
-use Rattle.std.specs.Prelude.{◌≡◌, refl, Bool, true, false, cond, List, [], ℕ, ◌+◌, ◌-◌, ◌≤◌, ◌<◌}
-use Rattle.std.proofs.Math.Decide.{dec_le}
-use Rattle.std.proofs.Math.Nat.{sub-zero}
-use Rattle.std.proofs.Common.{arith}
-use Rattle.rules.specs.Buckets.{recent, newest, joined}
+use Rattle.std.specs.Prelude.{List, ℕ, ◌+◌, ◌-◌, ◌≤◌}
 use Rattle.ring.specs.declared.Bucket.{Bucket}
-use Rattle.ring.specs.Order.{Fine}
-use Rattle.ring.specs.Ring.{counts, declineds}
-use Rattle.admissions.specs.Log.{Entry, noted, pick, in_span, aged, since}
+use Rattle.admissions.specs.Log.{Entry, in_span, since}
 use Rattle.admissions.specs.Buckets.{mass}
 
 pub record Good (w b top t : ℕ) (xs : List Bucket) (log : List Entry) : Type 0 where

@@ -1,8 +1,7 @@
 -- A log of the counts that were admitted, each with its reading, newest first; and what they come to: in a span, at ages up to a bound, from a reading on.
 -- Assumes nothing.
-use Rattle.std.specs.Prelude.{◌≡◌, refl, Bool, cond, List, [], ◌∷◌, ℕ, ◌+◌, ◌-◌, ◌≤◌}
+use Rattle.std.specs.Prelude.{Bool, cond, List, [], ◌∷◌, ℕ, ◌+◌, ◌-◌}
 use Rattle.std.proofs.Math.Decide.{dec_le}
-use Rattle.std.proofs.Common.{arith}
 
 pub record Entry : Type 0 where
   pub time : ℕ

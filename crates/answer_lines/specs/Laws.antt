@@ -2,7 +2,6 @@
 -- Assumes nothing.
 use Rattle.std.specs.Prelude.{◌≡◌, refl, false, List, ◌++◌, ℕ, ◌+◌, ◌≤◌, length, drop}
 use Rattle.std.proofs.Common.{sym, ap, subst, ◌∙◌, append_assoc, arith, length-append}
-use Rattle.fields.specs.Bytes.{counts}
 use Rattle.fields.specs.Numbers.{show_number}
 use Rattle.fields.specs.Parts.{begins, text_at, field_at, on_place}
 use Rattle.fields.specs.Ranges.{largest}

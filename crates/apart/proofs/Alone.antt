@@ -2,7 +2,7 @@
 -- (`alone-answer`). The tables below are those of document 01: 5 judges lengths and the slot addressed alone, there are no 15 and 16, and 11 is given where
 -- no slot is free.
 -- Assumes nothing.
-use Rattle.std.specs.Prelude.{◌≡◌, refl, Bool, true, false, not, ◌&&◌, ◌||◌, cond, List, [], ◌∷◌, ◌++◌, ◌≢◌, ℕ, zero, suc, ◌+◌, ◌≤◌, ◌<◌, eqb, ltb, leb, length}
+use Rattle.std.specs.Prelude.{◌≡◌, refl, Bool, true, false, not, ◌&&◌, cond, List, [], ◌∷◌, ◌++◌, ◌≢◌, ℕ, zero, suc, ◌+◌, ◌≤◌, ◌<◌, eqb, ltb, leb}
 use Rattle.std.proofs.Common.{sym, ap, ◌∙◌, arith, ne_eqb, le-ltb, le-leb}
 use Rattle.std.proofs.Math.Decide.{ℕ_discrete, dec_lt}
 use Rattle.std.proofs.lemmas.Bool.{lt-leb}
@@ -10,7 +10,7 @@ use Rattle.common.specs.Refusals.{first}
 use Rattle.answers.specs.Rows.{refused_row}
 use Rattle.settings.specs.Settings.{faults}
 use Rattle.settings.specs.declared.Settings.{Settings}
-use Rattle.layout.specs.Layout.{longest_key, first_mark, second_mark}
+use Rattle.layout.specs.Layout.{first_mark, second_mark}
 use Rattle.rules.specs.Absolute as absolute
 use Rattle.rules.specs.Suppressed as suppressed
 use Rattle.rules.specs.Sets as sets
@@ -23,7 +23,6 @@ use Rattle.parties.specs.Parties.{Sent, is_party, ours, many, slots_held, promis
 use Rattle.parties.proofs.Laws.{left-free}
 use Rattle.judge.specs.Held.{held_in}
 use Rattle.judge.specs.Judge.{misfits}
-use Rattle.opened.specs.Sound.{addressed, sound_at}
 use Rattle.clearing.specs.Clear as Clear
 use Rattle.cleanup.specs.Cleanup as Cleanup
 use Rattle.steps.proofs.Leaves.{step-leaves}

@@ -4,7 +4,6 @@
 -- Assumes nothing.
 use Rattle.std.specs.Prelude.{◌≡◌, refl, Bool, true, false, cond, List, [], ◌∷◌, ◌≢◌, ℕ, zero, suc, ◌≤◌, eqb}
 use Rattle.std.proofs.Common.{sym, ap, ap₂, ◌∙◌, arith, ne_eqb}
-use Rattle.common.specs.Refusals.{first}
 use Rattle.answers.specs.Rows.{done_row}
 use Rattle.answers.specs.declared.DoneAnswer.TheVariants as done
 use Rattle.settings.specs.Clock.{ticks_in}
@@ -21,8 +20,7 @@ use Rattle.judge.specs.Held.{held_in}
 use Rattle.stale.specs.Uses as Uses
 use Rattle.cleanup.specs.Cleanup as Cleanup
 use Rattle.provider.specs.Provider as Provider
-use Rattle.judge.specs.Verdict.{Verdict}
-use Rattle.steps.specs.Ops.{Op, Call, Answer, cleanup, cleanup_both, row_of, verdict_of, after, answer_row, words, rows}
+use Rattle.steps.specs.Ops.{Op, Call, cleanup, cleanup_both, verdict_of, after, answer_row, words, rows}
 use Rattle.steps.specs.History.{Sane}
 use Rattle.steps.proofs.History.{empty-sane}
 use Rattle.apart.specs.One.{key_in}

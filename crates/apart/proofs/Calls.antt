@@ -2,7 +2,7 @@
 -- Assumes nothing.
 use Rattle.std.specs.Prelude.{◌≡◌, Bool, true, false, cond, ◌&&◌, ◌||◌, List, [], ◌∷◌, ◌≢◌, ℕ, eqb}
 use Rattle.std.proofs.Math.Path.{refl}
-use Rattle.std.proofs.Common.{sym, ap, ap₂, subst, ◌∙◌, arith, eqb-true}
+use Rattle.std.proofs.Common.{sym, ap, ap₂, subst, ◌∙◌, eqb-true}
 use Rattle.std.proofs.lemmas.Bool.{false≢true}
 use Rattle.base.specs.Decides.{and-true}
 use Rattle.common.specs.Refusals.{first}
@@ -54,7 +54,6 @@ use Rattle.leaves.specs.Calls.{Stands}
 use Rattle.leaves.specs.AbsoluteLeaves.{Left as LeftWith, IncLaw}
 use Rattle.leaves.proofs.Absolute as absolutely
 use Rattle.leaves.specs.SuppressedFollows.{Gets, GivesFactor}
-use Rattle.leaves.specs.SuppressedFollows as own
 use Rattle.leaves.proofs.SuppressedFollows as own_laws
 use Rattle.leaves.specs.Follows.{unrefused-early}
 use Rattle.leaves.specs.Shared.{RateRule, DeleteRule, SetRule, rate-follows, delete-follows, set-follows}

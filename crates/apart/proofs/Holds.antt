@@ -1,14 +1,14 @@
 -- What a key holds in a room, by its packed key: whichever slot it stands in. What becomes of it where its slot is changed, where it is freed, and where
 -- another slot is.
 -- Assumes nothing.
-use Rattle.std.specs.Prelude.{◌≡◌, refl, Bool, List, ◌≢◌, ℕ, ◌≤◌, ◌<◌, ltb, length}
+use Rattle.std.specs.Prelude.{◌≡◌, refl, Bool, List, ◌≢◌, ℕ, ◌≤◌, ◌<◌, length}
 use Rattle.std.proofs.Common.{sym, ◌∙◌, arith, lt-ltb, le-ltb}
 use Rattle.std.proofs.Math.Path.{ap}
 use Rattle.std.proofs.Math.Bool.{cond}
 use Rattle.std.proofs.Math.Decide.{ℕ_discrete, dec_lt}
 use Rattle.settings.specs.declared.Settings.{Settings}
 use Rattle.ring.specs.declared.Bucket.{Bucket}
-use Rattle.rules.specs.Held.{Held, nothing}
+use Rattle.rules.specs.Held.{nothing}
 use Rattle.rules.specs.declared.RoomKind.{RoomKind}
 use Rattle.keys.specs.declared.Key.{Key}
 use Rattle.room.specs.Room.{Room, slots_of, ring_of, holder_of, use_of, key_at, find, body_of, with_reading}

@@ -1,7 +1,7 @@
 -- Two rooms that one party cannot tell apart: its keys hold the same in both. Its own calls, and cleanups, are answered the same in both and leave two such
 -- rooms (`same_row`, `like-after`); a call of the other party leaves such a room (`like-beside`).
 -- Assumes nothing.
-use Rattle.std.specs.Prelude.{◌≡◌, refl, Bool, false, ◌&&◌, ◌||◌, cond, List, [], ◌∷◌, ◌++◌, ◌≢◌, ℕ, zero, suc, ◌+◌, ◌≤◌, ◌<◌, eqb, leb, length}
+use Rattle.std.specs.Prelude.{◌≡◌, refl, Bool, false, ◌&&◌, ◌||◌, cond, List, [], ◌∷◌, ◌++◌, ◌≢◌, ℕ, zero, suc, ◌+◌, ◌<◌, eqb, leb, length}
 use Rattle.std.proofs.Math.Path.{sym, ap}
 use Rattle.std.proofs.Common.{ap₂, subst, ◌∙◌, arith, eq-eqb, eqb-true, le-ltb}
 use Rattle.std.proofs.Math.Bool.{true, not}
@@ -23,7 +23,7 @@ use Rattle.rules.specs.Suppressed as suppressed
 use Rattle.rules.specs.Sets as sets
 use Rattle.rules.specs.declared.RoomKind.{RoomKind}
 use Rattle.rules.specs.declared.RoomKind.TheVariants as kind
-use Rattle.room.specs.Room.{slots_of, ring_of, last_of, holder_of, sized}
+use Rattle.room.specs.Room.{slots_of, last_of, holder_of, sized}
 use Rattle.room.specs.Laws.{room-sized}
 use Rattle.frame.specs.Keys.{Bytes}
 use Rattle.frame.specs.Distinct.{same-key, key-same}
@@ -243,8 +243,6 @@ same_row k s t p a b w v x op e g =
     let r = given-like k s t p a b w v x op e in
     told-row k s w t op ∙ (λ i. cond (eqb (n i) 0) (r i) (refused_row (n i))) ∙ sym (told-row k s v t op)
 
--- ---- refusals
-
 -- ---- what is left
 
 -- of a key of the party's, by a call with a key
@@ -263,8 +261,6 @@ module _ (k : RoomKind) (s : Settings) (t p a b : ℕ) (w v : List ℕ) (x : Ali
       go false z =
           let u : key_for (key_in op) ≢ j = λ r. false≢true (sym z ∙ subst (λ (i : Key). same_key (key_for (key_in op)) i ≡ true) r (key-same _)) in
           other-held k s w t x.one.sane op by n j u ∙ x.like.held j h ∙ sym (other-held k s v t x.other.sane op by n j u)
-
--- ---- what is left
 
 done-like : (k : RoomKind) (s : Settings) (t p a b : ℕ) (w v : List ℕ) → Alike k s t p a b w v → (op : Op k) → Bytes (key_in op).bytes → mine p op ≡ true →
     first (table_of k s w t op) ≡ 0 → first (table_of k s v t op) ≡ 0 → (j : Key) → j.holder ≡ mark_of p → held_for (after k s w t op) j ≡

@@ -7,7 +7,7 @@ use Rattle.std.proofs.Math.Decide.{ℕ_discrete}
 use Rattle.settings.specs.Clock.{ticks_in, join_ticks}
 use Rattle.settings.specs.declared.Settings.{Settings}
 use Rattle.layout.specs.Layout.{second_mark}
-use Rattle.room.specs.Room.{slots_of, holder_of, empty, cleared}
+use Rattle.room.specs.Room.{slots_of, holder_of, empty}
 use Rattle.frame.specs.Distinct.{changed-holder}
 use Rattle.frame.specs.Frame.{key-holder}
 use Rattle.frame.specs.Whole.{clear-read-run, empty-free}

@@ -1,6 +1,6 @@
 -- What a call leaves of what any key holds: its own key's as the limiter of one key says, another key's as it was; and the room's slots, ring and last reading.
 -- Assumes nothing.
-use Rattle.std.specs.Prelude.{◌≡◌, true, false, ◌≢◌, ℕ, ◌≤◌}
+use Rattle.std.specs.Prelude.{◌≡◌, ◌≢◌, ℕ, ◌≤◌}
 use Rattle.std.proofs.Common.{sym, subst, ◌∙◌, arith, eq-eqb}
 use Rattle.std.proofs.Math.Path.{ap}
 use Rattle.std.proofs.lemmas.Bool.{false≢true}
@@ -24,8 +24,6 @@ use Rattle.stale.specs.Uses as Uses
 use Rattle.change.specs.declared.Change.{Change}
 use Rattle.change.specs.Words.{applied}
 use Rattle.cleanup.specs.Cleanup as Cleanup
-use Rattle.cleanup.specs.Laws as Cleaning
-use Rattle.clearing.specs.Clear as Clear
 use Rattle.provider.specs.Provider as Provider
 use Rattle.provider.specs.Laws.{both-by-table}
 use Rattle.leaves.proofs.Cleanup.{clean_run}

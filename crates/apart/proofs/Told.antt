@@ -15,7 +15,6 @@ use Rattle.answers.specs.declared.TotalAnswer.TheVariants as total
 use Rattle.common.specs.Refusals.{first}
 use Rattle.settings.specs.declared.Settings.{Settings}
 use Rattle.ring.specs.Ring.{counts}
-use Rattle.rules.specs.Held.{Held}
 use Rattle.rules.specs.Both.{live_of, overdue_in}
 use Rattle.rules.specs.Absolute as absolute
 use Rattle.rules.specs.Suppressed as suppressed
@@ -25,7 +24,6 @@ use Rattle.rules.specs.declared.RoomKind.TheVariants as kind
 use Rattle.parties.specs.declared.Caller.{Caller}
 use Rattle.judge.specs.Held.{held_in}
 use Rattle.judge.specs.Verdict.{unless_refused}
-use Rattle.clearing.specs.Clear as Clear
 use Rattle.calls.specs.Delete as Delete
 use Rattle.calls.specs.Rate as Rate
 use Rattle.calls.specs.Set as Set

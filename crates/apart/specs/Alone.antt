@@ -2,12 +2,7 @@
 -- (`alone-answer`). The tables below are those of document 01: 5 judges lengths and the slot addressed alone, there are no 15 and 16, and 11 is given where
 -- no slot is free.
 -- Assumes nothing.
-use Rattle.std.specs.Prelude.{◌≡◌, refl, Bool, true, false, not, ◌&&◌, ◌||◌, cond, List, [], ◌∷◌, ◌++◌, ◌≢◌, ℕ, zero, suc, ◌+◌, ◌≤◌, ◌<◌, eqb, ltb, leb, length}
-use Rattle.std.proofs.Common.{sym, ap, ◌∙◌, arith, ne_eqb, le-ltb, le-leb}
-use Rattle.std.proofs.Math.Decide.{ℕ_discrete, dec_lt}
-use Rattle.std.proofs.lemmas.Bool.{lt-leb}
-use Rattle.common.specs.Refusals.{first}
-use Rattle.answers.specs.Rows.{refused_row}
+use Rattle.std.specs.Prelude.{◌≡◌, Bool, true, false, not, ◌&&◌, ◌||◌, List, [], ◌∷◌, ◌++◌, ℕ, ltb, leb, length}
 use Rattle.settings.specs.Settings.{faults}
 use Rattle.settings.specs.declared.Settings.{Settings}
 use Rattle.layout.specs.Layout.{longest_key, first_mark, second_mark}
@@ -16,42 +11,13 @@ use Rattle.rules.specs.Suppressed as suppressed
 use Rattle.rules.specs.Sets as sets
 use Rattle.rules.specs.declared.RoomKind.{RoomKind}
 use Rattle.rules.specs.declared.RoomKind.TheVariants as kind
-use Rattle.room.specs.Room.{slots_of, ring_of, last_of, holder_of, sized, vacant, fits, empty}
-use Rattle.frame.specs.Distinct.{vacant-free}
+use Rattle.room.specs.Room.{slots_of, ring_of, last_of, sized, vacant}
 use Rattle.parties.specs.declared.Caller.{Caller}
-use Rattle.parties.specs.Parties.{Sent, is_party, ours, many, slots_held, promised, holding, overdrawn, none_left, turns}
-use Rattle.parties.proofs.Laws.{left-free}
+use Rattle.parties.specs.Parties.{Sent, is_party, ours, slots_held, overdrawn, none_left}
 use Rattle.judge.specs.Held.{held_in}
-use Rattle.judge.specs.Judge.{misfits}
 use Rattle.opened.specs.Sound.{addressed, sound_at}
-use Rattle.clearing.specs.Clear as Clear
 use Rattle.cleanup.specs.Cleanup as Cleanup
-use Rattle.steps.proofs.Leaves.{step-leaves}
-use Rattle.steps.proofs.History.{history, empty-sane}
-use Rattle.steps.specs.Ops.{
-  Op,
-  Call,
-  inc,
-  is_allowed,
-  get,
-  draws,
-  snapshot,
-  get_factor,
-  set_rate,
-  set,
-  delete,
-  cleanup,
-  cleanup_both,
-  clear,
-  answer_row,
-  words,
-  AllKeyed,
-}
-use Rattle.steps.specs.Table.{table_of}
-use Rattle.apart.specs.One.{key_in}
-use Rattle.apart.specs.Told.{row_for}
-use Rattle.apart.specs.Promised.{caller_in}
-use Rattle.apart.specs.Apart.{Rising, AllGive, AllBytes}
+use Rattle.steps.specs.Ops.{Op, inc, is_allowed, get, draws, snapshot, get_factor, set_rate, set, delete, cleanup, cleanup_both, clear}
 
 -- ---- the tables of one party
 

@@ -2,32 +2,19 @@
 -- total or a refusal 11. This compares histories with the same cleanups, and the shared rising clock is still assumed." Said of the answers given (`Apart`,
 -- `apart`), of histories of any length, on any keys, refused calls too.
 -- Assumes nothing.
-use Rattle.std.specs.Prelude.{◌≡◌, refl, Bool, true, false, cond, List, [], ◌∷◌, ◌≢◌, ℕ, zero, suc, ◌≤◌, eqb}
-use Rattle.std.proofs.Common.{sym, ap, ap₂, ◌∙◌, arith, ne_eqb}
-use Rattle.common.specs.Refusals.{first}
-use Rattle.answers.specs.Rows.{done_row}
-use Rattle.answers.specs.declared.DoneAnswer.TheVariants as done
-use Rattle.settings.specs.Clock.{ticks_in}
+use Rattle.std.specs.Prelude.{◌≡◌, cond, List, [], ◌∷◌, ℕ, ◌≤◌}
 use Rattle.settings.specs.declared.Settings.{Settings}
-use Rattle.layout.specs.Layout.{first_mark, second_mark}
 use Rattle.rules.specs.declared.RoomKind.{RoomKind}
 use Rattle.rules.specs.declared.RoomKind.TheVariants as kind
-use Rattle.room.specs.Room.{slots_of, holder_of, fits, empty}
+use Rattle.room.specs.Room.{empty}
 use Rattle.frame.specs.Keys.{Bytes}
-use Rattle.frame.specs.Whole.{empty-free, empty-word}
 use Rattle.parties.specs.declared.Caller.{Caller}
-use Rattle.parties.specs.Parties.{Sent, is_party, many, slots_held}
-use Rattle.judge.specs.Held.{held_in}
-use Rattle.stale.specs.Uses as Uses
 use Rattle.cleanup.specs.Cleanup as Cleanup
-use Rattle.provider.specs.Provider as Provider
 use Rattle.judge.specs.Verdict.{Verdict}
-use Rattle.steps.specs.Ops.{Op, Call, Answer, cleanup, cleanup_both, row_of, verdict_of, after, answer_row, words, rows}
-use Rattle.steps.specs.History.{Sane}
-use Rattle.steps.proofs.History.{empty-sane}
+use Rattle.steps.specs.Ops.{Op, Call, Answer, cleanup_both, row_of, verdict_of, answer_row, words, rows}
 use Rattle.apart.specs.One.{key_in}
 use Rattle.apart.specs.Promised.{Gives}
-use Rattle.apart.specs.Like.{Fine, Alike, mine}
+use Rattle.apart.specs.Like.{Alike, mine}
 
 -- ---- histories, newest first
 

@@ -1,48 +1,17 @@
 -- Two rooms that one party cannot tell apart: its keys hold the same in both. Its own calls, and cleanups, are answered the same in both and leave two such
 -- rooms (`same_row`, `like-after`); a call of the other party leaves such a room (`like-beside`).
 -- Assumes nothing.
-use Rattle.std.specs.Prelude.{◌≡◌, refl, Bool, false, ◌&&◌, ◌||◌, cond, List, [], ◌∷◌, ◌++◌, ◌≢◌, ℕ, zero, suc, ◌+◌, ◌≤◌, ◌<◌, eqb, leb, length}
-use Rattle.std.proofs.Math.Path.{sym, ap}
-use Rattle.std.proofs.Common.{ap₂, subst, ◌∙◌, arith, eq-eqb, eqb-true, le-ltb}
-use Rattle.std.proofs.Math.Bool.{true, not}
-use Rattle.std.proofs.lemmas.Bool.{false≢true}
-use Rattle.std.proofs.Math.Decide.{ℕ_discrete, dec_lt}
-use Rattle.std.proofs.Math.Dec.{ltb}
-use Rattle.base.specs.Decides.{true-and}
-use Rattle.base.specs.Every.{every}
-use Rattle.common.specs.Refusals.{first}
-use Rattle.answers.specs.Rows.{refused_row}
-use Rattle.settings.specs.Settings.{faults}
+use Rattle.std.specs.Prelude.{◌≡◌, Bool, List, ℕ, ◌≤◌, eqb}
+use Rattle.std.proofs.Math.Bool.{true}
 use Rattle.settings.specs.declared.Settings.{Settings}
-use Rattle.layout.specs.Layout.{nobody, first_mark, second_mark}
 use Rattle.keys.specs.declared.Key.{Key}
-use Rattle.keys.specs.Keys.{same_key}
-use Rattle.rules.specs.Held.{Held}
-use Rattle.rules.specs.Absolute as absolute
-use Rattle.rules.specs.Suppressed as suppressed
-use Rattle.rules.specs.Sets as sets
 use Rattle.rules.specs.declared.RoomKind.{RoomKind}
-use Rattle.rules.specs.declared.RoomKind.TheVariants as kind
-use Rattle.room.specs.Room.{slots_of, ring_of, last_of, holder_of, sized}
-use Rattle.room.specs.Laws.{room-sized}
-use Rattle.frame.specs.Keys.{Bytes}
-use Rattle.frame.specs.Distinct.{same-key, key-same}
-use Rattle.parties.specs.declared.Caller.{Caller}
-use Rattle.parties.specs.Parties.{Sent, key_for, mark_of, is_party, ours, slots_held, promised, overdrawn, none_left, turns}
-use Rattle.judge.specs.Held.{held_in}
-use Rattle.judge.specs.Judge.{misfits}
-use Rattle.clearing.specs.Clear as Clear
-use Rattle.cleanup.specs.Cleanup as Cleanup
-use Rattle.cleanup.specs.Laws.{passes-free, passes-used}
-use Rattle.places.specs.SoundRoom.{SoundRoom, five-unmet}
-use Rattle.steps.specs.Leaves.{sent-holder, mark-some}
-use Rattle.steps.specs.Ops.{Op, inc, is_allowed, get, draws, snapshot, get_factor, set_rate, set, delete, cleanup, cleanup_both, clear, after, answer_row}
-use Rattle.steps.specs.Table.{table_of}
+use Rattle.room.specs.Room.{slots_of, ring_of, last_of}
+use Rattle.parties.specs.Parties.{mark_of, is_party}
+use Rattle.steps.specs.Ops.{Op, inc, is_allowed, get, draws, snapshot, get_factor, set_rate, set, delete, cleanup, cleanup_both, clear}
 use Rattle.steps.specs.History.{Sane}
 use Rattle.apart.specs.Holds.{held_for}
-use Rattle.apart.specs.One.{left_by, cleaned_to, key_in, Named}
-use Rattle.apart.specs.Told.{row_for}
-use Rattle.apart.specs.Promised.{Gives, Kept}
+use Rattle.apart.specs.Promised.{Kept}
 
 -- the keys with mark m hold the same
 pub record Like (m : ℕ) (w v : List ℕ) : Type 0 where

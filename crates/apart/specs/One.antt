@@ -1,8 +1,7 @@
 -- A limiter of one key: what a call that is not turned away leaves of what its key holds, told of that alone. h is what the key held, r the ring, t the
 -- reading.
 -- Assumes nothing.
-use Rattle.std.specs.Prelude.{◌≡◌, refl, Bool, true, false, cond, ◌&&◌, List, [], ◌∷◌, ℕ, eqb}
-use Rattle.std.proofs.lemmas.Bool.{false≢true}
+use Rattle.std.specs.Prelude.{◌≡◌, Bool, true, false, cond, ◌&&◌, List, [], ◌∷◌, ℕ, eqb}
 use Rattle.settings.specs.Clock.{ticks_in, window_ticks, join_ticks}
 use Rattle.settings.specs.declared.Settings.{Settings}
 use Rattle.answers.specs.declared.HistoryUpdateMode.{HistoryUpdateMode}

@@ -1,39 +1,11 @@
 -- While the promises given stay the same, no party comes to hold more than its own (`kept-after`): a slot that was free is taken only where 11 is not given.
 -- Assumes nothing.
-use Rattle.std.specs.Prelude.{◌≡◌, refl, Bool, true, false, not, ◌&&◌, ◌||◌, cond, List, [], ◌∷◌, ◌≢◌, ℕ, ◌≤◌, ◌<◌, eqb}
-use Rattle.std.proofs.Common.{sym, ap, ap₂, subst, ◌∙◌, true≢false, arith, eqb-true, leb-false}
-use Rattle.std.proofs.lemmas.Bool.{false≢true}
-use Rattle.std.proofs.Math.Decide.{ℕ_discrete}
-use Rattle.common.specs.Refusals.{first, all-false}
-use Rattle.settings.specs.Clock.{ticks_in, window_ticks}
-use Rattle.settings.specs.declared.Settings.{Settings}
-use Rattle.ring.specs.Ring.{bucket}
-use Rattle.layout.specs.Layout.{nobody, first_mark, second_mark}
-use Rattle.keys.specs.declared.Key.{Key}
-use Rattle.keys.specs.Keys.{same_key}
-use Rattle.rules.specs.Held.{Held, nothing, has_any, lacks_slot}
-use Rattle.rules.specs.Both.{limit_in}
-use Rattle.rules.specs.Stale.{series_stays, factor_stays}
-use Rattle.rules.specs.Absolute as absolute
-use Rattle.rules.specs.Suppressed as suppressed
-use Rattle.rules.specs.Sets as sets
+use Rattle.std.specs.Prelude.{◌≡◌, List, ℕ, ◌≤◌}
+use Rattle.layout.specs.Layout.{first_mark, second_mark}
 use Rattle.rules.specs.declared.RoomKind.{RoomKind}
-use Rattle.rules.specs.declared.RoomKind.TheVariants as kind
-use Rattle.room.specs.Room.{ring_of}
-use Rattle.frame.specs.Keys.{Bytes}
-use Rattle.frame.specs.Distinct.{same-key, key-same}
 use Rattle.parties.specs.declared.Caller.{Caller}
-use Rattle.parties.specs.Parties.{key_for, mark_of, is_party, slots_held, promised, holding, none_left}
-use Rattle.judge.specs.Held.{held_in}
-use Rattle.judge.specs.Judge.{Passed}
-use Rattle.judge.proofs.Laws.{passed}
-use Rattle.leaves.specs.Follows.{unrefused-early, unrefused-own}
-use Rattle.steps.specs.Leaves.{sent-holder}
-use Rattle.steps.specs.Ops.{Op, inc, is_allowed, get, draws, snapshot, get_factor, set_rate, set, delete, cleanup, cleanup_both, clear, after}
-use Rattle.steps.specs.Table.{table_of}
-use Rattle.steps.specs.History.{Sane}
-use Rattle.apart.specs.Holds.{held_for}
-use Rattle.apart.specs.One.{plainly, left_by, cleaned_to, key_in, Named}
+use Rattle.parties.specs.Parties.{mark_of, slots_held, promised}
+use Rattle.steps.specs.Ops.{Op, inc, is_allowed, get, draws, snapshot, get_factor, set_rate, set, delete, cleanup, cleanup_both, clear}
 
 -- ---- who makes a call, and with which promises
 

@@ -1,18 +1,13 @@
 -- Each call's row of answers, of the number that its table gives and of what its key holds alone (`told-row`); and that a call that is turned away leaves every
 -- word (`turned-words`).
 -- Assumes nothing.
-use Rattle.std.specs.Prelude.{◌≡◌, refl, Bool, true, false, cond, List, ◌≢◌, ℕ, eqb}
-use Rattle.std.proofs.Common.{sym, ap, ◌∙◌, ne_eqb}
-use Rattle.answers.specs.Rows.{decision_row, total_row, snapshot_row, factor_row, old_rate_row, delete_row, set_row, done_row, refused_row}
+use Rattle.std.specs.Prelude.{true, List, ℕ}
+use Rattle.answers.specs.Rows.{decision_row, total_row, snapshot_row, factor_row, old_rate_row, delete_row, set_row, done_row}
 use Rattle.answers.specs.declared.DoneAnswer.TheVariants as done
-use Rattle.answers.specs.declared.DeleteAnswer.TheVariants as deleted
 use Rattle.answers.specs.declared.FactorAnswer.TheVariants as factor
-use Rattle.answers.specs.declared.OldRateAnswer.TheVariants as old_rate
-use Rattle.answers.specs.declared.RateLimitDecision.TheVariants as decision
 use Rattle.answers.specs.declared.SetAnswer.TheVariants as set_answer
 use Rattle.answers.specs.declared.SnapshotAnswer.TheVariants as snapshot_answer
 use Rattle.answers.specs.declared.TotalAnswer.TheVariants as total
-use Rattle.common.specs.Refusals.{first}
 use Rattle.settings.specs.declared.Settings.{Settings}
 use Rattle.ring.specs.Ring.{counts}
 use Rattle.rules.specs.Held.{Held}
@@ -21,22 +16,7 @@ use Rattle.rules.specs.Absolute as absolute
 use Rattle.rules.specs.Suppressed as suppressed
 use Rattle.rules.specs.Sets as sets
 use Rattle.rules.specs.declared.RoomKind.{RoomKind}
-use Rattle.rules.specs.declared.RoomKind.TheVariants as kind
-use Rattle.parties.specs.declared.Caller.{Caller}
-use Rattle.judge.specs.Held.{held_in}
-use Rattle.judge.specs.Verdict.{unless_refused}
-use Rattle.clearing.specs.Clear as Clear
-use Rattle.calls.specs.Delete as Delete
-use Rattle.calls.specs.Rate as Rate
-use Rattle.calls.specs.Set as Set
-use Rattle.cleanup.specs.Cleanup as Cleanup
-use Rattle.absolute_verdicts.specs.Calls as OnAbsolute
-use Rattle.suppressed_verdicts.specs.Calls as OnSuppressed
-use Rattle.provider.specs.Provider as Provider
-use Rattle.provider.specs.Laws.{both-by-table}
-use Rattle.steps.specs.Ops.{Op, inc, is_allowed, get, draws, snapshot, get_factor, set_rate, set, delete, cleanup, cleanup_both, clear, after, answer_row}
-use Rattle.steps.specs.Table.{table_of}
-use Rattle.apart.specs.One.{key_in}
+use Rattle.steps.specs.Ops.{Op, inc, is_allowed, get, draws, snapshot, get_factor, set_rate, set, delete, cleanup, cleanup_both, clear}
 
 -- what a call that is not turned away is answered, of what its key holds
 abbrev pub row_for : (kind : RoomKind) → Settings → ℕ → Op kind → Held → List ℕ

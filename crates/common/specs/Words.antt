@@ -1,11 +1,10 @@
 -- A double and its bits, by the tests that tell a NaN: a number that differs from itself, and a word that is large below its sign.
 -- Assumes nothing.
-use Rattle.std.specs.Prelude.{◌≡◌, ℕ, ◌%◌, ◌<◌, ◌≤◌, Bool, true, false, not, ◌&&◌, T, from_bits, refl, Float}
+use Rattle.std.specs.Prelude.{◌≡◌, ℕ, ◌%◌, ◌<◌, ◌≤◌, Bool, true, false, not, T, from_bits, refl, Float}
 use Rattle.std.proofs.Common.{sym, ap, subst, ◌∙◌, true≢false, lt-ltb, le-ltb}
 use Rattle.std.proofs.lemmas.Bool.{false≢true}
-use Rattle.std.proofs.Math.Dec.{eqb_refl}
 use Rattle.std.specs.Float.{nan, inf, fin, binary64}
-use Rattle.std.specs.Float.Ieee.{up, down, eq, ne, to_bits, nan_bits, is_nan}
+use Rattle.std.specs.Float.Ieee.{eq, ne, to_bits, nan_bits, is_nan}
 use Rattle.std.specs.Float.Ieee.Bits.{nan_bits_above, nan_bits_is}
 use Rattle.std.specs.Float.Ieee.Compare.{differs_from_itself}
 use denote.Floats.{passes}

@@ -1,25 +1,11 @@
 -- Histories of calls on a suppressed room (`Call`, `words` of the steps): what a key was admitted, counted from the answers given, and the calls that
 -- leave a key to the limiter.
 -- Assumes nothing.
-use Rattle.std.specs.Prelude.{◌≡◌, refl, Bool, true, false, ◌&&◌, ◌||◌, List, [], ◌∷◌, ◌≢◌, ◌⊎◌, ℕ, ◌≤◌, eqb, length, get_or}
+use Rattle.std.specs.Prelude.{◌≡◌, refl, true, List, [], ◌∷◌, ℕ, eqb}
 use Rattle.std.proofs.Common.{ap₂, subst, eq-eqb, eqb-true}
 use Rattle.std.proofs.lemmas.Bool.{false≢true}
 use Rattle.base.specs.Decides.{and-true, true-and}
-use Rattle.answers.specs.Rows.{decision_row}
-use Rattle.common.specs.Limits.{hard_word, cut_word, soft_word}
-use Rattle.settings.specs.Settings.{window_in, factor_in}
-use Rattle.settings.specs.Clock.{window_in_milliseconds}
-use Rattle.answers.specs.declared.RateLimitDecision.{RateLimitDecision}
-use Rattle.settings.specs.declared.Settings.{Settings}
-use Rattle.common.specs.declared.units.RateLimit.{RateLimit}
-use Rattle.rules.specs.Sets.{still_for}
-use Rattle.frame.specs.Keys.{Bytes}
-use Rattle.parties.specs.Parties.{Sent, is_party}
-use Rattle.rules.specs.declared.RoomKind.TheVariants as kind
-use Rattle.judge.specs.Held.{held_in}
-use Rattle.suppressed_verdicts.specs.Calls as Own
-use Rattle.admissions.specs.Log.{Entry, noted}
-use Rattle.steps.specs.Ops.{Op, draws, snapshot, get_factor, set_rate, set, delete, cleanup, cleanup_both, clear, Call, words, answer_number}
+use Rattle.parties.specs.Parties.{Sent}
 use Rattle.demand3.specs.History.{same_bytes, Same, same_key}
 
 -- ---- what a key was admitted

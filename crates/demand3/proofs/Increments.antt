@@ -1,6 +1,6 @@
 -- An increment of the key itself keeps what holds of it: the count joins the live buckets, and the log what is admitted.
 -- Assumes nothing.
-use Rattle.std.specs.Prelude.{◌≡◌, refl, Bool, true, false, ◌≢◌, ℕ, ◌+◌, ◌-◌, ◌≤◌, drop}
+use Rattle.std.specs.Prelude.{◌≡◌, refl, Bool, true, false, ℕ, ◌+◌, ◌-◌, ◌≤◌, drop}
 use Rattle.std.proofs.Common.{sym, ap₂, ◌∙◌, true≢false}
 use Rattle.std.proofs.Math.Path.{ap, subst}
 use Rattle.std.proofs.Math.Bool.{cond}

@@ -1,24 +1,17 @@
 -- Demand 3 in each clock mode: in milliseconds in the mission's words, in nanoseconds in those of document 02, ticket 8. Both are the one ceiling and the one
 -- floor of `Demand3.antt`, at 1 and at 1,000,000 ticks to the millisecond.
 -- Assumes nothing.
-use Rattle.std.specs.Prelude.{◌≡◌, List, ◌∷◌, ℕ, ◌+◌, ◌-◌, ◌*◌, ◌≤◌, ◌<◌}
+use Rattle.std.specs.Prelude.{◌≡◌, ℕ, ◌+◌, ◌-◌, ◌*◌, ◌≤◌}
 use Rattle.std.proofs.Common.{ap, arith}
 use Rattle.settings.specs.Settings.{window_in, bucket_in}
 use Rattle.settings.specs.Clock.{ticks_of, window_in_milliseconds, window_ticks, look_ticks, join_ticks}
 use Rattle.settings.specs.declared.ClockMode.{ClockMode}
 use Rattle.settings.specs.declared.ClockMode.TheVariants.{Milliseconds, Nanoseconds}
 use Rattle.settings.specs.declared.Settings.{Settings}
-use Rattle.answers.specs.declared.RateLimitDecision.TheVariants.{Allowed}
-use Rattle.common.specs.declared.units.RateLimit.{RateLimit}
 use Rattle.room.specs.Room.{empty}
-use Rattle.parties.specs.Parties.{Sent}
-use Rattle.rules.specs.declared.RoomKind.TheVariants.{Suppressed}
-use Rattle.suppressed_verdicts.specs.Calls as Calls
-use Rattle.admissions.specs.Log.{in_span, aged}
 use Rattle.admissions.proofs.Log.{span-mono, aged-mono}
-use Rattle.steps.specs.Ops.{draws, Call, words, answer_number}
-use Rattle.demand3.specs.History.{admitted, IsKey, hard_of, soft_of, Clause, AllBy, LeavesAlone}
-use Rattle.demand3.specs.Demand3.{less_bucket, look_back, increment}
+use Rattle.demand3.specs.History.{admitted, LeavesAlone}
+use Rattle.demand3.specs.Demand3.{less_bucket, look_back}
 use Rattle.demand3.proofs.MissionPromises.{mission-ceiling, mission-floor}
 use Rattle.demand3.specs.Modes.{CeilingIn, FloorIn, NoLonger, Shorter, millisecond_span, millisecond_back, nanosecond_span, nanosecond_back}
 

@@ -3,12 +3,10 @@
 -- Assumes nothing.
 use Rattle.std.specs.Prelude.{refl, List, ◌≢◌, ℕ, ◌≤◌}
 use Rattle.std.proofs.Common.{sym, subst}
-use Rattle.settings.specs.Settings.{window_in}
-use Rattle.settings.specs.Clock.{ticks_in, window_in_milliseconds, window_ticks, join_ticks}
+use Rattle.settings.specs.Clock.{ticks_in, window_ticks, join_ticks}
 use Rattle.settings.specs.declared.Settings.{Settings}
 use Rattle.room.specs.Room.{Room, last_of}
 use Rattle.frame.specs.Distinct.{distinct-still}
-use Rattle.frame.specs.Keys.{Bytes}
 use Rattle.frame.specs.Whole.{clear-read-run}
 use Rattle.parties.specs.Parties.{Sent, key_for}
 use Rattle.change.specs.declared.Change.TheVariants.{Keep}
@@ -22,9 +20,9 @@ use Rattle.places.specs.Has.{still-same}
 use Rattle.places.specs.Placed.{read-change}
 use Rattle.steps.proofs.Keys.{change-same}
 use Rattle.steps.proofs.Leaves.{step-leaves}
-use Rattle.steps.specs.Ops.{Op, Touch, slot_of, stale_by, whole, touches}
+use Rattle.steps.specs.Ops.{Op, touches}
 use Rattle.steps.specs.Step.{Step, refused, changed, cleaned, cleared}
-use Rattle.demand3.specs.History.{Other, IsKey}
+use Rattle.demand3.specs.History.{IsKey}
 use Rattle.demand3.proofs.Keys.{other-for}
 use Rattle.demand3.specs.Kept.{Kept, kept_same}
 use Rattle.demand3.proofs.Cleans.{cleaned-kept}

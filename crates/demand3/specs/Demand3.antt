@@ -3,8 +3,7 @@
 -- promises, may stand in the history, refused or not; a clause says what is asked of each (`Spares`, and the mission's own wording, `LeavesAlone`). That
 -- readings never fall need not be asked: a call whose reading does is refused.
 -- Assumes nothing.
-use Rattle.std.specs.Prelude.{◌≡◌, refl, List, ◌∷◌, ℕ, ◌+◌, ◌-◌, ◌≤◌}
-use Rattle.std.proofs.Common.{inl, inr}
+use Rattle.std.specs.Prelude.{◌≡◌, List, ◌∷◌, ℕ, ◌+◌, ◌-◌, ◌≤◌}
 use Rattle.settings.specs.Clock.{window_ticks, look_ticks, join_ticks}
 use Rattle.answers.specs.declared.RateLimitDecision.TheVariants.{Allowed}
 use Rattle.settings.specs.declared.Settings.{Settings}
@@ -15,7 +14,7 @@ use Rattle.rules.specs.declared.RoomKind.TheVariants.{Suppressed}
 use Rattle.suppressed_verdicts.specs.Calls as Calls
 use Rattle.admissions.specs.Log.{in_span, aged}
 use Rattle.steps.specs.Ops.{draws, Call, words, answer_number}
-use Rattle.demand3.specs.History.{admitted, IsKey, limit_word, hard_of, soft_of, Clause, AllBy, LeavesAlone, Spares}
+use Rattle.demand3.specs.History.{admitted, IsKey, Clause, AllBy}
 
 -- "window less bucket milliseconds", and "one window", in ticks: where a millisecond has one, exactly these (`Modes.antt`); where it has more, the span is
 -- less than a millisecond shorter, and the look back less than one longer

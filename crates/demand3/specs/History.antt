@@ -1,10 +1,7 @@
 -- Histories of calls on a suppressed room (`Call`, `words` of the steps): what a key was admitted, counted from the answers given, and the calls that
 -- leave a key to the limiter.
 -- Assumes nothing.
-use Rattle.std.specs.Prelude.{◌≡◌, refl, Bool, true, false, ◌&&◌, ◌||◌, List, [], ◌∷◌, ◌≢◌, ◌⊎◌, ℕ, ◌≤◌, eqb, length, get_or}
-use Rattle.std.proofs.Common.{ap₂, subst, eq-eqb, eqb-true}
-use Rattle.std.proofs.lemmas.Bool.{false≢true}
-use Rattle.base.specs.Decides.{and-true, true-and}
+use Rattle.std.specs.Prelude.{◌≡◌, Bool, true, false, ◌&&◌, ◌||◌, List, [], ◌∷◌, ◌≢◌, ◌⊎◌, ℕ, ◌≤◌, eqb, length, get_or}
 use Rattle.answers.specs.Rows.{decision_row}
 use Rattle.common.specs.Limits.{hard_word, cut_word, soft_word}
 use Rattle.settings.specs.Settings.{window_in, factor_in}

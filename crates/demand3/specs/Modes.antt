@@ -2,11 +2,9 @@
 -- floor of `Demand3.antt`, at 1 and at 1,000,000 ticks to the millisecond.
 -- Assumes nothing.
 use Rattle.std.specs.Prelude.{◌≡◌, List, ◌∷◌, ℕ, ◌+◌, ◌-◌, ◌*◌, ◌≤◌, ◌<◌}
-use Rattle.std.proofs.Common.{ap, arith}
 use Rattle.settings.specs.Settings.{window_in, bucket_in}
-use Rattle.settings.specs.Clock.{ticks_of, window_in_milliseconds, window_ticks, look_ticks, join_ticks}
+use Rattle.settings.specs.Clock.{window_in_milliseconds}
 use Rattle.settings.specs.declared.ClockMode.{ClockMode}
-use Rattle.settings.specs.declared.ClockMode.TheVariants.{Milliseconds, Nanoseconds}
 use Rattle.settings.specs.declared.Settings.{Settings}
 use Rattle.answers.specs.declared.RateLimitDecision.TheVariants.{Allowed}
 use Rattle.common.specs.declared.units.RateLimit.{RateLimit}
@@ -15,10 +13,9 @@ use Rattle.parties.specs.Parties.{Sent}
 use Rattle.rules.specs.declared.RoomKind.TheVariants.{Suppressed}
 use Rattle.suppressed_verdicts.specs.Calls as Calls
 use Rattle.admissions.specs.Log.{in_span, aged}
-use Rattle.admissions.proofs.Log.{span-mono, aged-mono}
 use Rattle.steps.specs.Ops.{draws, Call, words, answer_number}
-use Rattle.demand3.specs.History.{admitted, IsKey, hard_of, soft_of, Clause, AllBy, LeavesAlone}
-use Rattle.demand3.specs.Demand3.{less_bucket, look_back, increment}
+use Rattle.demand3.specs.History.{admitted, IsKey, hard_of, soft_of, Clause, AllBy}
+use Rattle.demand3.specs.Demand3.{increment}
 
 -- ---- in one clock mode, of settings that are as asked: spans and look back as said, in ticks
 

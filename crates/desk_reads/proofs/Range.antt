@@ -5,7 +5,7 @@ use Rattle.std.proofs.Math.Path.{refl, sym, subst}
 use Rattle.std.proofs.Common.{ap, ◌∙◌, true≢false, eq-eqb, ne_eqb, leb-true, ltb-true}
 use Rattle.std.proofs.Math.Bool.{true, false, not, cond}
 use mathlib.Core.List.{List, [], ◌∷◌, ◌++◌}
-use Prim.Native.Nat.{ℕ, ◌+◌, ◌≤◌, ◌<◌}
+use Prim.Native.Nat.{ℕ, ◌≤◌, ◌<◌}
 use Rattle.std.proofs.Math.Decide.{ℕ_discrete, dec_lt}
 use native.Mathlib.Omega.{arith}
 use Rattle.std.proofs.lemmas.Bool.{lt-leb}
@@ -18,7 +18,7 @@ use Rattle.common.specs.declared.units.WindowSize.{WindowSize}
 use Rattle.settings.specs.Clock.{ticks_in, window_ticks}
 use Rattle.settings.specs.Settings.{faults, proper, window_in, bucket_in, cache_in, factor_in}
 use Rattle.settings.specs.declared.Settings.{Settings}
-use Rattle.layout.specs.Layout.{first_mark, second_mark, most_total, longest_key}
+use Rattle.layout.specs.Layout.{first_mark, most_total, longest_key}
 use Rattle.ring.specs.declared.Bucket.{Bucket}
 use Rattle.ring.specs.Order.{fine-sums}
 use Rattle.ring.specs.Ring.{count_of, sum_of, counts, buckets}
@@ -51,20 +51,18 @@ use Rattle.suppressed_verdicts.specs.Calls as OnSuppressed
 use Rattle.leaves.proofs.SuppressedFollows.{get-follows, inc-follows}
 use Rattle.leaves.specs.Unit.{Within01, nil-within, DecisionOk, SnapshotOk}
 use Rattle.places.specs.SoundRoom.{SoundRoom}
-use Rattle.steps.specs.History.{Sane}
 use Rattle.steps.specs.Ops as Ops
 use Rattle.steps.specs.Ops.{Op}
 use Rattle.steps.specs.Table.{table_of}
 use Rattle.apart.specs.Alone.{Alone, Others, sole_table}
 use Rattle.apart.proofs.Alone.{alone-number}
 use Rattle.apart.specs.Promised.{caller_in}
-use Rattle.apart.specs.Own.{NoneOf}
 use Rattle.apart.proofs.Own.{own_alone}
 use Rattle.told.specs.Told.{no_stored, decided, live, snapped}
 use Rattle.told.specs.Range.{TotalsFit, FactorFits, RefusalFits, timeless, ToldFits}
 use Rattle.told.specs.declared.Stored.{Stored}
 use Rattle.told.specs.declared.Told.{Told}
-use Rattle.told.specs.declared.Told.TheVariants.{Allowed, Rejected, Suppressed, Refused}
+use Rattle.told.specs.declared.Told.TheVariants.{Suppressed, Refused}
 use Rattle.desk_lines.specs.Lines.{alone, stored_at, pick_stored, stored_of}
 use Rattle.desk_reads.specs.Range.{is_between, OwnRoom}
 

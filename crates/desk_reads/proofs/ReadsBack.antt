@@ -1,7 +1,7 @@
 -- Every line that `desk` prints reads back (document 02, ticket 1), on any input: from what `desk` prints (`desk_laws`). Between two lines its rooms are sound
 -- and its one party's; so what it tells is in range, and the line is what is printed of that.
 -- Assumes nothing.
-use Rattle.std.specs.Prelude.{◌≡◌, Bool, true, false, not, cond, List, [], ◌∷◌, ◌++◌, ◌≢◌, ℕ, eqb, length}
+use Rattle.std.specs.Prelude.{◌≡◌, Bool, true, false, not, cond, List, [], ◌∷◌, ◌++◌, ◌≢◌, ℕ, eqb}
 use Rattle.std.proofs.Math.Path.{refl}
 use Rattle.std.proofs.Common.{sym, ap, ap₂, subst, ◌∙◌, append_assoc, append-nil, arith, eqb-true, ne_eqb}
 use Rattle.std.proofs.lemmas.Bool.{false≢true, eqb-false}
@@ -38,23 +38,21 @@ use Rattle.printing.specs.declared.AnswerLine.{AnswerLine}
 use Rattle.answer_lines.specs.Reading.{is_hex}
 use Rattle.answer_lines.specs.Hex.{each-hex}
 use Rattle.told.specs.Told.{bad_line, decided, live, snapped, refused_line, line_of}
-use Rattle.told.specs.Range.{RefusalFits, ToldFits, Fits, Reads}
+use Rattle.told.specs.Range.{RefusalFits, ToldFits, Fits}
 use Rattle.told.specs.declared.Told.{Told}
 use Rattle.told.specs.declared.Told.TheVariants as told
 use Rattle.told.specs.declared.ToldLine.{ToldLine}
-use Rattle.told.specs.declared.LineAnswer.TheVariants.{Line}
 use Rattle.desk_lines.specs.Lines.{alone, stored_of, decision_line, total_line, snapshot_line, per_minute}
 use Rattle.desk_step.specs.Desk as Calls
 use Rattle.desk_step.specs.Desk.{open_with, opening_in, opening_of, settings_of}
 use Rattle.desk_step.specs.declared.Opening.TheVariants as opening
-use Rattle.desk_turn.specs.declared.Program.{Program}
 use Rattle.desk_turn.specs.declared.Program.TheVariants as program
 use Rattle.desk_turn.specs.declared.Phase.{Phase}
 use Rattle.desk_turn.specs.declared.Phase.TheVariants.{Waiting, Open, Ended}
 use Rattle.desk_turn.specs.Lines.{newline, shown, phase_in, prints_in, stepped_by, turn}
 use Rattle.desk_feed.specs.Clauses.{slots_of, ring_length, new_first, new_second}
 use Rattle.desk_laws.specs.Whole.{call_lines, input_lines, printed, program-prints, in_line, all_in_line, text_in-line, digits-in-line, next-line}
-use Rattle.desk_laws.specs.Lines.{Stand, texts, texts-both, all-turns}
+use Rattle.desk_laws.specs.Lines.{texts, texts-both, all-turns}
 use Rattle.desk_laws.specs.Asks.{kind_of, room_of, op_of, plain-bytes}
 use Rattle.desk_reads.specs.Range.{OwnRoom}
 use Rattle.desk_reads.proofs.Range.{stored-fits, absolute-inc-fits, absolute-get-fits, suppressed-inc-fits, suppressed-get-fits, fault-fits}

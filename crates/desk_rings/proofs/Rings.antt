@@ -11,8 +11,7 @@ use Rattle.settings.specs.declared.Settings.{Settings}
 use Rattle.ring_length.specs.RingLength.{sufficient_ring}
 use Rattle.rules.specs.declared.RoomKind.{RoomKind}
 use Rattle.rules.specs.declared.RoomKind.TheVariants.{Absolute, Suppressed}
-use Rattle.room.specs.Room.{length_of, fits, empty}
-use Rattle.frame.specs.Keys.{Bytes}
+use Rattle.room.specs.Room.{length_of, fits}
 use Rattle.parties.specs.Parties.{sent}
 use Rattle.table.specs.Table.{empty_table}
 use Rattle.lines.specs.Laws.{key_in, CallRead, call-read, settings-shown}
@@ -20,10 +19,7 @@ use Rattle.lines.specs.Reading.{read_call, read_settings}
 use Rattle.lines.specs.Shown.{show_settings}
 use Rattle.lines.specs.declared.CallLine.{CallLine}
 use Rattle.lines.specs.declared.CallLine.TheVariants as call
-use Rattle.lines.specs.declared.Op as line_op
-use Rattle.lines.specs.declared.Op.TheVariants.{AbsoluteInc, AbsoluteGet, SuppressedInc, SuppressedGet}
 use Rattle.lines.specs.declared.SettingsLine.{SettingsLine}
-use Rattle.lines.specs.declared.SettingsLine.TheVariants as settings
 use Rattle.shot_lines.specs.Laws.{ShotRead, shot-read}
 use Rattle.shot_lines.specs.Reading.{read_shot}
 use Rattle.shot_lines.specs.declared.ShotLine.{ShotLine}
@@ -42,19 +38,18 @@ use Rattle.desk_turn.specs.declared.Phase.TheVariants.{Waiting, Open, Ended}
 use Rattle.desk_turn.specs.Lines.{newline, phase_in, prints_in, stepped_by, turn}
 use Rattle.desk_feed.specs.Clauses.{slots_of, ring_length, new_first, new_second}
 use Rattle.desk_laws.specs.Whole.{input_lines, turns, printed, program-prints, settings-first}
-use Rattle.desk_laws.specs.Lines.{Without, Stand, shot-code, no_line, more-lines, all_lines}
-use Rattle.desk_laws.specs.Asks.{plain-bytes, kind_of, room_of, op_of, call-code, opening-line, turn-line}
-use Rattle.steps.specs.Ops.{Op, Call, Keyed, AllKeyed, verdict_of, after, answer_number, words}
+use Rattle.desk_laws.specs.Lines.{Without, shot-code, no_line, more-lines, all_lines}
+use Rattle.desk_laws.specs.Asks.{plain-bytes, call-code, opening-line, turn-line}
+use Rattle.steps.specs.Ops.{verdict_of}
 use Rattle.steps.specs.Order.{met}
 use Rattle.steps.proofs.Order.{first-met}
-use Rattle.rings.proofs.Roomy.{roomy-untold}
 use Rattle.rings.specs.Rings.{Meets}
-use Rattle.rings.proofs.Rings.{necessary, always-roomy}
+use Rattle.rings.proofs.Rings.{necessary}
 use Rattle.through.specs.Events.{Event, shot, Lent, lent, left}
 use Rattle.through.specs.Events as Through
-use Rattle.through.specs.Rings.{EachKeyed, number_in}
+use Rattle.through.specs.Rings.{number_in}
 use Rattle.through.proofs.Rings.{through-never-full}
-use Rattle.desk_rings.specs.Rings.{Enough, first_of, NeverFull, new-left, program-fits, DeskStands, asks-untold, keyed, call-stands, ShotsStands, StandsBy, Opened, default_line}
+use Rattle.desk_rings.specs.Rings.{Enough, first_of, NeverFull, new-left, program-fits, DeskStands, asks-untold, call-stands, ShotsStands, StandsBy, Opened, default_line}
 
 -- ---- `desk`
 

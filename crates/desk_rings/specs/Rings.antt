@@ -1,59 +1,34 @@
 -- `desk` and `shots` print no code 12 where their rings suffice (document 02, ticket 4): so at a window of 30 s and buckets of 100 ms (ticket 5), whatever
 -- lines come. Of `desk`'s rooms each has a history of calls, the room of `shots` one of shots through a gateway: what is promised of these is promised of it.
 -- Assumes nothing.
-use Rattle.std.specs.Prelude.{◌≡◌, refl, Bool, true, false, cond, List, [], ◌∷◌, ◌++◌, ◌≢◌, ℕ, ◌-◌, ◌≤◌, eqb, length}
-use Rattle.std.proofs.Common.{sym, ap, subst, ◌∙◌, arith}
-use Rattle.std.proofs.lemmas.Bool.{false≢true}
-use Rattle.fields.specs.Ranges.{largest, exact_largest}
-use Rattle.common.specs.Refusals.{first}
-use Rattle.settings.specs.Settings.{defaults, defaults-unrefused, faults}
+use Rattle.std.specs.Prelude.{◌≡◌, refl, true, List, [], ◌∷◌, ◌≢◌, ℕ, ◌≤◌, length}
+use Rattle.std.proofs.Common.{sym, ap, subst}
 use Rattle.settings.specs.declared.Settings.{Settings}
 use Rattle.ring_length.specs.RingLength.{sufficient_ring}
 use Rattle.rules.specs.declared.RoomKind.{RoomKind}
 use Rattle.rules.specs.declared.RoomKind.TheVariants.{Absolute, Suppressed}
 use Rattle.room.specs.Room.{length_of, fits, empty}
 use Rattle.frame.specs.Keys.{Bytes}
-use Rattle.parties.specs.Parties.{sent}
-use Rattle.table.specs.Table.{empty_table}
-use Rattle.lines.specs.Laws.{key_in, CallRead, call-read, settings-shown}
-use Rattle.lines.specs.Reading.{read_call, read_settings}
-use Rattle.lines.specs.Shown.{show_settings}
-use Rattle.lines.specs.declared.CallLine.{CallLine}
-use Rattle.lines.specs.declared.CallLine.TheVariants as call
 use Rattle.lines.specs.declared.Op as line_op
 use Rattle.lines.specs.declared.Op.TheVariants.{AbsoluteInc, AbsoluteGet, SuppressedInc, SuppressedGet}
 use Rattle.lines.specs.declared.SettingsLine.{SettingsLine}
 use Rattle.lines.specs.declared.SettingsLine.TheVariants as settings
-use Rattle.shot_lines.specs.Laws.{ShotRead, shot-read}
-use Rattle.shot_lines.specs.Reading.{read_shot}
-use Rattle.shot_lines.specs.declared.ShotLine.{ShotLine}
-use Rattle.shot_lines.specs.declared.ShotLine.TheVariants as shot_line
-use Rattle.told.specs.Told.{bad_line}
-use Rattle.desk_lines.specs.Lines.{alone, per_minute}
 use Rattle.desk_step.specs.Desk as Calls
 use Rattle.desk_step.specs.Desk.{open_with, opening_in, opening_of}
 use Rattle.desk_step.specs.declared.Opening.{Opening}
 use Rattle.desk_step.specs.declared.Opening.TheVariants as opening
-use Rattle.shots_step.specs.Shots as Shots
 use Rattle.desk_turn.specs.declared.Program.{Program}
 use Rattle.desk_turn.specs.declared.Program.TheVariants as program
-use Rattle.desk_turn.specs.declared.Phase.{Phase}
 use Rattle.desk_turn.specs.declared.Phase.TheVariants.{Waiting, Open, Ended}
-use Rattle.desk_turn.specs.Lines.{newline, phase_in, prints_in, stepped_by, turn}
 use Rattle.desk_feed.specs.Clauses.{slots_of, ring_length, new_first, new_second}
-use Rattle.desk_laws.specs.Whole.{input_lines, turns, printed, program-prints, settings-first}
-use Rattle.desk_laws.specs.Lines.{Without, Stand, shot-code, no_line, more-lines, all_lines}
-use Rattle.desk_laws.specs.Asks.{plain-bytes, kind_of, room_of, op_of, call-code, opening-line, turn-line}
-use Rattle.steps.specs.Ops.{Op, Call, Keyed, AllKeyed, verdict_of, after, answer_number, words}
-use Rattle.steps.specs.Order.{met}
-use Rattle.steps.proofs.Order.{first-met}
+use Rattle.desk_laws.specs.Whole.{input_lines, printed}
+use Rattle.desk_laws.specs.Lines.{Without, Stand}
+use Rattle.desk_laws.specs.Asks.{kind_of, room_of, op_of}
+use Rattle.steps.specs.Ops.{Op, Call, Keyed, AllKeyed, after, answer_number, words}
 use Rattle.rings.proofs.Roomy.{roomy-untold}
-use Rattle.rings.specs.Rings.{Meets}
-use Rattle.rings.proofs.Rings.{necessary, always-roomy}
-use Rattle.through.specs.Events.{Event, shot, Lent, lent, left}
-use Rattle.through.specs.Events as Through
-use Rattle.through.specs.Rings.{EachKeyed, number_in}
-use Rattle.through.proofs.Rings.{through-never-full}
+use Rattle.rings.proofs.Rings.{always-roomy}
+use Rattle.through.specs.Events.{Event, lent, left}
+use Rattle.through.specs.Rings.{EachKeyed}
 
 -- ---- the statement
 

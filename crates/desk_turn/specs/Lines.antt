@@ -1,7 +1,7 @@
 -- `desk` or `shots` on a line: the phase after it, the memories after it, and what it prints. a and b are the words of the two memories: `desk`'s are the
 -- absolute and the suppressed room, those of `shots` the table and the room.
 -- Assumes nothing.
-use Rattle.std.specs.Prelude.{List, [], ◌∷◌, ◌++◌, ℕ, ◌+◌}
+use Rattle.std.specs.Prelude.{List, [], ◌∷◌, ◌++◌, ℕ}
 use Rattle.settings.specs.declared.Settings.{Settings}
 use Rattle.printing.specs.Answers.{show_answer}
 use Rattle.printing.specs.declared.AnswerLine.{AnswerLine}

@@ -1,6 +1,6 @@
 -- Whole numbers as decimals without leading zeros, and what a run of digits says.
 -- Assumes nothing.
-use Rattle.std.specs.Prelude.{◌≡◌, refl, Bool, true, false, cond, List, [], ◌∷◌, ◌++◌, ℕ, zero, suc, ◌+◌, ◌-◌, ◌*◌, ◌/◌, ◌%◌, ◌≤◌, ◌<◌, length, get_or, ltb}
+use Rattle.std.specs.Prelude.{◌≡◌, refl, Bool, true, false, cond, List, [], ◌∷◌, ◌++◌, ℕ, zero, suc, ◌+◌, ◌*◌, ◌/◌, ◌%◌, ◌≤◌, ◌<◌, length, get_or, ltb}
 use Rattle.std.proofs.Common.{sym, ap, ◌∙◌, append_assoc, append-nil, div-add-mod', mod-lt, arith, length-append, lt-ltb, le-ltb}
 use Rattle.std.proofs.Math.Nat.{div-lt_self}
 use Rattle.std.proofs.Math.Decide.{dec_lt}

@@ -26,7 +26,7 @@ use Rattle.judge.specs.Held.{held_in}
 use Rattle.opened.specs.Right.{slot-addressed}
 use Rattle.layout.specs.Layout.{first_mark, second_mark}
 use Rattle.ring.specs.declared.Bucket.{Bucket}
-use Rattle.ring.specs.Ring.{no_bucket, buckets}
+use Rattle.ring.specs.Ring.{no_bucket}
 use Rattle.ring.specs.Order.{Fine}
 use Rattle.ring.specs.Sound.{sound_buckets, sound-true}
 use Rattle.ring.specs.View.{view-length}

@@ -1,7 +1,7 @@
 -- What stands in a room after a change of one slot: everything the room has, in one record, with a law for each change and for each run of
 -- them that a call makes.
 -- Assumes nothing.
-use Rattle.std.specs.Prelude.{◌≡◌, refl, ◌≢◌, ◌⊎◌, ℕ, ◌+◌, ◌-◌, ◌*◌, ◌≤◌, ◌<◌, drop}
+use Rattle.std.specs.Prelude.{◌≡◌, refl, ◌≢◌, ◌⊎◌, ℕ, ◌+◌, ◌*◌, ◌≤◌, ◌<◌, drop}
 use Rattle.std.proofs.Common.{sym, ◌∙◌, inl, inr, length-set, get_or-set_same}
 use Rattle.std.proofs.Math.Path.{ap, ap₂}
 use mathlib.Core.List.{List, [], ◌∷◌}

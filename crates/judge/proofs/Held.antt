@@ -1,14 +1,12 @@
 -- What a key holds in a room, as document 01's rules speak of it: the lowest slot with the key has it.
 -- Assumes nothing.
-use Rattle.std.specs.Prelude.{◌≡◌, Bool, cond, List, [], ℕ, ◌≤◌, ◌<◌, ltb}
+use Rattle.std.specs.Prelude.{◌≡◌, Bool, cond, List, ℕ, ◌≤◌, ◌<◌}
 use Rattle.std.proofs.Math.Path.{ap}
 use Rattle.std.proofs.Common.{lt-ltb, le-ltb}
-use Rattle.ring.specs.declared.Bucket.{Bucket}
-use Rattle.ring.specs.Ring.{buckets}
-use Rattle.rules.specs.Held.{Held, nothing}
+use Rattle.rules.specs.Held.{nothing}
 use Rattle.room.specs.Room.{slots_of, ring_of, use_of, body_of}
 use Rattle.parties.specs.Parties.{Sent}
-use Rattle.opened.specs.Sound.{limit_of, factor_of, factor_time_of, has_series, has_cached, addressed}
+use Rattle.opened.specs.Sound.{addressed}
 use Rattle.judge.specs.Held.{held_of, held_in}
 
 module _ (w : List ℕ) (key : Sent) where

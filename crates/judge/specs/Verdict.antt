@@ -1,16 +1,13 @@
 -- What a call is to answer and to leave, for every input: the first refusal of its list whose condition holds, with every word as it came in; or else its
 -- answer and its words.
 -- Assumes nothing.
-use Rattle.std.specs.Prelude.{◌≡◌, refl, Bool, true, false, List, ◌≢◌, ℕ, eqb}
-use Rattle.std.proofs.Common.{sym, subst, ◌∙◌, eq-eqb, ne_eqb, eqb-true}
+use Rattle.std.specs.Prelude.{◌≡◌, Bool, List, ℕ, eqb}
 use Rattle.std.proofs.Math.Bool.{cond}
-use Rattle.std.proofs.Math.Decide.{ℕ_discrete}
-use Rattle.std.proofs.lemmas.Bool.{eqb-false}
 use Rattle.parties.specs.Parties.{Sent}
 use Rattle.common.specs.Refusals.{first}
 use Rattle.settings.specs.declared.Settings.{Settings}
 use Rattle.rules.specs.declared.RoomKind.{RoomKind}
-use Rattle.judge.specs.Judge.{refusals, early, Passed}
+use Rattle.judge.specs.Judge.{refusals}
 
 pub record Verdict (A : Type 0) : Type 0 where
   pub answer : A

@@ -1,7 +1,7 @@
 -- The absolute limiter follows its rules passes the view: each call, for every input, is refused with every word as it was, or answers and leaves what the
 -- rules make of the key's buckets (`get-follows`, `ask-follows`, `inc-follows`).
 -- Assumes nothing.
-use Rattle.std.specs.Prelude.{◌≡◌, Bool, ◌&&◌, ◌||◌, ◌≢◌, ℕ, suc, ◌-◌, ◌<◌, length, get_or, ltb}
+use Rattle.std.specs.Prelude.{◌≡◌, Bool, ◌&&◌, ◌||◌, ℕ, suc, ◌<◌, length, get_or, ltb}
 use Rattle.std.proofs.Math.Path.{refl, sym, ap, ap₂, subst}
 use Rattle.std.proofs.Common.{◌∙◌, arith, eq-eqb, eqb-true, le-ltb, ltb-true, ltb-false}
 use Rattle.std.proofs.Math.Bool.{true, false, not, cond}

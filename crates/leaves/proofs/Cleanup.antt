@@ -1,7 +1,7 @@
 -- What a cleanup leaves: every word but uses, who holds a slot and the last reading; of each slot what the rule keeps; slots in use sound, keys in one slot
 -- each.
 -- Assumes nothing.
-use Rattle.std.specs.Prelude.{◌≡◌, Bool, true, false, not, ◌&&◌, ◌||◌, List, ◌≢◌, ℕ, ◌-◌, ◌≤◌, ◌<◌, length, get_or, set, eqb}
+use Rattle.std.specs.Prelude.{◌≡◌, Bool, true, false, not, ◌&&◌, ◌||◌, List, ◌≢◌, ℕ, ◌≤◌, ◌<◌, length, get_or, set, eqb}
 use Rattle.std.proofs.Math.Path.{refl, ap}
 use Rattle.std.proofs.Common.{sym, subst, ◌∙◌, arith, length-set, get_or-set_same, get_or-set_other, eq-eqb, ne_eqb, eqb-true, le-leb, leb-true, lt-ltb, le-ltb}
 use Rattle.std.proofs.lemmas.Bool.{false≢true}
@@ -31,7 +31,7 @@ use Rattle.cleanup.specs.Cleanup.{refusal, cleanup}
 use Rattle.stale.specs.Uses.{uses, use_after, use_next, swept, cleaned}
 use Rattle.rules.specs.Stale.{series_stays, factor_stays}
 use Rattle.cleanup.specs.Laws.{Passed, passed-sound, sound-parts, parts-sound}
-use Rattle.stale.specs.Swept.{swept-length, swept-other, Settled, swept-settled}
+use Rattle.stale.specs.Swept.{swept-length, swept-other, swept-settled}
 use Rattle.leaves.specs.Cleanup.{Cleaned, series_kept, cached_kept}
 
 -- ---- every word

@@ -10,9 +10,9 @@ use Rattle.std.proofs.Math.Decide.{ℕ_discrete}
 use Rattle.answers.specs.HistoryMode.{no_snapshot}
 use Rattle.common_laws.specs.LimitLaws.{soft-le-hard}
 use Rattle.common.specs.Limits.{cut_word, soft_word}
-use Rattle.common.specs.Ranges.{nil, one}
+use Rattle.common.specs.Ranges.{one}
 use Rattle.common.specs.Refusals.{first, all-false}
-use Rattle.settings.specs.Settings.{factor_in, Proper}
+use Rattle.settings.specs.Settings.{factor_in}
 use Rattle.settings.specs.Clock.{window_ticks, join_ticks, cache_ticks}
 use Rattle.answers.specs.declared.FactorAnswer.{FactorAnswer}
 use Rattle.answers.specs.declared.FactorAnswer.TheVariants as factor
@@ -24,21 +24,20 @@ use Rattle.answers.specs.declared.SuppressedRateLimitSnapshot.{SuppressedRateLim
 use Rattle.settings.specs.declared.Settings.{Settings}
 use Rattle.common.specs.declared.units.RateLimit.{RateLimit}
 use Rattle.rules.specs.Buckets.{joined}
-use Rattle.ring.specs.declared.Bucket.{Bucket}
-use Rattle.ring.specs.Ring.{counts, declineds}
+use Rattle.ring.specs.Ring.{counts}
 use Rattle.rules.specs.declared.Asked.{Asked}
 use Rattle.rules.specs.declared.Outcome.{Outcome}
 use Rattle.rules.specs.declared.RoomKind.TheVariants as kind
 use Rattle.rules.specs.Held.{Held}
-use Rattle.rules.specs.Both.{live_of, overdue_in, looked_of}
+use Rattle.rules.specs.Both.{overdue_in, looked_of}
 use Rattle.rules.specs.Suppressed.{limit_for, usable, asked, asking, forecast, reach_of, declined_by, outcome_of, outcome, admits, inc_turns, factor_turns}
 use Rattle.rules.proofs.Laws.{empty-admits, reach-admits, reach-soft, reach-hard, reach-over, declined-all}
-use Rattle.room.specs.Room.{ring_of, with_reading}
+use Rattle.room.specs.Room.{ring_of}
 use Rattle.frame.specs.Keys.{Bytes}
 use Rattle.parties.specs.Parties.{Sent, key_for, none_left}
 use Rattle.opened.specs.declared.Slot.{Slot}
 use Rattle.judge.specs.Held.{held_in}
-use Rattle.judge.specs.Judge.{refusals, early, Passed, slot_in, looked_in}
+use Rattle.judge.specs.Judge.{early, Passed, slot_in, looked_in}
 use Rattle.judge.proofs.Laws.{passed}
 use Rattle.judge.specs.Verdict.{Verdict}
 use Rattle.change.specs.Words.{applied}
@@ -54,7 +53,7 @@ use Rattle.suppressed_verdicts.specs.Laws.{get-done, factor-done, inc-done}
 use Rattle.suppressed_verdicts.specs.Seen.{sees, looks, usable-is, second_is, second-looked, asking-is, limit_is, decides, late_is}
 use Rattle.leaves.specs.Calls.{Stands}
 use Rattle.leaves.specs.Follows.{Follows, call-follows}
-use Rattle.leaves.specs.Unit.{SnapshotOk, FactorOk, DecisionOk}
+use Rattle.leaves.specs.Unit.{SnapshotOk, FactorOk}
 use Rattle.leaves.proofs.Unit.{snapshot-ok}
 use Rattle.leaves.specs.Leaves.{asked-anew, found_ok, looked-ok, get-stands, get_keeps, factor-stands, factor-keeps, factor-lone-stands}
 use Rattle.leaves.specs.Leaves.{decision-ok, inc-stands}

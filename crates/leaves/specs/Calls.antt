@@ -21,7 +21,7 @@ use Rattle.common.specs.declared.units.RateLimit.{RateLimit}
 use Rattle.answers.specs.declared.HistoryUpdateMode.{HistoryUpdateMode}
 use Rattle.answers.specs.declared.HistoryUpdateMode.TheVariants as mode
 use Rattle.rules.specs.Buckets.{live, gone, joins, joined, replaced, preserved}
-use Rattle.preserve.proofs.Preserves.{preserved-comes, replaced-comes}
+use Rattle.preserve.proofs.Preserves.{preserved-comes}
 use Rattle.ring.specs.declared.Bucket.{Bucket}
 use Rattle.layout.specs.Layout.{most_total}
 use Rattle.ring.specs.Ring.{bucket, denied_of, declineds, declined_of, buckets, counts}

@@ -1,37 +1,13 @@
 -- What a cleanup leaves: every word but uses, who holds a slot and the last reading; of each slot what the rule keeps; slots in use sound, keys in one slot
 -- each.
 -- Assumes nothing.
-use Rattle.std.specs.Prelude.{◌≡◌, Bool, true, false, not, ◌&&◌, ◌||◌, List, ◌≢◌, ℕ, ◌-◌, ◌≤◌, ◌<◌, length, get_or, set, eqb}
-use Rattle.std.proofs.Math.Path.{refl, ap}
-use Rattle.std.proofs.Common.{sym, subst, ◌∙◌, arith, length-set, get_or-set_same, get_or-set_other, eq-eqb, ne_eqb, eqb-true, le-leb, leb-true, lt-ltb, le-ltb}
-use Rattle.std.proofs.lemmas.Bool.{false≢true}
-use Rattle.std.proofs.Math.Decide.{ℕ_discrete}
-use Rattle.settings.specs.Clock.{age_in_milliseconds, ticks_in}
-use Rattle.base.specs.Decides.{and-true, true-and}
-use Rattle.suppression.specs.Factor.{factor_word_ok}
-use Rattle.answers.specs.declared.DoneAnswer.TheVariants.{Done}
-use Rattle.settings.specs.declared.Settings.{Settings}
-use Rattle.rules.specs.Buckets.{newest}
-use Rattle.ring.specs.declared.Bucket.{Bucket}
-use Rattle.layout.specs.Layout.{slots_word, ring_word, last_word, firsts_word, seconds_word}
+use Rattle.std.specs.Prelude.{◌≡◌, Bool, ◌&&◌, List, ◌≢◌, ℕ, ◌<◌, length, get_or}
+use Rattle.layout.specs.Layout.{last_word, firsts_word, seconds_word}
 use Rattle.ring.specs.Ring.{buckets}
-use Rattle.ring.specs.Sound.{sound_buckets, sound-true, true-sound, sound-later}
-use Rattle.room.specs.Room.{slots_of, ring_of, last_of, entry_of, Room, holder_of, use_of, used_at, key_at, body_of, with_reading}
-use Rattle.room.specs.Entries.{holder-same, used-held, used-free}
-use Rattle.parties.specs.declared.Caller.{Caller}
-use Rattle.keys.specs.Keys.{key_fits}
-use Rattle.room.specs.Laws.{room-same}
-use Rattle.frame.specs.Frame.{key-ext, body_ext}
-use Rattle.frame.specs.Distinct.{Distinct}
-use Rattle.rules.specs.declared.RoomKind.{RoomKind}
-use Rattle.rules.specs.declared.RoomKind.TheVariants.{Absolute, Suppressed}
-use Rattle.opened.specs.Sound.{factor_of, factor_time_of, has_series, has_cached, right_use, sound_series, sound_cached, sound_slot}
-use Rattle.judge.specs.Verdict.{unless_refused}
-use Rattle.cleanup.specs.Cleanup.{refusal, cleanup}
-use Rattle.stale.specs.Uses.{uses, use_after, use_next, swept, cleaned}
+use Rattle.room.specs.Room.{slots_of, ring_of, last_of, entry_of, Room, used_at, body_of}
+use Rattle.opened.specs.Sound.{factor_time_of, has_series, has_cached}
 use Rattle.rules.specs.Stale.{series_stays, factor_stays}
-use Rattle.cleanup.specs.Laws.{Passed, passed-sound, sound-parts, parts-sound}
-use Rattle.stale.specs.Swept.{swept-length, swept-other, Settled, swept-settled}
+use Rattle.stale.specs.Swept.{Settled}
 
 -- ---- every word
 

@@ -1,14 +1,14 @@
 -- A call for every input: refused with its number and every word as it was, or what holds of it.
 -- Assumes nothing.
 use Rattle.std.specs.Prelude.{◌≡◌, refl, Bool, true, false, List, ◌≢◌, ℕ, eqb}
-use Rattle.std.proofs.Common.{sym, ap, subst, ◌∙◌, eq-eqb, eqb-true}
+use Rattle.std.proofs.Common.{sym, subst, ◌∙◌, eq-eqb, eqb-true}
 use Rattle.std.proofs.lemmas.Bool.{eqb-false}
 use Rattle.parties.specs.Parties.{Sent}
 use Rattle.common.specs.Refusals.{first}
 use Rattle.settings.specs.declared.Settings.{Settings}
 use Rattle.rules.specs.declared.RoomKind.{RoomKind}
-use Rattle.judge.specs.Judge.{refusals, early, Passed}
-use Rattle.judge.proofs.Laws.{passed, refused-early, refused-own}
+use Rattle.judge.specs.Judge.{refusals, early}
+use Rattle.judge.proofs.Laws.{refused-early, refused-own}
 use Rattle.judge.specs.Verdict.{Verdict, Told, unless_refused, call}
 use Rattle.judge.proofs.Verdict.{told-turned}
 

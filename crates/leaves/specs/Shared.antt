@@ -30,18 +30,17 @@ use Rattle.rules.specs.declared.RoomKind.{RoomKind}
 use Rattle.rules.specs.Held.{Held, has_any}
 use Rattle.rules.specs.Both.{limit_in}
 use Rattle.rules.specs.Sets as rules
-use Rattle.room.specs.Room.{slots_of, holder_of, use_of, key_at, body_of, with_reading, cleared}
-use Rattle.parties.specs.declared.Caller.{Caller}
+use Rattle.room.specs.Room.{slots_of, holder_of, use_of, key_at, body_of, with_reading}
 use Rattle.frame.specs.Frame.{Changed, unheld}
 use Rattle.frame.specs.Keys.{Bytes}
-use Rattle.frame.specs.Whole.{Cleared, clear-read-run}
-use Rattle.parties.specs.Parties.{Sent, key_for, mark_of, none_left}
+use Rattle.frame.specs.Whole.{Cleared}
+use Rattle.parties.specs.Parties.{Sent, key_for, none_left}
 use Rattle.opened.specs.declared.Slot.{Slot}
 use Rattle.judge.specs.Held.{held_in}
 use Rattle.judge.specs.Judge.{refusals, Passed, slot_in}
 use Rattle.judge.proofs.Laws.{passed}
 use Rattle.opened.specs.Sound.{sound_slot}
-use Rattle.judge.specs.Verdict.{Verdict, verdict}
+use Rattle.judge.specs.Verdict.{Verdict}
 use Rattle.change.specs.declared.Change.TheVariants.{Keep, Update}
 use Rattle.edit.specs.declared.Then.TheVariants.{Nothing}
 use Rattle.change.specs.Words.{applied}
@@ -50,13 +49,9 @@ use Rattle.plan.specs.Seen.{Seen, seen, held-there, has-is, lacks-is}
 use Rattle.shared_opened.specs.Opened.{used_with, limiting}
 use Rattle.sets_opened.specs.Sets.{setting}
 use Rattle.calls.specs.Applies.{place-free}
-use Rattle.clearing.specs.Clear as Clear
 use Rattle.calls.specs.Delete as Delete
 use Rattle.calls.specs.Rate as Rate
 use Rattle.calls.specs.Set as Sets
-use Rattle.cleanup.specs.Cleanup as Cleanup
-use Rattle.stale.specs.Uses as Uses
-use Rattle.cleanup.specs.Laws as CleanupLaws
 use Rattle.leaves.specs.Calls.{Stands, keep-words, delete-frees, delete-keeps, rate-stands, set_keeps, set-frees, set-stands, set-begins-lone, set-begins}
 use Rattle.leaves.specs.Cleanup.{Cleaned}
 use Rattle.leaves.specs.Follows.{follows, unrefused-early, unrefused-own}

@@ -2,25 +2,18 @@
 -- of what the key holds. What an increment admits does not pass the hard limit, and what stays within the soft one is allowed. x is the key's slot,
 -- whose words are told.
 -- Assumes nothing.
-use Rattle.std.specs.Prelude.{◌≡◌, refl, Bool, true, false, cond, ℕ, ◌≤◌, ◌<◌}
-use Rattle.std.proofs.Common.{sym, ap, ap₂, subst, ◌∙◌, arith}
-use Rattle.std.proofs.lemmas.Bool.{false≢true}
+use Rattle.std.specs.Prelude.{◌≡◌, true, false, ℕ}
 use mathlib.Core.List.{List, []}
-use Rattle.std.proofs.Math.Decide.{ℕ_discrete}
 use Rattle.answers.specs.HistoryMode.{no_snapshot}
-use Rattle.common_laws.specs.LimitLaws.{soft-le-hard}
-use Rattle.common.specs.Limits.{cut_word, soft_word}
-use Rattle.common.specs.Ranges.{nil, one}
-use Rattle.common.specs.Refusals.{first, all-false}
-use Rattle.settings.specs.Settings.{factor_in, Proper}
-use Rattle.settings.specs.Clock.{window_ticks, join_ticks, cache_ticks}
+use Rattle.common.specs.Ranges.{nil}
+use Rattle.common.specs.Refusals.{first}
+use Rattle.settings.specs.Settings.{Proper}
+use Rattle.settings.specs.Clock.{join_ticks}
 use Rattle.answers.specs.declared.FactorAnswer.{FactorAnswer}
 use Rattle.answers.specs.declared.FactorAnswer.TheVariants as factor
 use Rattle.answers.specs.declared.RateLimitDecision.{RateLimitDecision}
-use Rattle.answers.specs.declared.RateLimitDecision.TheVariants as decision
 use Rattle.answers.specs.declared.SnapshotAnswer.{SnapshotAnswer}
 use Rattle.answers.specs.declared.SnapshotAnswer.TheVariants as snapshot
-use Rattle.answers.specs.declared.SuppressedRateLimitSnapshot.{SuppressedRateLimitSnapshot}
 use Rattle.settings.specs.declared.Settings.{Settings}
 use Rattle.common.specs.declared.units.RateLimit.{RateLimit}
 use Rattle.rules.specs.Buckets.{joined}
@@ -29,34 +22,18 @@ use Rattle.ring.specs.Ring.{counts, declineds}
 use Rattle.rules.specs.declared.Asked.{Asked}
 use Rattle.rules.specs.declared.Outcome.{Outcome}
 use Rattle.rules.specs.declared.RoomKind.TheVariants as kind
-use Rattle.rules.specs.Held.{Held}
 use Rattle.rules.specs.Both.{live_of, overdue_in, looked_of}
-use Rattle.rules.specs.Suppressed.{limit_for, usable, asked, asking, forecast, reach_of, declined_by, outcome_of, outcome, admits, inc_turns, factor_turns}
-use Rattle.rules.proofs.Laws.{empty-admits, reach-admits, reach-soft, reach-hard, reach-over, declined-all}
+use Rattle.rules.specs.Suppressed.{usable, asking, declined_by, admits, inc_turns, factor_turns}
 use Rattle.room.specs.Room.{ring_of, with_reading}
-use Rattle.frame.specs.Keys.{Bytes}
 use Rattle.parties.specs.Parties.{Sent, key_for, none_left}
 use Rattle.opened.specs.declared.Slot.{Slot}
 use Rattle.judge.specs.Held.{held_in}
-use Rattle.judge.specs.Judge.{refusals, early, Passed, slot_in, looked_in}
-use Rattle.judge.proofs.Laws.{passed}
+use Rattle.judge.specs.Judge.{refusals, slot_in, looked_in}
 use Rattle.judge.specs.Verdict.{Verdict}
-use Rattle.change.specs.Words.{applied}
-use Rattle.plan.specs.Plan.{place_of, lacks_at}
-use Rattle.plan.specs.Seen.{Seen, lacks-is}
-use Rattle.factor_opened.specs.Opened.{usable_at, asked_at}
-use Rattle.forecast_opened.specs.Forecast.{forecast_at}
-use Rattle.suppressed_edits.specs.Edits.{factor_after, time_after, use_after, get_change, factor_change, inc_change}
-use Rattle.suppressed_refusals.specs.Refusals.{inc_late}
-use Rattle.suppressed_verdicts.specs.Calls.{get, get_factor, inc}
-use Rattle.suppressed_verdicts.specs.Opened.{snapshot_at, limit_at, inc_outcome}
-use Rattle.suppressed_verdicts.specs.Laws.{get-done, factor-done, inc-done}
-use Rattle.suppressed_verdicts.specs.Seen.{sees, looks, usable-is, second_is, second-looked, asking-is, limit_is, decides, late_is}
+use Rattle.plan.specs.Plan.{place_of}
+use Rattle.suppressed_edits.specs.Edits.{factor_after, time_after, use_after}
 use Rattle.leaves.specs.Calls.{Stands}
-use Rattle.leaves.specs.Follows.{Follows, call-follows}
 use Rattle.leaves.specs.Unit.{SnapshotOk, FactorOk, DecisionOk}
-use Rattle.leaves.specs.Leaves.{asked-anew, found_ok, looked-ok, get-stands, get_keeps, factor-stands, factor-keeps, factor-lone-stands}
-use Rattle.leaves.specs.Leaves.{decision-ok, inc-stands}
 
 -- the number of a refusal, 0 where there is none
 abbrev pub get_number : Settings → List ℕ → ℕ → Sent → ℕ

@@ -1,7 +1,6 @@
 -- The lines that `desk` reads, as bytes, in 01's words: these are the definitions to hold beside the page.
 -- Assumes nothing.
 use Rattle.std.specs.Prelude.{List, [], ◌∷◌, ◌++◌, ℕ, ◌+◌, ◌≤◌, length}
-use Rattle.fields.specs.Bytes.{counts}
 use Rattle.fields.specs.Numbers.{show_number}
 use Rattle.lines.specs.declared.Op.{Op}
 use Rattle.lines.specs.declared.Op.TheVariants.{AbsoluteInc, AbsoluteGet, SuppressedInc, SuppressedGet}

@@ -1,6 +1,6 @@
 -- That the code's tests of an increment are the rules'.
 -- Assumes nothing.
-use Rattle.std.specs.Prelude.{◌≡◌, Bool, true, ℕ, ◌+◌, ◌-◌, ◌≤◌, ◌<◌, ltb}
+use Rattle.std.specs.Prelude.{◌≡◌, true, ℕ, ◌+◌, ◌-◌, ◌≤◌, ◌<◌, ltb}
 use Rattle.std.proofs.Common.{sym, arith, ltb-true, lt-ltb}
 use Rattle.base.specs.Decides.{both_ways}
 use Rattle.layout.specs.Layout.{most_total}

@@ -7,7 +7,7 @@ use Rattle.common_laws.specs.ShareLaws.{mul_div-le, mul_div-le-right}
 use Rattle.answers.specs.declared.HistoryPreservation.{HistoryPreservation}
 use Rattle.answers.specs.declared.HistoryPreservation.TheVariants.{PreserveNewest, PreserveOldest}
 use Rattle.ring.specs.declared.Bucket.{Bucket}
-use Rattle.ring.specs.Ring.{bucket, no_bucket, sum_of, count_of, denied_of, counts, declineds}
+use Rattle.ring.specs.Ring.{bucket, no_bucket, sum_of, count_of, denied_of, counts}
 use Rattle.ring.specs.Order.{Fine, fine-set, fine-at}
 use Rattle.ring.specs.Sums.{sum-set}
 use Rattle.rules.specs.Buckets.{partial, cut_oldest, cut_newest, shrunk}

@@ -1,17 +1,11 @@
 -- A shortage: so many whole buckets from one end, and a part of the next. It leaves what is wanted, in order.
 -- Assumes nothing.
-use Rattle.std.specs.Prelude.{◌≡◌, refl, ◌≢◌, Bool, true, false, cond, List, [], ◌∷◌, ℕ, suc, ◌+◌, ◌-◌, ◌≤◌, ◌<◌, length, get_or, set, take, drop, leb, eqb}
-use Rattle.std.proofs.Common.{sym, ap, subst, ◌∙◌, arith, le-leb, leb-true, leb-false, eq-eqb, ne_eqb, eqb-true}
-use Rattle.std.proofs.lemmas.Bool.{lt-leb, eqb-false}
-use Rattle.common_laws.specs.ShareLaws.{mul_div-le, mul_div-le-right}
+use Rattle.std.specs.Prelude.{◌≡◌, ◌≢◌, cond, List, ℕ, ◌+◌, ◌-◌, ◌≤◌, ◌<◌, length, get_or, set, take, eqb}
 use Rattle.answers.specs.declared.HistoryPreservation.{HistoryPreservation}
-use Rattle.answers.specs.declared.HistoryPreservation.TheVariants.{PreserveNewest, PreserveOldest}
 use Rattle.ring.specs.declared.Bucket.{Bucket}
-use Rattle.ring.specs.Ring.{bucket, no_bucket, sum_of, count_of, denied_of, counts, declineds}
-use Rattle.ring.specs.Order.{Fine, fine-set, fine-at}
-use Rattle.ring.specs.Sums.{sum-set}
-use Rattle.rules.specs.Buckets.{partial, cut_oldest, cut_newest, shrunk}
-use Rattle.preserve.specs.Preserving.{facing, lost_at, wholes, rest_of}
+use Rattle.ring.specs.Ring.{no_bucket, counts, declineds}
+use Rattle.rules.specs.Buckets.{partial, shrunk}
+use Rattle.preserve.specs.Preserving.{facing, lost_at}
 use Rattle.preserve.specs.Ends.{out}
 
 -- ---- the walk

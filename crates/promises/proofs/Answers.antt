@@ -1,8 +1,8 @@
 -- What each call that is not turned away answers, in document 01's numbers and values: a line for each call, by the rules on what the key holds.
 -- Assumes nothing.
-use Rattle.std.specs.Prelude.{◌≡◌, Bool, true, cond, List, ℕ}
+use Rattle.std.specs.Prelude.{◌≡◌, Bool, cond, List, ℕ}
 use Rattle.std.proofs.Common.{ap, ◌∙◌, eq-eqb}
-use Rattle.answers.specs.Rows.{row, bits, decision_row, total_row, snapshot_row, factor_row, old_rate_row, delete_row, set_row, done_row}
+use Rattle.answers.specs.Rows.{row, decision_row, total_row, snapshot_row, factor_row, old_rate_row, delete_row, set_row, done_row}
 use Rattle.answers.specs.declared.DeleteAnswer.TheVariants as delete_answer
 use Rattle.answers.specs.declared.DoneAnswer.TheVariants as done
 use Rattle.answers.specs.declared.FactorAnswer.TheVariants as factor
@@ -13,15 +13,9 @@ use Rattle.answers.specs.declared.SnapshotAnswer.TheVariants as snapshot_answer
 use Rattle.answers.specs.declared.TotalAnswer.TheVariants as total
 use Rattle.common.specs.Refusals.{first}
 use Rattle.settings.specs.declared.Settings.{Settings}
-use Rattle.ring.specs.Ring.{counts}
 use Rattle.parties.specs.declared.Caller.{Caller}
 use Rattle.rules.specs.declared.RoomKind.{RoomKind}
 use Rattle.rules.specs.declared.RoomKind.TheVariants.{Absolute, Suppressed}
-use Rattle.rules.specs.Both.{live_of, overdue_in}
-use Rattle.rules.specs.Absolute as absolute
-use Rattle.rules.specs.Suppressed as suppressed
-use Rattle.rules.specs.Sets as rules
-use Rattle.judge.specs.Held.{held_in}
 use Rattle.judge.specs.Verdict.{Verdict, unless_refused}
 use Rattle.calls.specs.Delete as Delete
 use Rattle.calls.specs.Rate as Rate

@@ -1,40 +1,17 @@
 -- From an empty room no call is ever answered 5.
-use Rattle.std.specs.Prelude.{◌≡◌, refl, Bool, true, false, ◌&&◌, List, ◌≢◌, ℕ, zero, suc, ◌<◌}
-use Rattle.std.proofs.Common.{sym, ◌∙◌, arith}
-use Rattle.std.proofs.Math.Decide.{ℕ_discrete}
-use Rattle.base.specs.Decides.{true-and}
-use Rattle.answers.specs.Rows.{done_row, read_out_row, number_of}
-use Rattle.settings.specs.Settings.{faults}
+use Rattle.std.specs.Prelude.{◌≡◌, true, List, ℕ}
+use Rattle.std.proofs.Common.{arith}
 use Rattle.settings.specs.declared.Settings.{Settings}
-use Rattle.ring.specs.declared.Bucket.{Bucket}
-use Rattle.room.specs.Room.{Room, slots_of, holder_of, sized, fits, empty}
-use Rattle.room.specs.Laws.{room-sized}
-use Rattle.parties.specs.declared.Caller.{Caller}
-use Rattle.parties.specs.Parties.{Sent, ours, turns}
+use Rattle.room.specs.Room.{fits, empty}
 use Rattle.rules.specs.declared.RoomKind.{RoomKind}
 use Rattle.rules.specs.declared.RoomKind.TheVariants.{Absolute, Suppressed}
-use Rattle.rules.specs.Sets.{rate_turns}
-use Rattle.judge.specs.Judge as Judge
-use Rattle.base.specs.Every.{every}
-use Rattle.cleanup.specs.Cleanup as Cleanup
-use Rattle.cleanup.specs.Cleanup.{slot_passes, all_pass}
-use Rattle.cleanup.specs.Laws.{passes-free, passes-used}
-use Rattle.clearing.specs.Clear as Clear
-use Rattle.provider.specs.Provider as Provider
-use Rattle.readout.specs.ReadOut as ReadOut
-use Rattle.places.specs.SoundRoom.{SoundRoom, five-unmet}
-use Rattle.steps.proofs.Each.{step}
+use Rattle.places.specs.SoundRoom.{SoundRoom}
 use Rattle.steps.proofs.History.{empty-sane, history}
-use Rattle.steps.specs.Order.{met}
 use Rattle.steps.proofs.Order.{not-given}
-use Rattle.steps.specs.Ops as Ops
-use Rattle.steps.specs.Ops.{Op, Call, Keyed, AllKeyed, after, answer_number, words}
-use Rattle.steps.proofs.Sound.{step-sound}
-use Rattle.steps.specs.Table.{table_of, clears, cleans_both}
-use Rattle.steps.proofs.Table.{unmet}
-use Rattle.promises.specs.Refusals.{reads}
+use Rattle.steps.specs.Ops.{Call, AllKeyed, words}
+use Rattle.steps.specs.Table.{cleans_both}
 use Rattle.promises.proofs.Refusals.{demand1}
-use Rattle.promises.specs.Sound.{StaysSound, OtherSound, NeverFive}
+use Rattle.promises.specs.Sound.{NeverFive}
 use Rattle.promises.proofs.Sound.{both-unmet, read-unmet, sound-unmet}
 
 -- ---- over whole histories

@@ -16,7 +16,6 @@ use Rattle.settings.specs.Settings.{faults}
 use Rattle.settings.specs.declared.Settings.{Settings}
 use Rattle.rules.specs.declared.RoomKind.TheVariants as kind
 use Rattle.judge.specs.Judge.{misfits}
-use Rattle.judge.specs.Verdict as Room
 use Rattle.suppressed_verdicts.specs.Calls.{inc}
 use Rattle.gateway.specs.Gateway.{is_held, gate_turns, limiter_turns, unless_held, shot_turns, passed, unless_refused, shot, season_turns, new_season}
 use Rattle.steps.specs.Ops as Ops

@@ -6,11 +6,11 @@ use Rattle.std.specs.Prelude.{◌≡◌, refl, Bool, true, false, ◌&&◌, List
 use Rattle.std.proofs.Common.{sym, ◌∙◌, arith}
 use Rattle.std.proofs.Math.Decide.{ℕ_discrete}
 use Rattle.base.specs.Decides.{true-and}
-use Rattle.answers.specs.Rows.{done_row, read_out_row, number_of}
+use Rattle.answers.specs.Rows.{read_out_row, number_of}
 use Rattle.settings.specs.Settings.{faults}
 use Rattle.settings.specs.declared.Settings.{Settings}
 use Rattle.ring.specs.declared.Bucket.{Bucket}
-use Rattle.room.specs.Room.{Room, slots_of, holder_of, sized, fits, empty}
+use Rattle.room.specs.Room.{Room, slots_of, holder_of, sized}
 use Rattle.room.specs.Laws.{room-sized}
 use Rattle.parties.specs.declared.Caller.{Caller}
 use Rattle.parties.specs.Parties.{Sent, ours, turns}
@@ -23,11 +23,9 @@ use Rattle.cleanup.specs.Cleanup as Cleanup
 use Rattle.cleanup.specs.Cleanup.{slot_passes, all_pass}
 use Rattle.cleanup.specs.Laws.{passes-free, passes-used}
 use Rattle.clearing.specs.Clear as Clear
-use Rattle.provider.specs.Provider as Provider
 use Rattle.readout.specs.ReadOut as ReadOut
 use Rattle.places.specs.SoundRoom.{SoundRoom, five-unmet}
 use Rattle.steps.proofs.Each.{step}
-use Rattle.steps.proofs.History.{empty-sane, history}
 use Rattle.steps.specs.Order.{met}
 use Rattle.steps.proofs.Order.{not-given}
 use Rattle.steps.specs.Ops as Ops
@@ -37,7 +35,7 @@ use Rattle.steps.specs.Table.{table_of, clears, cleans_both}
 use Rattle.steps.proofs.Table.{unmet}
 use Rattle.promises.specs.Refusals.{reads}
 use Rattle.promises.proofs.Refusals.{demand1}
-use Rattle.promises.specs.Sound.{StaysSound, OtherSound, NeverFive}
+use Rattle.promises.specs.Sound.{StaysSound, OtherSound}
 
 pub stays-sound : StaysSound
 stays-sound kind s w t op by o = step-sound kind s w t op (after kind s w t op) o (step kind s w t op by)

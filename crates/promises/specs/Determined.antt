@@ -1,8 +1,7 @@
 -- Each public contract leaves one result: whatever two results it allows, answers and everything lent, are equal. Demand 1 says what a refusal is, and
 -- this that there is nothing else a caller could be told, refusals included.
 -- Assumes nothing.
-use Rattle.std.specs.Prelude.{◌≡◌, refl, Bool, true, false, List, ℕ, ◌+◌, length, take, Float}
-use Rattle.std.proofs.Common.{sym, ap, subst, ◌∙◌}
+use Rattle.std.specs.Prelude.{◌≡◌, Bool, List, ℕ, Float}
 use Rattle.base.specs.Decides.{Decides}
 use Rattle.common.specs.Limits.{rate_back}
 use Rattle.settings.specs.declared.Settings.{Settings}
@@ -13,7 +12,7 @@ use Rattle.room.specs.Room.{Room, Made, Starts}
 use Rattle.parties.specs.declared.Caller.{Caller}
 use Rattle.parties.specs.Parties.{Sent}
 use Rattle.rules.specs.declared.RoomKind.{RoomKind}
-use Rattle.judge.specs.Verdict.{Verdict, verdict, Told}
+use Rattle.judge.specs.Verdict.{Verdict, Told}
 use Rattle.provider.specs.Provider as Provider
 use Rattle.table.specs.Table.{TableMade}
 use Rattle.gateway.specs.Gateway as Gateway
@@ -21,20 +20,17 @@ use Rattle.readout.specs.ReadOut as ReadOut
 use Rattle.rows.specs.Plain.{Given}
 use Rattle.rows.specs.Lines.{LineGiven}
 use Rattle.told.specs.Range.{Reads}
-use Rattle.told.specs.Rows.{line_row}
 use Rattle.told.specs.declared.LineAnswer.{LineAnswer}
-use Rattle.readback.specs.ReadBack.{one-meaning}
-use Rattle.answers.specs.Rows.{number_of}
 use Rattle.abi.specs.Faces.{Face, Faced}
 use Rattle.desk_lines.specs.Step.{Step, Answered}
 use Rattle.desk_feed.specs.declared.Progress.{Progress}
 use Rattle.desk_turn.specs.declared.Program.{Program}
 use Rattle.desk_turn.specs.declared.Turn.{Turn}
-use Rattle.desk_feed.specs.Feed.{Whole, whole, feed}
+use Rattle.desk_feed.specs.Feed.{Whole}
 use Rattle.desk_turn.specs.Lines.{Effect}
 use Rattle.desk_feed.specs.Clauses.{Feeding, BothMade}
 use Rattle.desk_turn.specs.Taking.{Took}
-use Rattle.printing.specs.Printing.{pasted, Printed}
+use Rattle.printing.specs.Printing.{Printed}
 use Rattle.printing.specs.declared.AnswerLine.{AnswerLine}
 use Rattle.steps.specs.Ops.{Op, verdict_of}
 

@@ -2,10 +2,8 @@
 -- holds, exactly then, and leaves every word as it was. That there is an answer for every input is what each function's own proof says: none of these functions
 -- has a `requires`, and each is proved to end without fault and with the verdict below. Here the verdicts are held against the table.
 -- Assumes nothing.
-use Rattle.std.specs.Prelude.{◌≡◌, refl, Bool, not, ◌&&◌, List, [], ◌∷◌, ◌++◌, ℕ, ltb, length}
-use Rattle.std.proofs.Common.{arith, eq-eqb, ne_eqb}
-use Rattle.answers.specs.Rows.{refused_row, done_row, read_out_row, ring_row}
-use Rattle.common.specs.Refusals.{first}
+use Rattle.std.specs.Prelude.{Bool, not, ◌&&◌, List, [], ◌∷◌, ◌++◌, ℕ, ltb, length}
+use Rattle.answers.specs.Rows.{done_row, read_out_row, ring_row}
 use Rattle.settings.specs.Settings.{faults}
 use Rattle.settings.specs.declared.Settings.{Settings}
 use Rattle.common.specs.declared.units.RateLimit.{RateLimit}
@@ -13,26 +11,20 @@ use Rattle.ring_length.specs.RingLength.{ring_for}
 use Rattle.ring.specs.declared.Bucket.{Bucket}
 use Rattle.room.specs.Room.{sized}
 use Rattle.parties.specs.declared.Caller.{Caller}
-use Rattle.parties.specs.Parties.{Sent, is_party, ours, turns}
+use Rattle.parties.specs.Parties.{Sent, is_party, ours}
 use Rattle.rules.specs.declared.RoomKind.{RoomKind}
 use Rattle.opened.specs.Sound.{addressed, sound_at}
-use Rattle.judge.specs.Judge.{misfits}
 use Rattle.provider.specs.Provider as Provider
 use Rattle.readout.specs.ReadOut as ReadOut
-use Rattle.finding.specs.Finding as Finding
 use Rattle.inputs.specs.declared.Comparison.{Comparison}
 use Rattle.inputs.specs.declared.Comparison.TheVariants as compared
 use Rattle.inputs.specs.declared.Mode.{Mode}
 use Rattle.inputs.specs.declared.Mode.TheVariants as chosen
-use Rattle.unnamed_set.specs.Unnamed as Unnamed
 use Rattle.unnamed_set.specs.Unnamed.{unnamed}
 use Rattle.abi.specs.Faces.{shown_set}
 use Rattle.steps.specs.Order.{TurnedBy}
-use Rattle.steps.proofs.Order.{turned_by}
-use Rattle.steps.specs.Ops as Ops
 use Rattle.steps.specs.Ops.{Op, after, answer_row}
 use Rattle.steps.specs.Table.{table_of, sets, cleans_both}
-use Rattle.steps.proofs.Table.{turned, both-turned}
 use Rattle.promises.specs.Shots.{TurnsShots}
 use Rattle.promises.specs.Units.{Makes}
 

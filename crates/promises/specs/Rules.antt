@@ -2,9 +2,7 @@
 -- field for each call; what the rules are stands in the records that the fields name. Of increments and of `get` it is said of any function with their
 -- inputs and results, and the limiters' own are such functions. (On the other side the original Rust is run beside the calls: docs/DIFFERENCES.md.)
 -- Assumes nothing.
-use Rattle.std.specs.Prelude.{◌≡◌, Bool, true, cond, List, ℕ, eqb}
-use Rattle.std.proofs.Common.{sym, subst, ◌∙◌, eq-eqb}
-use Rattle.settings.specs.Clock.{ticks_in}
+use Rattle.std.specs.Prelude.{◌≡◌, Bool, List, ℕ}
 use Rattle.common.specs.Refusals.{first}
 use Rattle.answers.specs.declared.DoneAnswer.TheVariants as done
 use Rattle.answers.specs.declared.RateLimitDecision.{RateLimitDecision}
@@ -27,30 +25,21 @@ use Rattle.calls.specs.Delete as Delete
 use Rattle.calls.specs.Rate as Rate
 use Rattle.calls.specs.Set as Sets
 use Rattle.cleanup.specs.Cleanup as Cleanup
-use Rattle.stale.specs.Uses as Uses
-use Rattle.leaves.proofs.Cleanup.{done-answer, done-words}
 use Rattle.absolute_verdicts.specs.Calls as Absolute
 use Rattle.suppressed_verdicts.specs.Calls as Suppressed
 use Rattle.leaves.specs.AbsoluteLeaves.{GetLaw, AskLaw, IncLaw}
-use Rattle.leaves.proofs.Absolute as Absolutely
-use Rattle.leaves.specs.SuppressedFollows as Own
-use Rattle.leaves.proofs.SuppressedFollows as Own_laws
 use Rattle.leaves.specs.SuppressedFollows.{Gets, GivesFactor, Counts}
 use Rattle.rules.specs.Sets.{still_for}
 use Rattle.rules.specs.Suppressed.{limit_for, outcome}
 use Rattle.judge.specs.Held.{held_in}
 use Rattle.provider.specs.Provider as Provider
-use Rattle.provider.specs.Laws.{lowest-none, both-by-table}
 use Rattle.readout.specs.ReadOut as ReadOut
 use Rattle.readout.specs.Rule.{ReadsOut}
-use Rattle.readout.proofs.Rule.{reads-out}
 use Rattle.steps.specs.Ops.{Op, answer_row}
 use Rattle.steps.specs.Table.{table_of, absolute_inc, plain, suppressed_inc, suppressed_factor, set_rate, sets, clears, cleans, cleans_both}
 use Rattle.promises.specs.Answers.{rule_row}
 use Rattle.promises.specs.Refusals.{reads}
-use Rattle.leaves.specs.Shared.{RateRule, DeleteRule, SetRule, ClearRule, CleanRule, rate-follows, delete-follows, set-follows}
-use Rattle.leaves.proofs.Shared.{clear-follows}
-use Rattle.leaves.proofs.Shared.{clean-follows}
+use Rattle.leaves.specs.Shared.{RateRule, DeleteRule, SetRule, ClearRule, CleanRule}
 
 -- cleanup of one room
 pub record CleansRoom (kind : RoomKind) (s : Settings) (w : List ℕ) (t : ℕ) (who : Caller) (stale : ℕ) : Type 0 where

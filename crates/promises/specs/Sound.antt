@@ -2,40 +2,20 @@
 -- before it (`StaysSound`). A call on a sound room is not answered 5, whatever it is (`sound-unmet`), and an empty room is sound. So no call is ever
 -- answered 5 where only these calls, with these settings, have written (`NeverFive`).
 -- Assumes nothing.
-use Rattle.std.specs.Prelude.{◌≡◌, refl, Bool, true, false, ◌&&◌, List, ◌≢◌, ℕ, zero, suc, ◌<◌}
-use Rattle.std.proofs.Common.{sym, ◌∙◌, arith}
-use Rattle.std.proofs.Math.Decide.{ℕ_discrete}
-use Rattle.base.specs.Decides.{true-and}
+use Rattle.std.specs.Prelude.{◌≡◌, true, List, ◌≢◌, ℕ}
 use Rattle.answers.specs.Rows.{done_row, read_out_row, number_of}
-use Rattle.settings.specs.Settings.{faults}
 use Rattle.settings.specs.declared.Settings.{Settings}
 use Rattle.ring.specs.declared.Bucket.{Bucket}
-use Rattle.room.specs.Room.{Room, slots_of, holder_of, sized, fits, empty}
-use Rattle.room.specs.Laws.{room-sized}
+use Rattle.room.specs.Room.{fits, empty}
 use Rattle.parties.specs.declared.Caller.{Caller}
-use Rattle.parties.specs.Parties.{Sent, ours, turns}
+use Rattle.parties.specs.Parties.{Sent}
 use Rattle.rules.specs.declared.RoomKind.{RoomKind}
 use Rattle.rules.specs.declared.RoomKind.TheVariants.{Absolute, Suppressed}
-use Rattle.rules.specs.Sets.{rate_turns}
-use Rattle.judge.specs.Judge as Judge
-use Rattle.base.specs.Every.{every}
-use Rattle.cleanup.specs.Cleanup as Cleanup
-use Rattle.cleanup.specs.Cleanup.{slot_passes, all_pass}
-use Rattle.cleanup.specs.Laws.{passes-free, passes-used}
-use Rattle.clearing.specs.Clear as Clear
 use Rattle.provider.specs.Provider as Provider
 use Rattle.readout.specs.ReadOut as ReadOut
-use Rattle.places.specs.SoundRoom.{SoundRoom, five-unmet}
-use Rattle.steps.proofs.Each.{step}
-use Rattle.steps.proofs.History.{empty-sane, history}
-use Rattle.steps.specs.Order.{met}
-use Rattle.steps.proofs.Order.{not-given}
+use Rattle.places.specs.SoundRoom.{SoundRoom}
 use Rattle.steps.specs.Ops as Ops
 use Rattle.steps.specs.Ops.{Op, Call, Keyed, AllKeyed, after, answer_number, words}
-use Rattle.steps.proofs.Sound.{step-sound}
-use Rattle.steps.specs.Table.{table_of, clears, cleans_both}
-use Rattle.steps.proofs.Table.{unmet}
-use Rattle.promises.specs.Refusals.{reads}
 
 -- every call of either limiter, and the provider's cleanup. A key that may enter the room is to be of bytes (`Keyed`)
 abbrev pub StaysSound : Type 0

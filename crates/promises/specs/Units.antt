@@ -1,16 +1,11 @@
 -- The constructors of units in document 01's numbers: what is in its range is made, anything else is refused with its number.
 -- Assumes nothing.
-use Rattle.std.specs.Prelude.{◌≡◌, refl, Bool, true, false, ◌&&◌, cond, List, ℕ, zero, suc, ◌*◌, ◌<◌, leb, ltb, Float}
-use Rattle.std.proofs.Common.{sym, ap, ◌∙◌, suc-mul, arith, le-leb, lt-ltb, le-ltb}
+use Rattle.std.specs.Prelude.{◌≡◌, Bool, cond, List, ℕ, ◌*◌, ◌<◌, Float}
 use Rattle.std.specs.Float.{binary64}
 use Rattle.std.specs.Float.Ieee.{div}
-use Rattle.std.proofs.lemmas.Bool.{lt-leb}
 use Rattle.answers.specs.Rows.{row, refused_row, bits, window_size_row, bucket_size_row, cache_period_row, rate_limit_row}
-use Rattle.common.specs.declared.units.Period.{Period}
-use Rattle.common.specs.declared.units.Period.TheVariants.{Within, Outside}
-use Rattle.common.specs.declared.units.RateLimitAnswer.TheVariants.{Made, Refused}
-use Rattle.common.specs.Ranges.{within, most_window, most_bucket, most_cache, window_ok, bucket_ok, cache_ok, rate_ok}
-use Rattle.common.specs.Units.{real, period_of, window_made, bucket_made, cache_made, window_of, bucket_of, cache_of, rate_from, rate_of}
+use Rattle.common.specs.Ranges.{window_ok, bucket_ok, cache_ok, rate_ok}
+use Rattle.common.specs.Units.{real, window_of, bucket_of, cache_of, rate_from, rate_of}
 
 -- x where it is in range, and n where it is not
 abbrev pub made_row : Bool → ℕ → ℕ → List ℕ

@@ -1,10 +1,6 @@
 -- A list written over the start of a row, as much of it as fits: the rest of the row stays.
 -- Assumes nothing.
-use Rattle.std.specs.Prelude.{◌≡◌, List, [], ◌∷◌, ◌++◌, ℕ, suc, ◌+◌, ◌-◌, ◌≤◌, ◌<◌, min, length, take, drop, get_or, set}
-use Rattle.std.proofs.Common.{ap, sym, ◌∙◌, arith, add-one, length-append, length-take, length-drop, take-suc, drop-cons, length-take-le, get_or-take, get_or-drop, get_or-append-add}
-use Rattle.std.proofs.Math.ListN.{get_or-append}
-use Rattle.std.proofs.Math.Seq.{append_snoc}
-use Rattle.std.proofs.lemmas.List.{set_at}
+use Rattle.std.specs.Prelude.{List, ◌++◌, ℕ, min, length, take, drop}
 
 -- the first k of xs, then ys from k on
 abbrev pub up_to : {A : Type 0} → ℕ → List A → List A → List A

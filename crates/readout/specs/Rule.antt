@@ -2,24 +2,14 @@
 -- the definition gives.
 -- Assumes nothing.
 use Rattle.std.specs.Prelude.{◌≡◌, false, ℕ, ◌≤◌, ◌<◌}
-use Rattle.std.proofs.Common.{sym, ◌∙◌, arith, ext_get_or, eq-eqb}
-use Rattle.std.proofs.Math.Path.{ap, subst}
-use mathlib.Core.List.{List, []}
-use Rattle.std.proofs.Math.Decide.{dec_lt}
+use mathlib.Core.List.{List}
 use Rattle.std.proofs.Math.ListN.{length, get_or}
 use Rattle.answers.specs.Rows.{row, read_out_row}
-use Rattle.answers.specs.declared.ReadOutAnswer.{ReadOutAnswer}
-use Rattle.answers.specs.declared.ReadOutAnswer.TheVariants.{Buckets, Refused}
-use Rattle.settings.specs.declared.Settings.{Settings}
-use Rattle.rules.specs.declared.RoomKind.{RoomKind}
 use Rattle.ring.specs.declared.Bucket.{Bucket}
 use Rattle.ring.specs.Ring.{no_bucket}
 use Rattle.parties.specs.Parties.{Sent}
 use Rattle.judge.specs.Held.{held_in}
-use Rattle.finding.specs.Finding.{refusal}
-use Rattle.finding.proofs.FindingLaws.{buckets-held, buckets-rise}
-use Rattle.readout.specs.Row.{laid}
-use Rattle.readout.specs.ReadOut.{Filled, read_out}
+use Rattle.readout.specs.ReadOut.{Filled}
 
 -- "fills a lent row of bucket records, oldest first, expired ones too, as many as fit, leaving the others; it gives the ring's bucket count, 0 for an
 -- unknown key": of all buckets that the key holds, by place from the oldest

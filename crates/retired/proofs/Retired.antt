@@ -8,25 +8,17 @@ use Rattle.std.proofs.Common.{sym, ap, subst, ◌∙◌, arith}
 use Rattle.std.proofs.Math.Bool.{true, false}
 use mathlib.Core.List.{List, []}
 use borrow.Author.Tests.{eq-eqb, ne_eqb}
-use Rattle.answers.specs.Rows.{row, refused_row, done_row, read_out_row, ring_row, shot_row, number_of}
+use Rattle.answers.specs.Rows.{row, refused_row, shot_row, number_of}
 use Rattle.common.specs.Refusals.{first}
 use Rattle.common.specs.declared.units.RateLimit.{RateLimit}
 use Rattle.settings.specs.Settings.{faults}
 use Rattle.settings.specs.declared.Settings.{Settings}
-use Rattle.ring_length.specs.RingLength.{ring_for}
-use Rattle.ring.specs.declared.Bucket.{Bucket}
 use Rattle.ring.specs.Ring.{no_bucket}
-use Rattle.parties.specs.declared.Caller.{Caller}
 use Rattle.parties.specs.Parties.{Sent, sent}
 use Rattle.rules.specs.declared.RoomKind.{RoomKind}
-use Rattle.provider.specs.Provider as Provider
-use Rattle.readout.specs.ReadOut as ReadOut
 use Rattle.finding.specs.Finding.{buckets_of}
-use Rattle.gateway.specs.Gateway.{shot, new_season}
-use Rattle.inputs.specs.declared.Comparison.{Comparison}
-use Rattle.inputs.specs.declared.Mode.{Mode}
-use Rattle.rows.specs.Plain.{Given}
-use Rattle.abi.specs.Faces.{Face, Faced, shown, shown_both, shown_gateway, shown_set, make_number}
+use Rattle.gateway.specs.Gateway.{shot}
+use Rattle.abi.specs.Faces.{Face, Faced, make_number}
 use Rattle.abi.specs.ReadOut.{cell_row, bucket_row}
 use Rattle.lines.specs.Laws.{key_in}
 use Rattle.lines.specs.Reading.{read_call}
@@ -35,7 +27,6 @@ use Rattle.lines.specs.declared.CallLine.TheVariants as call
 use Rattle.shot_lines.specs.Reading.{read_shot}
 use Rattle.shot_lines.specs.declared.ShotLine.{ShotLine}
 use Rattle.shot_lines.specs.declared.ShotLine.TheVariants as shot_line
-use Rattle.rows.specs.Lines.{LineGiven}
 use Rattle.told.specs.Told.{bad_line}
 use Rattle.told.specs.Range.{Reads}
 use Rattle.told.specs.Rows.{told_row, line_row}
@@ -54,7 +45,7 @@ use Rattle.desk_feed.specs.Clauses.{new_first, new_second}
 use Rattle.desk_laws.specs.Whole.{input_lines, printed, program-prints}
 use Rattle.steps.specs.Order.{Numbered, TurnedBy}
 use Rattle.steps.proofs.Order.{turned_by, not-numbered}
-use Rattle.steps.specs.Ops.{Op, row_of, verdict_of, answer_number}
+use Rattle.steps.specs.Ops.{Op, answer_number}
 use Rattle.promises.specs.Refusals.{reads}
 use Rattle.promises.proofs.Refusals.{reads-number, demand1}
 use Rattle.desk_laws.specs.Lines.{Without, Stand, shot-code, all_lines}

@@ -2,63 +2,31 @@
 -- `shots` print it in no line, on any arguments, any lent memory and any input. What is proved is more: a number that has no place in the order of judging is
 -- given by none of them.
 -- Assumes nothing.
-use Rattle.std.specs.Prelude.{◌≡◌, Bool, cond, ◌≢◌, ℕ, ltb, length, get_or}
-use Rattle.std.proofs.Math.Path.{refl}
-use Rattle.std.proofs.Common.{sym, ap, subst, ◌∙◌, arith}
-use Rattle.std.proofs.Math.Bool.{true, false}
-use mathlib.Core.List.{List, []}
-use borrow.Author.Tests.{eq-eqb, ne_eqb}
-use Rattle.answers.specs.Rows.{row, refused_row, done_row, read_out_row, ring_row, shot_row, number_of}
-use Rattle.common.specs.Refusals.{first}
+use Rattle.std.specs.Prelude.{◌≡◌, Bool, ◌≢◌, ℕ, length}
+use mathlib.Core.List.{List}
+use Rattle.answers.specs.Rows.{done_row, read_out_row, ring_row, shot_row, number_of}
 use Rattle.common.specs.declared.units.RateLimit.{RateLimit}
-use Rattle.settings.specs.Settings.{faults}
 use Rattle.settings.specs.declared.Settings.{Settings}
 use Rattle.ring_length.specs.RingLength.{ring_for}
 use Rattle.ring.specs.declared.Bucket.{Bucket}
-use Rattle.ring.specs.Ring.{no_bucket}
 use Rattle.parties.specs.declared.Caller.{Caller}
-use Rattle.parties.specs.Parties.{Sent, sent}
+use Rattle.parties.specs.Parties.{Sent}
 use Rattle.rules.specs.declared.RoomKind.{RoomKind}
 use Rattle.provider.specs.Provider as Provider
 use Rattle.readout.specs.ReadOut as ReadOut
-use Rattle.finding.specs.Finding.{buckets_of}
 use Rattle.gateway.specs.Gateway.{shot, new_season}
 use Rattle.inputs.specs.declared.Comparison.{Comparison}
 use Rattle.inputs.specs.declared.Mode.{Mode}
 use Rattle.rows.specs.Plain.{Given}
-use Rattle.abi.specs.Faces.{Face, Faced, shown, shown_both, shown_gateway, shown_set, make_number}
-use Rattle.abi.specs.ReadOut.{cell_row, bucket_row}
-use Rattle.lines.specs.Laws.{key_in}
-use Rattle.lines.specs.Reading.{read_call}
-use Rattle.lines.specs.declared.CallLine.{CallLine}
-use Rattle.lines.specs.declared.CallLine.TheVariants as call
-use Rattle.shot_lines.specs.Reading.{read_shot}
-use Rattle.shot_lines.specs.declared.ShotLine.{ShotLine}
-use Rattle.shot_lines.specs.declared.ShotLine.TheVariants as shot_line
+use Rattle.abi.specs.Faces.{Faced, shown, shown_both, shown_gateway, shown_set, make_number}
+use Rattle.abi.specs.ReadOut.{bucket_row}
 use Rattle.rows.specs.Lines.{LineGiven}
-use Rattle.told.specs.Told.{bad_line}
 use Rattle.told.specs.Range.{Reads}
-use Rattle.told.specs.Rows.{told_row, line_row}
-use Rattle.told.specs.declared.Told.{Told}
-use Rattle.told.specs.declared.Told.TheVariants as told
-use Rattle.told.specs.declared.LineAnswer.{LineAnswer}
 use Rattle.told.specs.declared.LineAnswer.TheVariants as line_answer
-use Rattle.desk_lines.specs.Lines.{alone, per_minute}
-use Rattle.desk_step.specs.Desk as Calls
-use Rattle.shots_step.specs.Shots as Shots
 use Rattle.desk_turn.specs.declared.Program.{Program}
-use Rattle.desk_turn.specs.declared.Program.TheVariants as program
-use Rattle.desk_turn.specs.declared.Phase.TheVariants.{Waiting}
-use Rattle.desk_turn.specs.Lines.{stepped_by}
-use Rattle.desk_feed.specs.Clauses.{new_first, new_second}
-use Rattle.desk_laws.specs.Whole.{input_lines, printed, program-prints}
-use Rattle.steps.specs.Order.{Numbered, TurnedBy}
-use Rattle.steps.proofs.Order.{turned_by, not-numbered}
+use Rattle.desk_laws.specs.Whole.{printed}
 use Rattle.steps.specs.Ops.{Op, row_of, verdict_of, answer_number}
-use Rattle.promises.specs.Refusals.{reads}
-use Rattle.promises.proofs.Refusals.{reads-number, demand1}
-use Rattle.desk_laws.specs.Lines.{Without, Stand, shot-code, all_lines}
-use Rattle.desk_laws.specs.Asks.{kind_of, room_of, op_of, call-code, turn-line}
+use Rattle.desk_laws.specs.Lines.{Without}
 
 -- ---- the statement
 

@@ -1,34 +1,31 @@
 -- How long a ring must be (document 02, ticket 4): floor(1000 W / (b + 1)) + 1 buckets suffice, and no fewer do. Over histories of any length of any calls of
 -- either limiter and of either party, on any keys, refused ones too, counted from the answers given, in either clock mode.
 -- Assumes nothing.
-use Rattle.std.specs.Prelude.{◌≡◌, refl, true, ◌≢◌, ℕ, zero, suc, ◌+◌, ◌-◌, ◌*◌, ◌/◌, ◌≤◌, ◌<◌}
+use Rattle.std.specs.Prelude.{◌≡◌, refl, true, ℕ, zero, suc, ◌*◌, ◌≤◌}
 use Rattle.std.proofs.Common.{sym, ap, ap₂, subst, ◌∙◌, arith}
 use mathlib.Core.List.{List, [], ◌∷◌}
-use Rattle.std.proofs.Math.Decide.{dec_le}
-use Rattle.answers.specs.Rows.{number_of}
-use Rattle.common.specs.Refusals.{first}
-use Rattle.settings.specs.Clock.{window_in_milliseconds, window_ticks}
-use Rattle.settings.specs.Settings.{window_in, bucket_in, defaults, faults, proper, defaults-unrefused}
+use Rattle.settings.specs.Clock.{window_ticks}
+use Rattle.settings.specs.Settings.{proper}
 use Rattle.settings.specs.declared.Settings.{Settings}
 use Rattle.ring_length.specs.RingLength.{sufficient_ring}
 use Rattle.rules.specs.declared.RoomKind.{RoomKind}
 use Rattle.rules.specs.declared.RoomKind.TheVariants as kind
-use Rattle.room.specs.Room.{length_of, fits, empty}
-use Rattle.room.specs.Laws.{lengths-fit, fit-lengths}
-use Rattle.parties.specs.Parties.{Sent, sent}
+use Rattle.room.specs.Room.{fits, empty}
+use Rattle.room.specs.Laws.{fit-lengths}
+use Rattle.parties.specs.Parties.{Sent}
 use Rattle.judge.specs.Held.{held_in}
-use Rattle.steps.specs.Ops.{Call, row_of, verdict_of, answer_row, words, rows, AllKeyed}
+use Rattle.steps.specs.Ops.{Call, verdict_of, answer_row, words, rows, AllKeyed}
 use Rattle.steps.proofs.History.{empty-sane, history, from_empty}
 use Rattle.steps.specs.Runs.{Made, calls_of, rows_of, Ran}
 use Rattle.steps.proofs.Runs.{run-history}
-use Rattle.apart.specs.Apart.{Limiter, words_by, Rising}
+use Rattle.apart.specs.Apart.{Rising}
 use Rattle.apart.proofs.Apart.{words-by}
 use Rattle.rings.specs.Window.{apart_ticks, BucketsApart}
 use Rattle.rings.specs.Roomy.{Roomy}
 use Rattle.rings.proofs.Roomy.{apart-closed, roomy-keeps, key_apart, roomy-untold}
 use Rattle.rings.specs.Zeros.{zeros, Sender}
 use Rattle.rings.proofs.Zeros.{zeros_within, zeros-full}
-use Rattle.rings.specs.Rings.{rows_by, NeverFull, newest_number, Limiters, Meets, Sufficient, Necessary, lone}
+use Rattle.rings.specs.Rings.{rows_by, NeverFull, newest_number, Sufficient, Necessary, lone}
 
 -- ---- it suffices
 

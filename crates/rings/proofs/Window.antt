@@ -22,7 +22,6 @@ use Rattle.rules.specs.Both.{overdue, looked_of, passes, ring_full}
 use Rattle.rules.proofs.Ages.{looked-oldest}
 use Rattle.rules.specs.Absolute.{tests_again, whole_limit, takes_out, found_for}
 use Rattle.sweep.specs.Measured.{ahead_after}
-use Rattle.rings.specs.Spaced.{Spaced}
 use Rattle.rings.proofs.Spaced.{spaced-drop, spaced-span, unjoined}
 use Rattle.rings.specs.Window.{apart_ticks, BucketsApart, Young}
 

@@ -2,53 +2,31 @@
 -- ring that suffices (`hasty-full`). One that gives 12 nowhere, as by overwriting the oldest bucket, is not the limiter of which the ring is necessary
 -- (`never-full`). And a set that gave a surplus a bucket of its own would not leave a key's buckets apart (`surplus-anew`).
 -- Assumes nothing.
-use Rattle.std.specs.Prelude.{◌≡◌, refl, Bool, true, cond, List, [], ◌∷◌, ◌++◌, ◌≢◌, ℕ, ◌*◌, ◌≤◌, leb}
+use Rattle.std.specs.Prelude.{◌≡◌, refl, Bool, true, List, [], ◌∷◌, ◌≢◌, ℕ, ◌*◌, ◌≤◌, leb}
 use Rattle.std.proofs.Common.{ap, ap₂, ◌∙◌, arith}
 use Rattle.std.specs.Float.Ieee as Ieee
 use Rattle.answers.specs.Rows.{decision_row, number_of}
-use Rattle.answers.specs.declared.RateLimitDecision.{RateLimitDecision}
-use Rattle.answers.specs.declared.RateLimitDecision.TheVariants.{Refused}
 use Rattle.common.specs.Ranges as Ranges
 use Rattle.common.specs.Refusals.{first}
 use Rattle.settings.specs.Clock.{join_ticks}
 use Rattle.settings.specs.Settings.{defaults, faults, proper, defaults-unrefused}
 use Rattle.settings.specs.declared.Settings.{Settings}
-use Rattle.ring_length.specs.RingLength.{sufficient_ring, sized}
+use Rattle.ring_length.specs.RingLength.{sufficient_ring}
 use Rattle.ring.specs.declared.Bucket.{Bucket}
 use Rattle.ring.specs.Ring.{bucket}
 use Rattle.rules.specs.Both.{ring_full}
 use Rattle.rules.specs.declared.RoomKind.{RoomKind}
-use Rattle.rules.specs.declared.RoomKind.TheVariants.{Absolute, Suppressed}
+use Rattle.rules.specs.declared.RoomKind.TheVariants.{Absolute}
 use Rattle.room.specs.Room.{ring_of, length_of, fits, empty}
-use Rattle.parties.specs.Parties.{Sent}
 use Rattle.judge.specs.Held.{held_in}
-use Rattle.judge.specs.Verdict.{Verdict, verdict}
-use Rattle.steps.specs.Ops.{
-  Op,
-  inc,
-  is_allowed,
-  get,
-  draws,
-  snapshot,
-  get_factor,
-  set_rate,
-  set,
-  delete,
-  cleanup,
-  cleanup_both,
-  clear,
-  row_of,
-  verdict_of,
-  Call,
-  words,
-}
-use Rattle.apart.specs.Apart.{Limiter, words_by}
-use Rattle.rings.specs.Window.{apart_ticks, BucketsApart}
+use Rattle.steps.specs.Ops.{Op, row_of, verdict_of, Call}
+use Rattle.apart.specs.Apart.{words_by}
+use Rattle.rings.specs.Window.{apart_ticks}
 use Rattle.rings.proofs.Window.{apart-joins}
 use Rattle.rings.specs.Row.{row-full}
 use Rattle.rings.specs.Zeros.{zero_op, zeros}
 use Rattle.rings.proofs.Zeros.{state}
-use Rattle.rings.specs.Rings.{Limiters, rows_by, newest_number, SufficientBy, Meets, NecessaryBy, lone}
+use Rattle.rings.specs.Rings.{Limiters, rows_by, newest_number, SufficientBy, Meets, NecessaryBy}
 use Rattle.rings.proofs.Rings.{lone-sends, zeros-keyed}
 use Rattle.rings.proofs.Least.{one-fits}
 use Rattle.rings.specs.Wrong.{hastily, hasty_inc, hasty, single, key, room, AddsApart}

@@ -2,7 +2,7 @@
 -- next one is told 12. In either limiter, in either clock mode.
 -- n is how many there were, h what the key holds then, r the ring.
 -- Assumes nothing.
-use Rattle.std.specs.Prelude.{◌≡◌, Bool, ◌&&◌, ◌||◌, cond, ℕ, zero, suc, ◌+◌, ◌*◌, ◌≤◌, ◌<◌, leb, eqb, length, drop}
+use Rattle.std.specs.Prelude.{◌≡◌, Bool, ◌&&◌, ◌||◌, cond, ℕ, zero, suc, ◌+◌, ◌*◌, ◌≤◌, ◌<◌, leb, eqb, drop}
 use Rattle.std.proofs.Math.Path.{refl, sym, ap, ap₂}
 use Rattle.std.proofs.Common.{subst, ◌∙◌, mul_left_comm, mul-le-mul_left, arith}
 use Rattle.std.proofs.Math.Bool.{true, false, not}
@@ -17,13 +17,12 @@ use Rattle.common.specs.Limits.{cut_word}
 use Rattle.common.specs.Ranges as Ranges
 use Rattle.common.specs.Ranges.{rate_ok, and_no}
 use Rattle.common.specs.Refusals.{first}
-use Rattle.common.specs.declared.units.RateLimit.{RateLimit}
 use Rattle.common_laws.specs.LimitLaws.{one-rate, one-limit}
 use Rattle.settings.specs.Clock.{window_ticks, join_ticks, ticks_in}
 use Rattle.settings.specs.Settings.{window_in, bucket_in, Proper}
 use Rattle.settings.specs.declared.Settings.{Settings}
 use Rattle.ring_length.specs.RingLength.{sufficient_ring, fits-window}
-use Rattle.layout.specs.Layout.{first_mark, second_mark, longest_key, most_total}
+use Rattle.layout.specs.Layout.{first_mark, second_mark, most_total}
 use Rattle.ring.specs.declared.Bucket.{Bucket}
 use Rattle.ring.specs.Ring.{bucket, counts}
 use Rattle.rules.specs.Buckets.{out_if, joined}
@@ -38,14 +37,14 @@ use Rattle.rules.specs.declared.RoomKind.TheVariants as kind
 use Rattle.room.specs.Room.{slots_of, ring_of, sized, fits, empty}
 use Rattle.frame.specs.Keys.{Bytes}
 use Rattle.frame.specs.Whole.{empty-free}
-use Rattle.parties.specs.Parties.{Sent, is_party, ours, slots_held, promised, holding, none_left}
+use Rattle.parties.specs.Parties.{Sent, ours, slots_held, promised, holding, none_left}
 use Rattle.opened.specs.Sound.{addressed}
 use Rattle.judge.specs.Held.{held_in}
 use Rattle.judge.proofs.Held.{held_none}
 use Rattle.judge.specs.Judge.{Passed}
 use Rattle.judge.proofs.Laws.{early-none, refused-own}
 use Rattle.places.specs.SoundRoom.{addressed-held, five-unmet}
-use Rattle.steps.specs.Ops.{Op, inc, draws, Call, after, words, answer_number}
+use Rattle.steps.specs.Ops.{after, words, answer_number}
 use Rattle.steps.specs.Table.{table_of}
 use Rattle.apart.proofs.Holds.{held-short}
 use Rattle.apart.specs.One.{plainly, left_by, key_in}

@@ -1,11 +1,11 @@
 -- The laws of directory entries: who holds a slot, free slots and those with a key, freeing slots one by one.
 -- Assumes nothing.
-use Rattle.std.specs.Prelude.{◌≡◌, refl, Bool, true, false, not, ◌&&◌, cond, List, [], ◌∷◌, ◌≢◌, ℕ, zero, suc, ◌+◌, ◌-◌, ◌*◌, ◌/◌, ◌%◌, ◌<◌, eqb, length, get_or}
+use Rattle.std.specs.Prelude.{◌≡◌, refl, Bool, true, false, not, ◌&&◌, cond, List, [], ◌∷◌, ◌≢◌, ℕ, zero, suc, ◌+◌, ◌*◌, ◌/◌, ◌%◌, ◌<◌, eqb, length, get_or}
 use Rattle.std.proofs.Common.{sym, ◌∙◌, add-one, arith, eq-eqb, ne_eqb, eqb-true}
 use Rattle.std.proofs.Math.Path.{ap, ap₂}
 use Rattle.std.proofs.lemmas.Bool.{false≢true}
 use Rattle.base.specs.Bits.{bit_at, with_bit, bit-same, bit-other, bit-none}
-use Rattle.base.specs.Writes.{writes, length-writes, read_past, read-nth}
+use Rattle.base.specs.Writes.{length-writes, read_past, read-nth}
 use Rattle.keys.specs.declared.Key.{Key}
 use Rattle.room.specs.Room.{slots_of, entry_of, holder_of, use_of, used_at, key_at, free, spells, has, Room, Directory, held, released, released_own, freed}
 use Rattle.keys.specs.Keys.{same_key}

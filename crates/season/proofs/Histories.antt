@@ -1,20 +1,17 @@
 -- Short seasons, of the gateway and of wrong ones, and what each answers, computed by the calls themselves: window 10 s, bucket 100 ms, factor 1
 -- and 1 per second, so that H = 10, on a room of one slot, promised to party 1, and a ring of one. Newest first.
 -- Assumes nothing.
-use Rattle.std.specs.Prelude.{◌≡◌, refl, false, List, [], ◌∷◌, ℕ}
+use Rattle.std.specs.Prelude.{refl}
 use Rattle.std.proofs.Math.Decide as Decide
 use Rattle.std.specs.Float.Ieee as Ieee
 use Rattle.base.specs.Seek as Seek
 use Rattle.base.specs.Splice as Splice
 use Rattle.base.specs.Tab as Tab
-use Rattle.answers.specs.declared.RateLimitDecision.TheVariants as decision
-use Rattle.answers.specs.declared.ShotAnswer.TheVariants.{Held, Decided, Refused}
 use Rattle.suppression.specs.Factor as Factor
 use Rattle.common.specs.Limits as Limits
 use Rattle.common.specs.Ranges as Ranges
 use Rattle.common.specs.Refusals as Refusals
 use Rattle.settings.specs.Settings as Settings
-use Rattle.common.specs.declared.units.RateLimit.{RateLimit}
 use Rattle.rules.specs.Buckets as Rules
 use Rattle.sweep.specs.Sweep as Sweep
 use Rattle.history.specs.Words as HistoryWords
@@ -25,7 +22,6 @@ use Rattle.room.specs.Room as Room
 use Rattle.keys.specs.Keys as Keys
 use Rattle.parties.specs.Parties as Parties
 use Rattle.parties.specs.Parties.{sent}
-use Rattle.parties.specs.declared.Caller.{Caller}
 use Rattle.base.specs.Every as Every
 use Rattle.base.specs.Bits as Bits
 use Rattle.judge.specs.Judge as Judge
@@ -44,12 +40,7 @@ use Rattle.judge.specs.Held as Held
 use Rattle.table.specs.Table as Table
 use Rattle.gateway.specs.Gateway as Gate
 use Rattle.table.specs.Table.{known_of, empty_table}
-use Rattle.steps.specs.Ops.{cleanup}
-use Rattle.season.specs.Log.{times, highest}
-use Rattle.season.specs.Season.{Shot, Event, shoots, calls, table_after, told, log_of, limiter}
-use Rattle.season.specs.Own.{own}
-use Rattle.season.specs.Gateways.{eager, forgetful, at_most, lax, alone}
-use Rattle.season.specs.Histories.{stays, Computed}
+use Rattle.season.specs.Histories.{Computed}
 
 -- ---- what is answered, and how often a pair is in the log
 

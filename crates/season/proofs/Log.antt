@@ -4,7 +4,6 @@ use Rattle.std.specs.Prelude.{◌≡◌, refl, Bool, true, false, cond, ◌&&◌
 use Rattle.std.proofs.Common.{sym, subst, arith, eqb-true}
 use Rattle.std.proofs.lemmas.Bool.{false≢true, eqb-false}
 use Rattle.std.proofs.Math.Decide.{dec_lt}
-use Rattle.demand3.specs.History.{same_bytes}
 use Rattle.demand3.proofs.History.{same-bytes}
 use Rattle.season.specs.Log.{Pair, is_of, times, highest, named}
 

@@ -9,19 +9,12 @@ use Rattle.common.specs.Refusals.{first, all-false}
 use Rattle.settings.specs.Settings.{faults}
 use Rattle.layout.specs.Layout.{longest_key}
 use Rattle.answers.specs.declared.DoneAnswer.TheVariants.{Done}
-use Rattle.answers.specs.declared.RateLimitDecision.{RateLimitDecision}
 use Rattle.answers.specs.declared.RateLimitDecision.TheVariants as decision
 use Rattle.answers.specs.declared.ShotAnswer.{ShotAnswer}
 use Rattle.answers.specs.declared.ShotAnswer.TheVariants.{Refused}
-use Rattle.rules.specs.declared.RoomKind.TheVariants as kind
-use Rattle.rules.specs.Held.{Held}
-use Rattle.rules.specs.Suppressed as Rules
-use Rattle.rules.specs.Suppressed.{admits, inc_turns}
-use Rattle.room.specs.Room.{ring_of}
 use Rattle.frame.specs.Keys.{Bytes}
-use Rattle.parties.specs.Parties.{none_left, turns}
-use Rattle.judge.specs.Held.{held_in}
-use Rattle.judge.specs.Judge.{misfits, refusals}
+use Rattle.parties.specs.Parties.{turns}
+use Rattle.judge.specs.Judge.{misfits}
 use Rattle.judge.specs.Verdict as Room
 use Rattle.suppressed_verdicts.specs.Calls.{inc}
 use Rattle.table.specs.Table.{most_controllers, known_of, empty_table, numbered, is_known, sound_for, last_number, remembered}
@@ -33,10 +26,9 @@ use Rattle.gateway.proofs.Laws.{shot-asked, as-shot-admits}
 use Rattle.demand3.specs.History.{same_bytes}
 use Rattle.season.specs.Log.{Pair, highest, named, controllers}
 use Rattle.season.proofs.Log.{highest-more}
-use Rattle.season.specs.Table.{Sound}
 use Rattle.season.proofs.Table.{sound-for, empty-knows, empty-sound, empty-unknown, remembered-tells}
-use Rattle.season.specs.Season.{Shot, Event, shoots, calls, AllBytes, Gateway, table_after, pair_of, noted, log_of, key_in, limiter, full}
-use Rattle.season.specs.Season.{LeavesTable, Season, judged_by, by_log, ByLog}
+use Rattle.season.specs.Season.{Shot, Event, shoots, calls, AllBytes, table_after, pair_of, noted, log_of, key_in, limiter, full}
+use Rattle.season.specs.Season.{LeavesTable, Season, by_log, ByLog}
 use Rattle.season.specs.Judging.{Through}
 use Rattle.season.proofs.Judging.{judging, admitted-through, number-low, by-log-season}
 use Rattle.season.specs.Own.{own, turned, decision_of, Judges, Agrees}

@@ -5,10 +5,9 @@ use Rattle.std.specs.Prelude.{◌≡◌, refl, List, [], ◌∷◌, ℕ, ◌≤�
 use Rattle.std.proofs.Common.{sym, ap, ap₂, subst, ◌∙◌}
 use Rattle.answers.specs.declared.ShotAnswer.{ShotAnswer}
 use Rattle.answers.specs.declared.ShotAnswer.TheVariants.{Held}
-use Rattle.table.specs.Table.{empty_table}
-use Rattle.gateway.specs.Gateway.{Told, admits_shot}
+use Rattle.gateway.specs.Gateway.{admits_shot}
 use Rattle.season.specs.Log.{Pair, times}
-use Rattle.season.specs.Season.{Shot, Event, shoots, AllBytes, table_after, told, noted, log_of, by_log, Judged}
+use Rattle.season.specs.Season.{AllBytes, told, noted, by_log, Judged}
 use Rattle.season.specs.Own.{own}
 use Rattle.season.proofs.Own.{own-by-log, season}
 use Rattle.season.specs.Runs.{Made, events_of, logged_of, Ran, IsSeason}

@@ -12,13 +12,13 @@ use Rattle.frame.specs.Keys.{Bytes}
 use Rattle.table.specs.Table.{most_controllers, numbered}
 use Rattle.demand3.specs.History.{same_bytes}
 use Rattle.gateway.specs.Gateway.{as_shot, admits_shot}
-use Rattle.season.specs.Log.{Pair, times, highest, named, controllers}
+use Rattle.season.specs.Log.{Pair, named, controllers}
 use Rattle.season.proofs.Log.{unnamed-highest}
-use Rattle.season.specs.Season.{Shot, Event, shoots, AllBytes, Gateway, told, pair_of, noted, log_of, full, AskedWhere, StillAhead}
+use Rattle.season.specs.Season.{AllBytes, told, noted, log_of, full, AskedWhere, StillAhead}
 use Rattle.season.specs.Own.{own}
 use Rattle.season.proofs.Own.{season}
 use Rattle.season.proofs.Exact.{asks-not-held, asks-not-20}
-use Rattle.season.specs.Histories.{idle, shot_of, goes, one, two, one_two}
+use Rattle.season.specs.Histories.{goes, one, two, one_two}
 use Rattle.season.proofs.Histories.{computed}
 use Rattle.season.proofs.Wrong.{bytes}
 use Rattle.season.specs.Sharp.{NeverAdmitted, NoHigher, AdmittedIsHeld, Never, by, crowd, pairs}

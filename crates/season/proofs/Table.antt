@@ -23,7 +23,7 @@ use Rattle.room.specs.Entries.{holder-same, held-length, held-other, held-here, 
 use Rattle.frame.specs.Keys.{Bytes, key-injective}
 use Rattle.frame.specs.Distinct.{same-key, key-same}
 use Rattle.frame.specs.Frame.{key-ext}
-use Rattle.table.specs.Table.{table_words, most_controllers, known_of, Table, empty_table, numbered, number_at, names, once}
+use Rattle.table.specs.Table.{table_words, most_controllers, known_of, empty_table, numbered, number_at, names, once}
 use Rattle.table.specs.Laws.{table_is, entry-sound, unknown-last}
 use Rattle.table.specs.Table.{entry_from, entry_for, is_known, sound_entry, sound_for, last_number, remembered}
 use Rattle.demand3.specs.History.{same_bytes}

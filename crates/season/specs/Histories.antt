@@ -1,47 +1,16 @@
 -- Short seasons, of the gateway and of wrong ones, and what each answers, computed by the calls themselves: window 10 s, bucket 100 ms, factor 1
 -- and 1 per second, so that H = 10, on a room of one slot, promised to party 1, and a ring of one. Newest first.
 -- Assumes nothing.
-use Rattle.std.specs.Prelude.{◌≡◌, refl, false, List, [], ◌∷◌, ℕ}
-use Rattle.std.proofs.Math.Decide as Decide
-use Rattle.std.specs.Float.Ieee as Ieee
-use Rattle.base.specs.Seek as Seek
-use Rattle.base.specs.Splice as Splice
-use Rattle.base.specs.Tab as Tab
+use Rattle.std.specs.Prelude.{◌≡◌, false, List, [], ◌∷◌, ℕ}
 use Rattle.answers.specs.declared.RateLimitDecision.TheVariants as decision
 use Rattle.answers.specs.declared.ShotAnswer.TheVariants.{Held, Decided, Refused}
-use Rattle.suppression.specs.Factor as Factor
-use Rattle.common.specs.Limits as Limits
 use Rattle.common.specs.Ranges as Ranges
-use Rattle.common.specs.Refusals as Refusals
 use Rattle.settings.specs.Settings as Settings
 use Rattle.common.specs.declared.units.RateLimit.{RateLimit}
-use Rattle.rules.specs.Buckets as Rules
-use Rattle.sweep.specs.Sweep as Sweep
-use Rattle.history.specs.Words as HistoryWords
-use Rattle.ring.specs.Order as Order
-use Rattle.ring.specs.Ring as Ring
-use Rattle.ring.specs.Sound as RingSound
 use Rattle.room.specs.Room as Room
-use Rattle.keys.specs.Keys as Keys
-use Rattle.parties.specs.Parties as Parties
 use Rattle.parties.specs.Parties.{sent}
 use Rattle.parties.specs.declared.Caller.{Caller}
-use Rattle.base.specs.Every as Every
-use Rattle.base.specs.Bits as Bits
-use Rattle.judge.specs.Judge as Judge
-use Rattle.opened.specs.Slot as Slot
-use Rattle.opened.specs.Sound as Sound
-use Rattle.judge.specs.Verdict as Verdicts
-use Rattle.change.specs.Words as Words
-use Rattle.edit.specs.Bodies as Bodies
 use Rattle.suppressed_verdicts.specs.Calls as Calls
-use Rattle.suppressed_edits.specs.Edits as Edits
-use Rattle.factor_opened.specs.Opened as Slots
-use Rattle.plan.specs.Plan as Plan
-use Rattle.rules.specs.Both as Both
-use Rattle.rules.specs.Suppressed as Suppressed
-use Rattle.judge.specs.Held as Held
-use Rattle.table.specs.Table as Table
 use Rattle.gateway.specs.Gateway as Gate
 use Rattle.table.specs.Table.{known_of, empty_table}
 use Rattle.steps.specs.Ops.{cleanup}

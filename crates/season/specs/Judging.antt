@@ -1,18 +1,12 @@
 -- A gateway whose answers are by the log keeps the season's promises: whatever gateway it is.
 -- Assumes nothing.
-use Rattle.std.specs.Prelude.{◌≡◌, refl, Bool, true, false, not, List, [], ◌∷◌, ℕ, ◌≤◌, ◌<◌, ltb, eqb}
-use Rattle.std.proofs.Common.{sym, ap, ◌∙◌, arith, ltb-true, ltb-false, le-ltb, eqb-true, ne_eqb, leb-true}
-use Rattle.std.proofs.lemmas.Bool.{false≢true, eqb-false, not-true, not-false}
-use Rattle.base.specs.Decides.{and-true}
-use Rattle.answers.specs.declared.RateLimitDecision.{RateLimitDecision}
-use Rattle.answers.specs.declared.RateLimitDecision.TheVariants as decision
+use Rattle.std.specs.Prelude.{◌≡◌, true, false, List, ℕ, ◌≤◌, ◌<◌}
 use Rattle.answers.specs.declared.ShotAnswer.{ShotAnswer}
 use Rattle.answers.specs.declared.ShotAnswer.TheVariants.{Held, Refused}
 use Rattle.table.specs.Table.{most_controllers, numbered}
-use Rattle.gateway.specs.Gateway.{Verdict, as_shot, admits_shot}
-use Rattle.season.specs.Log.{Pair, times, highest}
-use Rattle.season.specs.Season.{Shot, Event, shoots, calls, AllBytes, Gateway, told, pair_of, noted, log_of, limiter, full}
-use Rattle.season.specs.Season.{NeverTwice, Asks, StillAhead, LeavesTable, Season, judged_by, by_log, Judged, ByLog}
+use Rattle.gateway.specs.Gateway.{as_shot, admits_shot}
+use Rattle.season.specs.Log.{Pair, highest}
+use Rattle.season.specs.Season.{Shot, limiter, full}
 
 -- the five cases, with their facts
 pub data Judging (log : List Pair) (c : Shot) : ShotAnswer × List ℕ → Type 0 where

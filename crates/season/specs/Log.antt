@@ -1,11 +1,7 @@
 -- The log of a season: the pairs of controller and number that were admitted, newest first. What is asked of it, and the laws of that.
 -- Assumes nothing.
-use Rattle.std.specs.Prelude.{◌≡◌, refl, Bool, true, false, cond, ◌&&◌, ◌||◌, List, [], ◌∷◌, ℕ, ◌+◌, ◌≤◌, ◌<◌, max, eqb}
-use Rattle.std.proofs.Common.{sym, subst, arith, eqb-true}
-use Rattle.std.proofs.lemmas.Bool.{false≢true, eqb-false}
-use Rattle.std.proofs.Math.Decide.{dec_lt}
+use Rattle.std.specs.Prelude.{Bool, false, cond, ◌&&◌, ◌||◌, List, [], ◌∷◌, ℕ, ◌+◌, max, eqb}
 use Rattle.demand3.specs.History.{same_bytes}
-use Rattle.demand3.proofs.History.{same-bytes}
 
 pub record Pair : Type 0 where
   pub controller : List ℕ

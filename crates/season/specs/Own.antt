@@ -1,41 +1,25 @@
 -- The gateway itself keeps the season's promises: its table tells at every moment what the log does, so that its answers are by the log.
 -- Assumes nothing.
-use Rattle.std.specs.Prelude.{◌≡◌, Bool, not, ◌&&◌, ◌||◌, List, [], ◌∷◌, ℕ, ◌+◌, ◌≤◌, ◌<◌, length, ltb, eqb}
-use Rattle.std.proofs.Math.Path.{refl, ap, subst}
-use Rattle.std.proofs.Common.{sym, ap₂, ◌∙◌, arith, ltb-false, eqb-true, ne_eqb}
-use Rattle.std.proofs.Math.Bool.{true, false, cond}
-use Rattle.std.proofs.lemmas.Bool.{false≢true, eqb-false, not-false}
-use Rattle.common.specs.Refusals.{first, all-false}
-use Rattle.settings.specs.Settings.{faults}
-use Rattle.layout.specs.Layout.{longest_key}
-use Rattle.answers.specs.declared.DoneAnswer.TheVariants.{Done}
+use Rattle.std.specs.Prelude.{◌≡◌, Bool, List, ℕ}
+use Rattle.std.proofs.Math.Bool.{cond}
+use Rattle.common.specs.Refusals.{first}
 use Rattle.answers.specs.declared.RateLimitDecision.{RateLimitDecision}
-use Rattle.answers.specs.declared.RateLimitDecision.TheVariants as decision
-use Rattle.answers.specs.declared.ShotAnswer.{ShotAnswer}
-use Rattle.answers.specs.declared.ShotAnswer.TheVariants.{Refused}
 use Rattle.rules.specs.declared.RoomKind.TheVariants as kind
 use Rattle.rules.specs.Held.{Held}
 use Rattle.rules.specs.Suppressed as Rules
 use Rattle.rules.specs.Suppressed.{admits, inc_turns}
 use Rattle.room.specs.Room.{ring_of}
 use Rattle.frame.specs.Keys.{Bytes}
-use Rattle.parties.specs.Parties.{none_left, turns}
+use Rattle.parties.specs.Parties.{none_left}
 use Rattle.judge.specs.Held.{held_in}
-use Rattle.judge.specs.Judge.{misfits, refusals}
-use Rattle.judge.specs.Verdict as Room
-use Rattle.suppressed_verdicts.specs.Calls.{inc}
-use Rattle.table.specs.Table.{most_controllers, known_of, empty_table, numbered, is_known, sound_for, last_number, remembered}
-use Rattle.table.specs.Laws.{table_is, unknown-last}
+use Rattle.judge.specs.Judge.{refusals}
+use Rattle.table.specs.Table.{known_of, is_known, last_number, remembered}
 use Rattle.gateway.specs.Gateway as Gate
 use Rattle.gateway.specs.Gateway.{Verdict, is_held, gate_turns, unless_refused, as_shot, admits_shot}
-use Rattle.gateway.specs.Steps.{asked}
-use Rattle.gateway.proofs.Laws.{shot-asked, as-shot-admits}
-use Rattle.demand3.specs.History.{same_bytes}
 use Rattle.season.specs.Log.{Pair, highest, named, controllers}
 use Rattle.season.specs.Table.{Sound}
-use Rattle.season.specs.Season.{Shot, Event, shoots, calls, AllBytes, Gateway, table_after, pair_of, noted, log_of, key_in, limiter, full}
-use Rattle.season.specs.Season.{LeavesTable, Season, judged_by, by_log, ByLog}
-use Rattle.season.specs.Judging.{Through}
+use Rattle.season.specs.Season.{Shot, Gateway, key_in}
+use Rattle.season.specs.Season.{judged_by}
 
 -- what the contract of a shot names; calls on the room have no table to write to
 abbrev pub own : Gateway

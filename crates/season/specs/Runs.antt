@@ -1,14 +1,12 @@
 -- A run of code is a season: shots that were made one after the other, each with an answer, a table and a room on exit that its contract allows on the table
 -- it found, have answered what the season's shots answer. So what is promised of seasons is promised of programs; the log is made from what came back.
 -- Assumes nothing.
-use Rattle.std.specs.Prelude.{◌≡◌, refl, List, [], ◌∷◌, ℕ, ◌≤◌}
-use Rattle.std.proofs.Common.{sym, ap, ap₂, subst, ◌∙◌}
+use Rattle.std.specs.Prelude.{◌≡◌, List, [], ◌∷◌, ℕ}
 use Rattle.answers.specs.declared.ShotAnswer.{ShotAnswer}
-use Rattle.answers.specs.declared.ShotAnswer.TheVariants.{Held}
 use Rattle.table.specs.Table.{empty_table}
 use Rattle.gateway.specs.Gateway.{Told, admits_shot}
-use Rattle.season.specs.Log.{Pair, times}
-use Rattle.season.specs.Season.{Shot, Event, shoots, AllBytes, table_after, told, noted, log_of, by_log, Judged}
+use Rattle.season.specs.Log.{Pair}
+use Rattle.season.specs.Season.{Shot, Event, shoots, table_after, noted, log_of}
 use Rattle.season.specs.Own.{own}
 
 -- a shot that was made, and what came back

@@ -1,21 +1,11 @@
 -- That the promises are sharp: none can be said of more shots, and 21 comes at 64 controllers and at no other number. By short seasons (`Histories.antt`),
 -- and by one in which as many controllers as wanted send a shot each.
 -- Assumes nothing.
-use Rattle.std.specs.Prelude.{◌≡◌, refl, Bool, true, false, cond, not, ◌&&◌, ◌||◌, List, [], ◌∷◌, ◌≢◌, ℕ, zero, suc, ◌+◌, ◌≤◌, ◌<◌, eqb}
-use Rattle.std.proofs.Common.{sym, ap, ap₂, subst, ◌∙◌, arith, eq-eqb, ne_eqb}
-use Rattle.std.proofs.lemmas.Bool.{false≢true}
-use Rattle.std.proofs.Math.Decide.{dec_lt}
-use Rattle.answers.specs.declared.RateLimitDecision.TheVariants as decision
-use Rattle.answers.specs.declared.ShotAnswer.{ShotAnswer}
-use Rattle.answers.specs.declared.ShotAnswer.TheVariants.{Held, Decided, Refused}
-use Rattle.frame.specs.Keys.{Bytes}
-use Rattle.table.specs.Table.{most_controllers, numbered}
-use Rattle.demand3.specs.History.{same_bytes}
-use Rattle.gateway.specs.Gateway.{as_shot, admits_shot}
-use Rattle.season.specs.Log.{Pair, times, highest, named, controllers}
-use Rattle.season.specs.Season.{Shot, Event, shoots, AllBytes, Gateway, told, pair_of, noted, log_of, full, AskedWhere, StillAhead}
-use Rattle.season.specs.Own.{own}
-use Rattle.season.specs.Histories.{idle, shot_of, goes, one, two, one_two}
+use Rattle.std.specs.Prelude.{◌≡◌, List, [], ◌∷◌, ℕ, zero, suc, ◌≤◌}
+use Rattle.answers.specs.declared.ShotAnswer.TheVariants.{Held}
+use Rattle.season.specs.Log.{Pair, times, highest}
+use Rattle.season.specs.Season.{Shot, Event, shoots, AllBytes, Gateway, told, pair_of, log_of}
+use Rattle.season.specs.Histories.{idle, shot_of}
 
 -- ---- which shots may be sent again
 

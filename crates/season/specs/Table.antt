@@ -1,33 +1,16 @@
 -- The laws of a gateway's table: what it tells of a controller once it has remembered a number, of this controller and of every other.
 -- Assumes nothing.
-use Rattle.std.specs.Prelude.{◌≡◌, Bool, not, ◌||◌, ◌≢◌, ℕ, zero, suc, ◌+◌, ◌-◌, ◌≤◌, ◌<◌, replicate}
-use Rattle.std.proofs.Math.Path.{refl, sym, ap}
-use Rattle.std.proofs.Common.{subst, ◌∙◌, arith}
-use Rattle.std.proofs.Math.Bool.{true, false, cond}
-use Rattle.std.proofs.lemmas.Bool.{false≢true}
-use mathlib.Core.List.{List, [], ◌∷◌}
-use Rattle.std.proofs.Math.Decide.{ℕ_discrete, dec_lt}
-use Rattle.std.proofs.Math.ListN.{length, get_or, set, length-set, get_or-eq_default}
-use Rattle.std.proofs.lemmas.List.{length-replicate, get_or-replicate}
-use Rattle.std.proofs.Math.Seq.{get_or-set_same, get_or-set_other}
-use Rattle.std.proofs.Math.Dec.{ltb}
-use borrow.Author.Tests.{lt-ltb, le-ltb, ltb-true, ltb-false, eq-eqb}
-use Rattle.base.specs.Decides.{true-and, not_so, so-not}
-use Rattle.base.specs.Seek.{seek, seek-start, seek-le, seek-passes, seek-before, seek-only}
-use Rattle.base.specs.Writes.{writes, length-writes, read_past, read-nth}
-use Rattle.layout.specs.Layout.{slots_word, ring_word, last_word, firsts_word, seconds_word, len_word, a_word, b_word, c_word, d_word, nobody, longest_key}
-use Rattle.keys.specs.declared.Key.{Key}
-use Rattle.keys.specs.Keys.{key_of, same_key}
-use Rattle.room.specs.Room.{entry_of, holder_of, key_at, key_sound, held, entered, with_use}
-use Rattle.room.specs.Entries.{holder-same, held-length, held-other, held-here, held-else}
-use Rattle.frame.specs.Keys.{Bytes, key-injective}
-use Rattle.frame.specs.Distinct.{same-key, key-same}
-use Rattle.frame.specs.Frame.{key-ext}
-use Rattle.table.specs.Table.{table_words, most_controllers, known_of, Table, empty_table, numbered, number_at, names, once}
-use Rattle.table.specs.Laws.{table_is, entry-sound, unknown-last}
-use Rattle.table.specs.Table.{entry_from, entry_for, is_known, sound_entry, sound_for, last_number, remembered}
+use Rattle.std.specs.Prelude.{◌≡◌, ◌||◌, ◌≢◌, ℕ, ◌+◌, ◌≤◌, ◌<◌}
+use Rattle.std.proofs.Math.Bool.{true, cond}
+use mathlib.Core.List.{List}
+use Rattle.std.proofs.Math.ListN.{length}
+use Rattle.layout.specs.Layout.{nobody, longest_key}
+use Rattle.keys.specs.Keys.{key_of}
+use Rattle.room.specs.Room.{key_at}
+use Rattle.frame.specs.Keys.{Bytes}
+use Rattle.table.specs.Table.{known_of, Table, numbered, number_at}
+use Rattle.table.specs.Table.{entry_for, is_known, last_number}
 use Rattle.demand3.specs.History.{same_bytes}
-use Rattle.demand3.proofs.History.{same-bytes, bytes_same}
 
 -- ---- entries
 

@@ -1,7 +1,7 @@
 -- A set as the code works it out, on a key's opened slot x: what changes nothing, the outcome, the edit, the
 -- refusals. They are the rules' (`calls/specs/Seen.antt`), and no contract of a call names them but for the edit. `still` says that nothing changes.
 -- Assumes nothing.
-use Rattle.std.specs.Prelude.{◌≡◌, Bool, true, not, ◌&&◌, ◌||◌, cond, List, [], ◌∷◌, ℕ, ◌-◌, ltb, eqb}
+use Rattle.std.specs.Prelude.{◌≡◌, Bool, true, not, ◌&&◌, ◌||◌, cond, List, [], ◌∷◌, ℕ, ltb, eqb}
 use Rattle.std.proofs.Common.{sym, ap}
 use Rattle.common.specs.Comparator.{matches}
 use Rattle.common.specs.declared.units.RateLimit.{RateLimit}

@@ -13,12 +13,11 @@ use Rattle.answers.specs.declared.OldRateAnswer.TheVariants as old
 use Rattle.rules.specs.declared.RoomKind.{RoomKind}
 use Rattle.rules.specs.Both.{divisor}
 use Rattle.edit.specs.declared.Then.TheVariants as then
-use Rattle.edit.specs.declared.Edit.{Edit}
 use Rattle.change.specs.declared.Change.{Change}
 use Rattle.change.specs.declared.Change.TheVariants.{Keep, Free, Update}
 use Rattle.opened.specs.declared.Slot.{Slot}
 use Rattle.opened.specs.Slot.{has_slot}
-use Rattle.plan.specs.Plan.{keeping, restored, relimited}
+use Rattle.plan.specs.Plan.{keeping, relimited}
 
 -- ---- delete
 

@@ -5,20 +5,18 @@
 use Rattle.std.specs.Prelude.{◌≡◌, refl, Bool, List, [], ◌∷◌, ℕ, ◌+◌, ◌-◌, ◌≤◌, ◌<◌, Float, get_or}
 use Rattle.std.proofs.Common.{sym, ap, ◌∙◌, inl, inr, arith}
 use Rattle.answers.specs.Rows.{decision_row}
-use Rattle.answers.specs.declared.HistoryUpdateMode.TheVariants.{Replace}
 use Rattle.answers.specs.declared.RateLimitDecision.{RateLimitDecision}
 use Rattle.answers.specs.declared.RateLimitDecision.TheVariants as decided
-use Rattle.common.specs.declared.comparator.RateLimitComparator.TheVariants.{Always}
 use Rattle.common.specs.declared.units.RateLimit.{RateLimit}
-use Rattle.settings.specs.Settings.{ten_seconds, window_in}
-use Rattle.settings.specs.Clock.{window_in_milliseconds, window_ticks, join_ticks}
+use Rattle.settings.specs.Settings.{ten_seconds}
+use Rattle.settings.specs.Clock.{window_ticks, join_ticks}
 use Rattle.settings.specs.declared.ClockMode.{ClockMode}
 use Rattle.settings.specs.declared.ClockMode.TheVariants.{Milliseconds, Nanoseconds}
 use Rattle.settings.specs.declared.Settings.{Settings}
 use Rattle.frame.specs.Keys.{Bytes}
 use Rattle.rules.specs.declared.RoomKind.TheVariants as kind
 use Rattle.admissions.specs.Log.{aged}
-use Rattle.steps.specs.Ops.{Op, draws, snapshot, set_rate, set, delete, cleanup, clear, Call, words}
+use Rattle.steps.specs.Ops.{Op, draws, snapshot, set_rate, delete, clear, Call, words}
 use Rattle.demand3.specs.History.{Same, IsKey, admitted, hard_of, soft_of, Clause, Or, AllBy, Gives, LeavesAlone}
 use Rattle.demand3.specs.Demand3.{less_bucket, look_back, Ceiling, increment, Floor}
 use Rattle.sharp.specs.Histories.{one, two, doubled, nano, room, caller, key, ten_once, expired, nano_expired, cleaned, around, lowers, begun, spent}

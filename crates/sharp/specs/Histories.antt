@@ -2,63 +2,26 @@
 -- slot. Window 10 s, bucket 100 ms, factor 1, readings in milliseconds, and 1 per second, so that H = S = 10, unless something else is said.
 -- Newest first.
 -- Assumes nothing.
-use Rattle.std.specs.Prelude.{◌≡◌, refl, true, false, cond, List, [], ◌∷◌, ℕ, ◌-◌, eqb, pos}
-use Rattle.std.proofs.Math.Decide as Decide
+use Rattle.std.specs.Prelude.{◌≡◌, true, false, cond, List, [], ◌∷◌, ℕ, ◌-◌, eqb, pos}
 use Rattle.std.specs.Float.Ieee as Ieee
-use Rattle.base.specs.Seek as Seek
 use Rattle.layout.specs.Layout as Layout
-use Rattle.base.specs.Splice as Splice
-use Rattle.base.specs.Tab as Tab
 use Rattle.answers.specs.Rows as Answers
 use Rattle.answers.specs.declared.HistoryUpdateMode.TheVariants.{Replace}
 use Rattle.answers.specs.declared.RateLimitDecision.{RateLimitDecision}
 use Rattle.answers.specs.declared.RateLimitDecision.TheVariants as decided
-use Rattle.suppression.specs.Factor as Factor
-use Rattle.common.specs.Limits as Limits
 use Rattle.common.specs.Ranges as Ranges
-use Rattle.common.specs.Refusals as Refusals
 use Rattle.common.specs.declared.comparator.RateLimitComparator.TheVariants.{Always}
 use Rattle.settings.specs.Settings as Settings
 use Rattle.settings.specs.declared.ClockMode.TheVariants.{Nanoseconds}
 use Rattle.settings.specs.declared.Settings as settings
 use Rattle.common.specs.declared.units.RateLimit.{RateLimit}
-use Rattle.rules.specs.Buckets as Rules
-use Rattle.sweep.specs.Sweep as Sweep
-use Rattle.history.specs.Words as HistoryWords
-use Rattle.ring.specs.Order as Order
-use Rattle.ring.specs.Ring as Ring
-use Rattle.ring.specs.Sound as RingSound
 use Rattle.room.specs.Room as Room
-use Rattle.keys.specs.Keys as Keys
 use Rattle.parties.specs.Parties as Parties
 use Rattle.parties.specs.Parties.{Sent, sent}
 use Rattle.parties.specs.declared.Caller.{Caller}
 use Rattle.rules.specs.declared.RoomKind.TheVariants as kind
-use Rattle.judge.specs.Judge as Judge
-use Rattle.opened.specs.Slot as Slot
-use Rattle.opened.specs.Sound as Sound
-use Rattle.judge.specs.Verdict as Verdicts
-use Rattle.change.specs.Words as Words
-use Rattle.edit.specs.Bodies as Bodies
 use Rattle.suppressed_verdicts.specs.Calls as Calls
-use Rattle.suppressed_edits.specs.Edits as Edits
-use Rattle.factor_opened.specs.Opened as Slots
-use Rattle.plan.specs.Plan as Plan
-use Rattle.rules.specs.Both as Both
-use Rattle.rules.specs.Stale as Stale
-use Rattle.rules.specs.Sets as SetRules
-use Rattle.rules.specs.Suppressed as Suppressed
-use Rattle.judge.specs.Held as Held
-use Rattle.stale.specs.Uses as Uses
-use Rattle.cleanup.specs.Cleanup as Cleanup
-use Rattle.base.specs.Every as Every
-use Rattle.base.specs.Bits as Bits
-use Rattle.clearing.specs.Clear as Clear
-use Rattle.calls.specs.Delete as Delete
-use Rattle.calls.specs.Rate as Rate
 use Rattle.calls.specs.Set as Set
-use Rattle.shared_opened.specs.Opened as Shared
-use Rattle.sets_opened.specs.Sets as SetsOpened
 use Rattle.admissions.specs.Log.{in_span, aged}
 use Rattle.steps.specs.Ops.{Op, draws, snapshot, get_factor, set_rate, set, delete, cleanup, cleanup_both, clear, verdict_of, Call, words}
 use Rattle.apart.specs.Apart.{Limiter, told_by}

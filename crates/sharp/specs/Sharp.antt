@@ -2,27 +2,17 @@
 -- pass the ceiling fails, and with a shorter look back or a higher limit the floor. Each by a history of a few calls that the checker computes
 -- (`Histories.antt`). P is what is asked of the calls otherwise: the mission's wording, or anything that asks for less, as `Spares` does (`alone-spares`).
 -- Assumes nothing.
-use Rattle.std.specs.Prelude.{◌≡◌, refl, Bool, List, [], ◌∷◌, ℕ, ◌+◌, ◌-◌, ◌≤◌, ◌<◌, Float, get_or}
-use Rattle.std.proofs.Common.{sym, ap, ◌∙◌, inl, inr, arith}
-use Rattle.answers.specs.Rows.{decision_row}
+use Rattle.std.specs.Prelude.{◌≡◌, ℕ, ◌-◌}
 use Rattle.answers.specs.declared.HistoryUpdateMode.TheVariants.{Replace}
-use Rattle.answers.specs.declared.RateLimitDecision.{RateLimitDecision}
-use Rattle.answers.specs.declared.RateLimitDecision.TheVariants as decided
 use Rattle.common.specs.declared.comparator.RateLimitComparator.TheVariants.{Always}
 use Rattle.common.specs.declared.units.RateLimit.{RateLimit}
-use Rattle.settings.specs.Settings.{ten_seconds, window_in}
-use Rattle.settings.specs.Clock.{window_in_milliseconds, window_ticks, join_ticks}
+use Rattle.settings.specs.Settings.{window_in}
+use Rattle.settings.specs.Clock.{window_in_milliseconds}
 use Rattle.settings.specs.declared.ClockMode.{ClockMode}
 use Rattle.settings.specs.declared.ClockMode.TheVariants.{Milliseconds, Nanoseconds}
-use Rattle.settings.specs.declared.Settings.{Settings}
-use Rattle.frame.specs.Keys.{Bytes}
-use Rattle.rules.specs.declared.RoomKind.TheVariants as kind
-use Rattle.admissions.specs.Log.{aged}
-use Rattle.steps.specs.Ops.{Op, draws, snapshot, set_rate, set, delete, cleanup, clear, Call, words}
-use Rattle.demand3.specs.History.{Same, IsKey, admitted, hard_of, soft_of, Clause, Or, AllBy, Gives, LeavesAlone}
-use Rattle.demand3.specs.Demand3.{less_bucket, look_back, Ceiling, increment, Floor}
-use Rattle.sharp.specs.Histories.{one, two, doubled, nano, room, caller, key, ten_once, expired, nano_expired, cleaned, around, lowers, begun, spent}
-use Rattle.sharp.specs.Histories.{answer_to}
+use Rattle.steps.specs.Ops.{draws, set_rate, set, delete, cleanup, clear}
+use Rattle.demand3.specs.History.{Clause}
+use Rattle.sharp.specs.Histories.{key}
 
 -- 1 in one clock mode, 0 in the other
 abbrev pub one_in : ClockMode → ClockMode → ℕ

@@ -1,16 +1,15 @@
 -- Every call of either limiter is a step (`step`).
 -- Assumes nothing.
-use Rattle.std.specs.Prelude.{◌≡◌, Bool, not, ◌&&◌, cond, ℕ, ◌≤◌, ◌<◌}
+use Rattle.std.specs.Prelude.{◌≡◌, Bool, not, ◌&&◌, cond, ℕ, ◌<◌}
 use Rattle.std.proofs.Math.Path.{refl}
 use Rattle.std.proofs.Common.{sym, ap, subst, ◌∙◌, arith, eqb-true, ltb-false}
 use Rattle.std.proofs.Math.Bool.{true, false}
 use mathlib.Core.List.{List, []}
 use Rattle.std.proofs.Math.Decide.{ℕ_discrete}
 use Rattle.std.proofs.Math.Dec.{eqb}
-use Rattle.std.proofs.lemmas.Bool.{eqb-false, not-false}
+use Rattle.std.proofs.lemmas.Bool.{not-false}
 use Rattle.common.specs.Ranges.{rate_ok}
-use Rattle.common.specs.Refusals.{first, first_found, first-none, all-false}
-use Rattle.settings.specs.Settings.{faults}
+use Rattle.common.specs.Refusals.{first, all-false}
 use Rattle.settings.specs.Clock.{ticks_in, window_ticks}
 use Rattle.common.specs.declared.comparator.RateLimitComparator.{RateLimitComparator}
 use Rattle.answers.specs.declared.HistoryUpdateMode.{HistoryUpdateMode}
@@ -23,7 +22,7 @@ use Rattle.answers.specs.declared.RateLimitDecision.TheVariants as decisions
 use Rattle.answers.specs.declared.SnapshotAnswer.TheVariants as snapshots
 use Rattle.answers.specs.declared.TotalAnswer.TheVariants as totals
 use Rattle.layout.specs.Layout.{most_total}
-use Rattle.room.specs.Room.{slots_of, ring_of, last_of, with_reading, cleared as cleared_words}
+use Rattle.room.specs.Room.{slots_of, ring_of, with_reading, cleared as cleared_words}
 use Rattle.frame.specs.Keys.{Bytes}
 use Rattle.parties.specs.declared.Caller.{Caller}
 use Rattle.parties.specs.Parties.{Sent, mark_of, none_left}

@@ -1,54 +1,31 @@
 -- What a step leaves, whatever the call was: the slots it does not address stand, keys stay distinct, and the buckets of each slot's series are what one of
 -- the four rules makes of all of them, of the live ones, or of none.
 -- Assumes nothing.
-use Rattle.std.specs.Prelude.{◌≡◌, Bool, true, false, ◌&&◌, ◌||◌, ◌≢◌, ℕ, ◌≤◌, ◌<◌, eqb}
+use Rattle.std.specs.Prelude.{◌≡◌, Bool, true, false, ◌&&◌, ℕ, ◌<◌}
 use Rattle.std.proofs.Math.Path.{refl, sym, ap, subst}
 use Rattle.std.proofs.Common.{ap₂, ◌∙◌, arith}
 use Rattle.std.proofs.Math.Bool.{cond}
-use Rattle.std.proofs.lemmas.Bool.{false≢true}
 use mathlib.Core.List.{List, []}
 use Rattle.std.proofs.Math.Decide.{ℕ_discrete}
-use Rattle.std.proofs.Math.ListN.{drop}
 use Rattle.settings.specs.Clock.{ticks_in, window_ticks, join_ticks}
-use Rattle.answers.specs.declared.HistoryPreservation.{HistoryPreservation}
 use Rattle.settings.specs.declared.Settings.{Settings}
-use Rattle.rules.specs.Buckets.{live, gone, joined, replaced, preserved}
+use Rattle.rules.specs.Buckets.{live, preserved}
 use Rattle.ring.specs.declared.Bucket.{Bucket}
 use Rattle.ring.specs.Ring.{buckets}
-use Rattle.keys.specs.declared.Key.{Key}
-use Rattle.keys.specs.Keys.{key_of}
-use Rattle.room.specs.Room.{Room, slots_of, ring_of, last_of, holder_of, use_of, used_at, key_at, body_of, with_reading, cleared as cleared_words}
-use Rattle.room.specs.Entries.{used-held, used-free, used-ext}
-use Rattle.layout.specs.Layout.{nobody, first_mark, second_mark}
-use Rattle.frame.specs.Distinct.{Distinct, holder-ext, changed-holder}
-use Rattle.frame.specs.Frame.{Changed, key-holder, read-run}
+use Rattle.room.specs.Room.{Room, slots_of, ring_of, holder_of, used_at, body_of, with_reading, cleared as cleared_words}
+use Rattle.room.specs.Entries.{used-free}
 use Rattle.frame.specs.Whole.{clear-read-run, cleared-distinct}
-use Rattle.parties.specs.Parties.{Sent, key_for, mark_of, is_party}
-use Rattle.change.specs.declared.Change.{Change}
-use Rattle.change.specs.declared.Change.TheVariants.{Keep, Free, Update, Take}
-use Rattle.edit.specs.declared.Edit.{Edit}
+use Rattle.parties.specs.Parties.{key_for}
 use Rattle.edit.specs.declared.Then.{Then}
 use Rattle.edit.specs.declared.Then.TheVariants as then
-use Rattle.change.specs.Words.{applied, EditsAt}
-use Rattle.edit.specs.Bodies.{edited, started_view, acted_view, edited_view}
-use Rattle.edit.specs.BodyLaws.{edited-is}
+use Rattle.edit.specs.Bodies.{acted_view}
 use Rattle.rules.specs.declared.RoomKind.{RoomKind}
-use Rattle.opened.specs.declared.Slot.{Slot}
-use Rattle.judge.specs.Judge.{Passed, slot_in}
-use Rattle.opened.specs.Sound.{has_series, addressed}
-use Rattle.opened.specs.Slot.{has_slot}
-use Rattle.opened.specs.Right.{slot-addressed}
-use Rattle.plan.specs.Known.{series-is}
-use Rattle.calls.specs.Calls.{slot-within, found_at, known_at}
-use Rattle.calls.specs.Applies.{known-has}
+use Rattle.judge.specs.Judge.{slot_in}
+use Rattle.opened.specs.Sound.{has_series}
 use Rattle.rules.specs.Stale.{series_stays}
 use Rattle.stale.specs.Uses as Uses
-use Rattle.leaves.specs.Calls.{keep-words, free-changed, update-changed, take-changed}
 use Rattle.leaves.proofs.Cleanup.{clean_run, series-kept, clean-distinct}
-use Rattle.places.specs.Has.{Untouched, changed-untouched}
 use Rattle.places.specs.Placed.{placed-distinct}
-use Rattle.places.specs.SoundRoom.{addressed-held}
-use Rattle.steps.specs.Moves.{Plain, From, opens, keeps, evicts, Does}
 use Rattle.steps.proofs.Moves.{moves-placed}
 use Rattle.steps.specs.Ops.{Op}
 use Rattle.steps.specs.Step.{Step, refused, changed, cleaned, cleared}

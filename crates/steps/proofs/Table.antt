@@ -1,7 +1,7 @@
 -- Every call's table of refusals, and that it answers by it (demand 1), said once for all calls (`turned`): a number that is given is the first, in the
 -- order of judging, whose condition holds, exactly then, and the words are then as they were.
 -- Assumes nothing.
-use Rattle.std.specs.Prelude.{◌≡◌, refl, Bool, true, false, cond, List, [], ◌∷◌, ◌++◌, ◌≢◌, ℕ}
+use Rattle.std.specs.Prelude.{◌≡◌, refl, Bool, true, false, cond, List, [], ◌∷◌, ◌≢◌, ℕ}
 use Rattle.std.proofs.Common.{ap, arith, eq-eqb, ne_eqb}
 use Rattle.answers.specs.Rows.{decision_row, total_row, snapshot_row, factor_row, old_rate_row, delete_row, set_row, done_row, number_of}
 use Rattle.common.specs.Refusals.{first}
@@ -17,8 +17,6 @@ use Rattle.answers.specs.declared.RateLimitDecision.TheVariants as decision
 use Rattle.answers.specs.declared.SetAnswer.TheVariants as set
 use Rattle.answers.specs.declared.SnapshotAnswer.TheVariants as snapshot
 use Rattle.answers.specs.declared.TotalAnswer.TheVariants as total
-use Rattle.common.specs.declared.comparator.RateLimitComparator.{RateLimitComparator}
-use Rattle.answers.specs.declared.HistoryUpdateMode.{HistoryUpdateMode}
 use Rattle.settings.specs.declared.Settings.{Settings}
 use Rattle.common.specs.declared.units.RateLimit.{RateLimit}
 use Rattle.common.specs.declared.units.WindowSize.{WindowSize}
@@ -37,17 +35,16 @@ use Rattle.rules.specs.Absolute as absolute
 use Rattle.rules.specs.Absolute.{pick_decision}
 use Rattle.rules.specs.Suppressed as suppressed
 use Rattle.rules.specs.Sets as shared
-use Rattle.room.specs.Room.{ring_of}
 use Rattle.parties.specs.declared.Caller.{Caller}
-use Rattle.parties.specs.Parties.{Sent, none_left, turns}
+use Rattle.parties.specs.Parties.{Sent, turns}
 use Rattle.judge.specs.Held.{held_in}
-use Rattle.judge.specs.Judge.{misfits, refusals}
+use Rattle.judge.specs.Judge.{misfits}
 use Rattle.suppressed_verdicts.specs.Calls as Suppressed
 use Rattle.rules.specs.declared.Asked.{Asked}
 use Rattle.rules.specs.declared.Reach.{Reach}
 use Rattle.rules.specs.declared.Reach.TheVariants.{Hard, Soft, Over, Between}
 use Rattle.provider.specs.Provider as Provider
-use Rattle.provider.specs.Laws.{either_misfits, both-by-table}
+use Rattle.provider.specs.Laws.{both-by-table}
 use Rattle.steps.specs.Order.{met, TurnedBy, InOrder}
 use Rattle.steps.proofs.Order.{turned_by, judge-turned, not-given}
 use Rattle.steps.specs.Ops as Ops

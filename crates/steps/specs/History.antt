@@ -1,24 +1,15 @@
 -- Induction over histories: what each step keeps holds after any history. An empty room is sound, its keys are distinct and it has no buckets.
 -- Assumes nothing.
-use Rattle.std.specs.Prelude.{◌≡◌, true, cond, List, [], ◌∷◌, ℕ, ◌<◌}
-use Rattle.std.proofs.Common.{sym, ap, subst, arith}
+use Rattle.std.specs.Prelude.{List, [], ℕ}
 use Rattle.settings.specs.Clock.{window_ticks, join_ticks}
 use Rattle.settings.specs.declared.Settings.{Settings}
 use Rattle.rules.specs.Buckets.{live}
 use Rattle.ring.specs.declared.Bucket.{Bucket}
-use Rattle.ring.specs.Ring.{buckets}
-use Rattle.room.specs.Room.{slots_of, ring_of, body_of, fits, empty}
-use Rattle.room.specs.Entries.{used-free}
 use Rattle.frame.specs.Distinct.{Distinct}
-use Rattle.frame.specs.Whole.{empty-free, empty-distinct}
 use Rattle.edit.specs.declared.Then.{Then}
 use Rattle.edit.specs.Bodies.{acted_view}
 use Rattle.rules.specs.declared.RoomKind.{RoomKind}
-use Rattle.opened.specs.Sound.{has_series}
-use Rattle.places.specs.SoundRoom.{SoundRoom, empty-sound}
-use Rattle.steps.specs.Ops.{Op, Call, after, words, AllKeyed}
-use Rattle.steps.specs.Leaves.{Starts, all, lives, none, Becomes, series_at}
-use Rattle.steps.specs.Step.{Step}
+use Rattle.places.specs.SoundRoom.{SoundRoom}
 
 -- what holds of every room that the calls have made
 pub record Sane (kind : RoomKind) (s : Settings) (w : List ℕ) : Type 0 where

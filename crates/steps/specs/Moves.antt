@@ -22,7 +22,7 @@ use Rattle.opened.specs.declared.Slot.{Slot}
 use Rattle.judge.specs.Judge.{Passed, slot_in}
 use Rattle.opened.specs.Sound.{has_series, has_cached, right_use}
 use Rattle.rules.specs.Both.{divisor}
-use Rattle.places.specs.Placed.{Owns, Lacks, Placed}
+use Rattle.places.specs.Placed.{Owns, Lacks}
 
 -- it is no set that preserves
 abbrev pub Plain : Then → Type 0

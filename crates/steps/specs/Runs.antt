@@ -1,16 +1,14 @@
 -- A run of code is a history: calls that were made one after the other, each with the answer and the words on exit that its contract allows on the words
 -- it found, have answered what the history's calls answer, and have left its words.
 -- Assumes nothing.
-use Rattle.std.specs.Prelude.{◌≡◌, refl, List, [], ◌∷◌, ℕ}
-use Rattle.std.proofs.Common.{ap, ap₂, ◌∙◌}
+use Rattle.std.specs.Prelude.{◌≡◌, List, [], ◌∷◌, ℕ}
 use Rattle.answers.specs.declared.DoneAnswer.{DoneAnswer}
 use Rattle.settings.specs.declared.Settings.{Settings}
 use Rattle.rules.specs.declared.RoomKind.{RoomKind}
 use Rattle.rules.specs.declared.RoomKind.TheVariants.{Absolute, Suppressed}
 use Rattle.parties.specs.declared.Caller.{Caller}
 use Rattle.judge.specs.Verdict.{Told}
-use Rattle.provider.specs.Provider as Provider
-use Rattle.steps.specs.Ops.{Op, cleanup_both, Answer, row_of, verdict_of, Call, words, rows, after, answer_row}
+use Rattle.steps.specs.Ops.{Op, cleanup_both, Answer, row_of, verdict_of, Call, words, rows}
 
 -- a call that was made: when, which, and what came back
 pub record Made (kind : RoomKind) : Type 0 where

@@ -3,11 +3,9 @@
 -- Assumes nothing.
 use Rattle.std.specs.Prelude.{◌≡◌, refl, Bool, true, false, ◌&&◌, cond, List, [], ◌∷◌, ℕ}
 use Rattle.std.proofs.Common.{sym, ap, ap₂, ◌∙◌}
-use Rattle.common.specs.declared.units.RateLimit.{RateLimit}
 use Rattle.settings.specs.declared.Settings.{Settings}
 use Rattle.parties.specs.Parties.{Sent}
 use Rattle.rules.specs.declared.RoomKind.TheVariants.{Suppressed}
-use Rattle.rules.specs.Suppressed.{admits}
 use Rattle.suppressed_verdicts.specs.Calls.{inc}
 use Rattle.gateway.specs.Gateway as Gateway
 use Rattle.gateway.specs.Gateway.{admits_shot}

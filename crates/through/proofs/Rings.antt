@@ -17,7 +17,6 @@ use Rattle.settings.specs.declared.Settings.{Settings}
 use Rattle.ring_length.specs.RingLength.{sufficient_ring}
 use Rattle.rules.specs.declared.RoomKind.TheVariants.{Suppressed}
 use Rattle.room.specs.Room.{ring_of, fits, empty}
-use Rattle.frame.specs.Keys.{Bytes}
 use Rattle.parties.specs.Parties.{Sent, turns}
 use Rattle.table.specs.Table.{is_table}
 use Rattle.judge.specs.Held.{held_in}
@@ -25,7 +24,7 @@ use Rattle.judge.specs.Judge.{misfits}
 use Rattle.judge.specs.Verdict as Room
 use Rattle.gateway.specs.Gateway.{is_held, gate_turns, limiter_turns, unless_held, shot_turns, passed, unless_refused, new_season}
 use Rattle.gateway.specs.Gateway as Gateway
-use Rattle.steps.specs.Ops.{draws, Call, Keyed, AllKeyed, answer_number}
+use Rattle.steps.specs.Ops.{draws, Call, AllKeyed}
 use Rattle.steps.specs.Order.{met}
 use Rattle.steps.proofs.Order.{first-met}
 use Rattle.rings.proofs.Window.{looked-room}

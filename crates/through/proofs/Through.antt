@@ -7,7 +7,6 @@ use Rattle.answers.specs.Rows.{decision_row, shot_row, number_of}
 use Rattle.answers.specs.declared.RateLimitDecision.TheVariants.{Allowed}
 use Rattle.answers.specs.declared.ShotAnswer.TheVariants.{Held, Decided}
 use Rattle.common.specs.declared.units.RateLimit.{RateLimit}
-use Rattle.settings.specs.Clock.{window_ticks, join_ticks}
 use Rattle.settings.specs.declared.Settings.{Settings}
 use Rattle.rules.specs.declared.RoomKind.TheVariants.{Suppressed}
 use Rattle.room.specs.Room.{empty}
@@ -15,15 +14,15 @@ use Rattle.parties.specs.Parties.{Sent}
 use Rattle.suppressed_verdicts.specs.Calls.{inc}
 use Rattle.gateway.specs.Gateway as Gateway
 use Rattle.gateway.specs.Gateway.{as_shot}
-use Rattle.admissions.specs.Log.{Entry, in_span, aged}
+use Rattle.admissions.specs.Log.{Entry, aged}
 use Rattle.steps.specs.Ops.{draws, Call, words}
-use Rattle.demand3.specs.History.{IsKey, hard_of, soft_of, Clause, AllBy, LeavesAlone, Spares}
+use Rattle.demand3.specs.History.{hard_of, soft_of, Clause, AllBy, LeavesAlone, Spares}
 use Rattle.demand3.specs.Demand3.{less_bucket, look_back, increment, Ceiling, Floor}
 use Rattle.demand3.proofs.Demand3.{ceiling, floor}
 use Rattle.demand3.proofs.MissionPromises.{mission-ceiling, mission-floor}
 use Rattle.through.specs.Shot.{asks}
 use Rattle.through.proofs.Shot.{as-shot-row, shot-quiet, limiter-answers}
-use Rattle.through.specs.Events.{Event, shot, call, season, Lent, lent, left, asking, asked, admitted_in}
+use Rattle.through.specs.Events.{Event, shot, call, season, Lent, lent, left, asking, asked}
 use Rattle.through.proofs.Events.{same-room, same_log}
 use Rattle.through.specs.Through.{By, EachBy, CeilingThrough, FloorThrough}
 

@@ -1,22 +1,17 @@
 -- What happens at a gateway with one table and one room: shots, any calls of the limiter on the room, new seasons. The limiter's own history in it: the
 -- calls, and the shots that it is asked about.
 -- Assumes nothing.
-use Rattle.std.specs.Prelude.{◌≡◌, refl, Bool, true, false, ◌&&◌, cond, List, [], ◌∷◌, ℕ}
-use Rattle.std.proofs.Common.{sym, ap, ap₂, ◌∙◌}
+use Rattle.std.specs.Prelude.{◌&&◌, cond, List, [], ◌∷◌, ℕ}
 use Rattle.common.specs.declared.units.RateLimit.{RateLimit}
 use Rattle.settings.specs.declared.Settings.{Settings}
 use Rattle.parties.specs.Parties.{Sent}
 use Rattle.rules.specs.declared.RoomKind.TheVariants.{Suppressed}
-use Rattle.rules.specs.Suppressed.{admits}
-use Rattle.suppressed_verdicts.specs.Calls.{inc}
 use Rattle.gateway.specs.Gateway as Gateway
 use Rattle.gateway.specs.Gateway.{admits_shot}
-use Rattle.gateway.proofs.Laws.{as-shot-admits}
 use Rattle.admissions.specs.Log.{Entry, noted}
 use Rattle.steps.specs.Ops.{Call, words}
 use Rattle.steps.specs.Ops as Ops
-use Rattle.demand3.specs.History.{same_key, admits_count, logged, admitted}
-use Rattle.demand3.proofs.Decided.{admits-is}
+use Rattle.demand3.specs.History.{same_key, logged}
 use Rattle.demand3.specs.Demand3.{increment}
 use Rattle.through.specs.Shot.{asks}
 

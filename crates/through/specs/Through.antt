@@ -1,28 +1,21 @@
 -- Demand 3 through a gateway: ceiling and floor of a controller's shots, with the table's words any at the beginning, and any calls, shots of any
 -- controllers of either party and new seasons between.
 -- Assumes nothing.
-use Rattle.std.specs.Prelude.{◌≡◌, refl, Bool, true, false, cond, List, [], ◌∷◌, ◌≢◌, ◌⊎◌, ℕ, ◌+◌, ◌≤◌}
-use Rattle.std.proofs.Common.{sym, ap, subst, ◌∙◌, inl, inr}
-use Rattle.answers.specs.Rows.{decision_row, shot_row, number_of}
+use Rattle.std.specs.Prelude.{◌≡◌, List, [], ◌∷◌, ◌≢◌, ℕ, ◌+◌, ◌≤◌}
+use Rattle.answers.specs.Rows.{shot_row, number_of}
 use Rattle.answers.specs.declared.RateLimitDecision.TheVariants.{Allowed}
 use Rattle.answers.specs.declared.ShotAnswer.TheVariants.{Held, Decided}
 use Rattle.common.specs.declared.units.RateLimit.{RateLimit}
 use Rattle.settings.specs.Clock.{window_ticks, join_ticks}
 use Rattle.settings.specs.declared.Settings.{Settings}
-use Rattle.rules.specs.declared.RoomKind.TheVariants.{Suppressed}
 use Rattle.room.specs.Room.{empty}
 use Rattle.parties.specs.Parties.{Sent}
-use Rattle.suppressed_verdicts.specs.Calls.{inc}
 use Rattle.gateway.specs.Gateway as Gateway
 use Rattle.gateway.specs.Gateway.{as_shot}
-use Rattle.admissions.specs.Log.{Entry, in_span, aged}
-use Rattle.steps.specs.Ops.{draws, Call, words}
-use Rattle.demand3.specs.History.{IsKey, hard_of, soft_of, Clause, AllBy, LeavesAlone, Spares}
-use Rattle.demand3.specs.Demand3.{less_bucket, look_back, increment, Ceiling, Floor}
-use Rattle.demand3.proofs.Demand3.{ceiling, floor}
-use Rattle.demand3.proofs.MissionPromises.{mission-ceiling, mission-floor}
-use Rattle.through.specs.Shot.{asks}
-use Rattle.through.specs.Events.{Event, shot, call, season, Lent, lent, left, asking, asked, admitted_in}
+use Rattle.admissions.specs.Log.{in_span, aged}
+use Rattle.steps.specs.Ops.{draws}
+use Rattle.demand3.specs.History.{IsKey, Clause}
+use Rattle.through.specs.Events.{Event, shot, call, season, Lent, lent, left, admitted_in}
 
 -- ---- what is asked of the events: a shot is an increment by 1
 

@@ -15,7 +15,6 @@ use Rattle.answers.specs.declared.RateLimitDecision.TheVariants.{Allowed}
 use Rattle.settings.specs.declared.Settings.{Settings}
 use Rattle.parties.specs.Parties.{Sent}
 use Rattle.rules.specs.declared.RoomKind.TheVariants.{Suppressed}
-use Rattle.judge.specs.Verdict.{Verdict}
 use Rattle.suppressed_verdicts.specs.Calls as Own
 use Rattle.admissions.specs.Log.{Entry, noted, pick, in_span, aged}
 use Rattle.admissions.proofs.Log.{pick_all}

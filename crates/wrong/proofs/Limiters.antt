@@ -4,7 +4,7 @@
 -- Assumes nothing.
 use Rattle.std.proofs.Math.Path.{◌≡◌, ap}
 use Rattle.std.proofs.Common.{sym, subst, ◌∙◌, arith}
-use Rattle.std.specs.Prelude.{false, List, [], ◌≢◌, ℕ, zero, suc, length, get_or}
+use Rattle.std.specs.Prelude.{false, List, [], ◌≢◌, ℕ, zero, suc, length}
 use Rattle.answers.specs.Rows.{decision_row, number_of}
 use Rattle.common.specs.Ranges.{one}
 use Rattle.common.specs.Refusals.{first}
@@ -26,7 +26,7 @@ use Rattle.judge.specs.Verdict.{Verdict, verdict}
 use Rattle.frame.specs.Keys.{Bytes}
 use Rattle.finding.specs.Finding.{buckets_of}
 use Rattle.leaves.specs.Calls.{Stands}
-use Rattle.steps.specs.Order.{TurnedBy, InOrder}
+use Rattle.steps.specs.Order.{InOrder}
 use Rattle.steps.proofs.Order.{taken, not-refused}
 use Rattle.steps.specs.Ops.{inc, draws}
 use Rattle.steps.proofs.Table.{in-order}

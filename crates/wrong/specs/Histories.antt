@@ -1,33 +1,21 @@
 -- What wrong limiters break of demand 3: the ceiling and the floor, of increments of one key at H = 20, S = 10, counted from the answers given.
 -- Assumes nothing.
-use Rattle.std.proofs.Math.Path.{◌≡◌, refl, sym, ap, ap₂}
-use Rattle.std.proofs.Common.{subst, ◌∙◌, arith}
-use Rattle.std.proofs.Math.Bool.{false}
-use Rattle.std.specs.Prelude.{◌&&◌, ℕ, ◌+◌, ◌≤◌, get_or, drop}
+use Rattle.std.proofs.Math.Path.{◌≡◌}
+use Rattle.std.specs.Prelude.{ℕ, ◌+◌, ◌≤◌}
 use mathlib.Core.List.{List, [], ◌∷◌}
-use Rattle.std.proofs.Math.Decide.{dec_le}
 use Rattle.answers.specs.Rows.{decision_row, number_of}
 use Rattle.common.specs.Ranges.{one}
 use Rattle.settings.specs.Clock.{window_ticks}
 use Rattle.answers.specs.declared.RateLimitDecision.{RateLimitDecision}
-use Rattle.answers.specs.declared.RateLimitDecision.TheVariants as decision
 use Rattle.answers.specs.declared.RateLimitDecision.TheVariants.{Allowed}
-use Rattle.settings.specs.declared.Settings.{Settings}
-use Rattle.parties.specs.Parties.{Sent}
 use Rattle.rules.specs.declared.RoomKind.TheVariants.{Suppressed}
 use Rattle.judge.specs.Verdict.{Verdict}
-use Rattle.suppressed_verdicts.specs.Calls as Own
-use Rattle.admissions.specs.Log.{Entry, noted, pick, in_span, aged}
-use Rattle.admissions.proofs.Log.{pick_all}
-use Rattle.steps.specs.Ops as Ops
-use Rattle.steps.specs.Ops.{Call, draws, words, rows}
-use Rattle.demand3.specs.History.{row_admits, admits_count, same_key, logged, admitted, IsKey, AllLeaveAlone}
+use Rattle.admissions.specs.Log.{Entry, noted, in_span, aged}
+use Rattle.steps.specs.Ops.{Call, draws}
+use Rattle.demand3.specs.History.{admits_count}
 use Rattle.demand3.specs.Demand3.{less_bucket}
-use Rattle.demand3.proofs.MissionPromises.{mission-ceiling, mission-floor}
 use Rattle.promises.specs.Rules.{Inc}
-use Rattle.promises.specs.Cases.{hard_by, per_second, key, room, single}
-use Rattle.promises.proofs.Boundary.{further}
-use Rattle.wrong.specs.Limiters.{Always, case_of, SameAnswers, Idles, Once}
+use Rattle.promises.specs.Cases.{hard_by, per_second, key, room}
 
 -- ---- histories of any limiter
 

@@ -2,40 +2,20 @@
 -- is here any function with the inputs and results of an increment (`Inc`). Each theorem says what one of a wrong kind cannot keep, by a case that the
 -- definitions decide (`Boundary.antt` of the promises). The limiters' own increments keep all of it.
 -- Assumes nothing.
-use Rattle.std.proofs.Math.Path.{◌≡◌, ap}
-use Rattle.std.proofs.Common.{sym, subst, ◌∙◌, arith}
-use Rattle.std.specs.Prelude.{false, List, [], ◌≢◌, ℕ, zero, suc, length, get_or}
-use Rattle.answers.specs.Rows.{decision_row, number_of}
+use Rattle.std.proofs.Math.Path.{◌≡◌}
+use Rattle.std.specs.Prelude.{List, [], ◌≢◌, ℕ, get_or}
+use Rattle.answers.specs.Rows.{decision_row}
 use Rattle.common.specs.Ranges.{one}
-use Rattle.common.specs.Refusals.{first}
-use Rattle.settings.specs.Settings.{defaults, with_window, faults}
 use Rattle.answers.specs.declared.RateLimitDecision.{RateLimitDecision}
-use Rattle.answers.specs.declared.RateLimitDecision.TheVariants as decision
-use Rattle.answers.specs.declared.RateLimitDecision.TheVariants.{Allowed}
 use Rattle.settings.specs.declared.Settings.{Settings}
 use Rattle.common.specs.declared.units.RateLimit.{RateLimit}
-use Rattle.keys.specs.declared.Key.{Key}
-use Rattle.ring.specs.declared.Bucket.{Bucket}
-use Rattle.ring.specs.Ring.{buckets, sum_of, counts}
-use Rattle.room.specs.Room.{ring_of, body_of}
-use Rattle.parties.specs.Parties.{Sent, turns}
+use Rattle.parties.specs.Parties.{Sent}
 use Rattle.rules.specs.declared.RoomKind.{RoomKind}
-use Rattle.rules.specs.declared.RoomKind.TheVariants.{Absolute, Suppressed}
-use Rattle.judge.specs.Judge.{misfits}
-use Rattle.judge.specs.Verdict.{Verdict, verdict}
-use Rattle.frame.specs.Keys.{Bytes}
+use Rattle.judge.specs.Verdict.{verdict}
 use Rattle.finding.specs.Finding.{buckets_of}
-use Rattle.leaves.specs.Calls.{Stands}
-use Rattle.steps.specs.Order.{TurnedBy, InOrder}
-use Rattle.steps.proofs.Order.{taken, not-refused}
-use Rattle.steps.specs.Ops.{inc, draws}
-use Rattle.steps.proofs.Table.{in-order}
-use Rattle.promises.proofs.Refusals.{demand1}
+use Rattle.steps.specs.Order.{TurnedBy}
 use Rattle.promises.specs.Rules.{Inc, inc_of, inc_table, IncRule, IncByRules}
-use Rattle.promises.proofs.Rules.{demand2}
-use Rattle.promises.specs.Cases.{per_second, key, room, settings_for, ask_at, inc_at, most, full, single, in_slot}
-use Rattle.promises.specs.Boundary.{Fills}
-use Rattle.promises.proofs.Boundary.{boundary, further}
+use Rattle.promises.specs.Cases.{per_second, key, settings_for, inc_at, in_slot}
 
 -- ---- what limiters are to keep
 

@@ -1,7 +1,6 @@
 -- A refusal goes on; a place past the buckets has none; else the slot can be read, and its bucket is the key's.
 use mathlib.Core.Path.{◌∙◌}
 use Rattle.abi.specs.ReadOut.{bucket-refused, bucket-none, bucket-readable, bucket-some}
-use borrow.Author.Rules.{rules}
 use Rattle.abi.proofs.bucket_row.Goals as goal
 
 pub returns-then-code-ne0 : goal.returns-then-code-ne0

@@ -1,7 +1,6 @@
 -- The limiter's answer for these settings, handed over as its row.
 use Rattle.answers.specs.Rows.{done_row}
 use Rattle.abi.specs.Laws.{faced}
-use borrow.Author.Rules.{rules}
 use Rattle.abi.proofs.frostaxle_absolute_cleanup.Goals as goal
 
 pub returns : goal.returns

@@ -1,5 +1,4 @@
 -- The set of this limiter's room, its numbers read.
-use borrow.Author.Rules.{rules}
 use Rattle.abi.proofs.frostaxle_absolute_set_if_preserve_history.Goals as goal
 
 pub returns : goal.returns

@@ -2,7 +2,6 @@
 use mathlib.Core.Path.{◌∙◌, sym, ap}
 use mathlib.Core.Bool.{Bool}
 use Rattle.abi.specs.Faces.{make_number}
-use borrow.Author.Rules.{rules}
 use Rattle.abi.proofs.frostaxle_gateway_make_table.Goals as goal
 
 pub returns-then-make_table : goal.returns-then-make_table

@@ -1,6 +1,5 @@
 -- The gateway's answer for these settings, handed over as its row.
 use Rattle.abi.specs.Laws.{faced-gateway}
-use borrow.Author.Rules.{rules}
 use Rattle.abi.proofs.frostaxle_gateway_shot.Goals as goal
 
 pub returns : goal.returns

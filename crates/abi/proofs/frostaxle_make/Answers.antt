@@ -2,7 +2,6 @@
 use mathlib.Core.Path.{◌∙◌, sym, ap}
 use mathlib.Core.Bool.{Bool}
 use Rattle.abi.specs.Faces.{make_number}
-use borrow.Author.Rules.{rules}
 use Rattle.abi.proofs.frostaxle_make.Goals as goal
 
 pub returns-then-make : goal.returns-then-make

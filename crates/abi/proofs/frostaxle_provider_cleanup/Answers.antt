@@ -1,6 +1,5 @@
 -- The provider's answer for these settings, handed over as its row.
 use Rattle.abi.specs.Laws.{faced-both}
-use borrow.Author.Rules.{rules}
 use Rattle.abi.proofs.frostaxle_provider_cleanup.Goals as goal
 
 pub returns : goal.returns

@@ -1,7 +1,6 @@
 -- What the line tells, handed over as its row.
 -- Assumes nothing.
 use Rattle.rows.specs.Lines.{line-given}
-use borrow.Author.Rules.{rules}
 use Rattle.abi.proofs.frostaxle_read_line.Goals as goal
 
 pub returns : goal.returns

@@ -3,7 +3,6 @@ use mathlib.Core.Path.{refl}
 use native.Mathlib.Omega.{arith}
 use Rattle.room.specs.Laws.{bodies-few}
 use Rattle.abi.specs.Laws.{words-some, words-none}
-use borrow.Author.Rules.{rules}
 use Rattle.abi.proofs.frostaxle_room_words.Goals as goal
 
 pub returns-then-slots-lt1 : goal.returns-then-slots-lt1

@@ -1,5 +1,4 @@
 -- The answer for these settings, handed over as its row.
-use borrow.Author.Rules.{rules}
 use Rattle.abi.proofs.frostaxle_sufficient_ring.Goals as goal
 
 pub returns : goal.returns

@@ -1,5 +1,4 @@
 -- The bucket's row for these settings, handed over.
-use borrow.Author.Rules.{rules}
 use Rattle.abi.proofs.frostaxle_suppressed_bucket.Goals as goal
 
 pub returns : goal.returns

@@ -1,7 +1,6 @@
 -- The limiter's answer for these settings, handed over as its row.
 use Rattle.answers.specs.Rows.{decision_row}
 use Rattle.abi.specs.Laws.{faced}
-use borrow.Author.Rules.{rules}
 use Rattle.abi.proofs.frostaxle_suppressed_inc.Goals as goal
 
 pub returns : goal.returns

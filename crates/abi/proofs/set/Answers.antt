@@ -3,7 +3,6 @@ use mathlib.Core.Path.{refl}
 use Rattle.answers.specs.Rows.{set_row}
 use Rattle.abi.specs.Faces.{shown_set}
 use Rattle.abi.specs.Laws.{given-faced, faced}
-use borrow.Author.Rules.{rules}
 use Rattle.abi.proofs.set.Goals as goal
 
 pub returns-in_default : goal.returns-in_default

@@ -1,7 +1,6 @@
 -- The number that was judged, handed over as its row.
 use mathlib.Core.Path.{ap, ◌∙◌}
 use Rattle.answers.specs.Rows.{refused_row}
-use borrow.Author.Rules.{rules}
 use Rattle.abi.proofs.unnamed.Goals as goal
 
 pub returns : goal.returns

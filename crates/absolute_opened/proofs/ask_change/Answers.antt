@@ -1,6 +1,4 @@
 -- Nothing changes where the test is not made again.
-use borrow.Author.Tests.{not-true, not-false}
-use borrow.Author.Rules.{rules}
 use Rattle.absolute_opened.proofs.ask_change.Goals as goal
 
 pub returns-then-not-again : goal.returns-then-not-again

@@ -1,6 +1,4 @@
 -- By the first.
-use borrow.Author.Tests.{not-true, not-false}
-use borrow.Author.Rules.{rules}
 use Rattle.absolute_opened.proofs.both.Goals as goal
 
 pub returns-then-not-a : goal.returns-then-not-a

@@ -3,7 +3,6 @@ use mathlib.Core.Path.{◌≡◌, ◌∙◌, sym}
 use mathlib.Core.Bool.{true, false}
 use Rattle.absolute_opened.specs.Opened.{clears_at}
 use Rattle.absolute_test.specs.Test.{evicts}
-use borrow.Author.Rules.{rules}
 use Rattle.absolute_opened.proofs.clears.Goals as goal
 
 pub returns-then-evicts : goal.returns-then-evicts

@@ -1,6 +1,5 @@
 -- The conditions, in their order.
 use Rattle.common.specs.Refusals.{first}
-use borrow.Author.Rules.{rules}
 use Rattle.std.proofs.Common.{ap}
 use Rattle.std.proofs.Common.{not}
 use Rattle.absolute_opened.proofs.first_refusal.Goals as goal

@@ -1,7 +1,5 @@
 -- An unknown key has nothing to change.
-use borrow.Author.Tests.{not-true, not-false}
 use Rattle.absolute_opened.specs.Opened.{get_change}
-use borrow.Author.Rules.{rules}
 use Rattle.absolute_opened.proofs.get_change.Goals as goal
 
 pub returns-then-not-series : goal.returns-then-not-series

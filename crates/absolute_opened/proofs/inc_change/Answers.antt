@@ -1,11 +1,9 @@
 -- By whether the key is known, and whether it is allowed.
 use mathlib.Core.Path.{◌∙◌, sym, ap}
 use Rattle.change.specs.declared.Change.TheVariants.{Update}
-use borrow.Author.Tests.{not-true, not-false}
 use Rattle.common.specs.Limits.{absolute_word}
 use Rattle.absolute_opened.specs.Opened.{inc_change}
 use Rattle.absolute_opened.specs.Laws.{counts-change}
-use borrow.Author.Rules.{rules}
 use Rattle.absolute_opened.proofs.inc_change.Goals as goal
 
 pub returns-then-not-series : goal.returns-then-not-series

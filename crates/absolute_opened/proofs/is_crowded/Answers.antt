@@ -2,7 +2,6 @@
 use mathlib.Core.Path.{◌≡◌, ◌∙◌, sym}
 use mathlib.Core.Bool.{true, false}
 use Rattle.rules.specs.Both.{passes}
-use borrow.Author.Rules.{rules}
 use Rattle.absolute_opened.proofs.is_crowded.Goals as goal
 
 pub returns-then-passes : goal.returns-then-passes

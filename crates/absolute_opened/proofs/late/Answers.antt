@@ -1,7 +1,6 @@
 -- Each condition is worked out, and the first that holds is given.
 use mathlib.Core.Path.{◌∙◌}
 use Rattle.absolute_opened.specs.Opened.{inc_refusals}
-use borrow.Author.Rules.{rules}
 use Rattle.absolute_opened.proofs.late.Goals as goal
 
 pub returns : goal.returns

@@ -1,5 +1,4 @@
 -- By whether they are out.
-use borrow.Author.Rules.{rules}
 use Rattle.absolute_opened.proofs.leaving.Goals as goal
 
 pub returns-then-out : goal.returns-then-out

@@ -4,7 +4,6 @@ use Prim.Native.Nat.{ℕ}
 use Rattle.parties.specs.Parties.{sent}
 use Rattle.change.specs.Words.{Applies, applied}
 use Rattle.absolute_verdicts.specs.Told.{bucket-fits, get_refused, get-fits, get-done}
-use borrow.Author.Rules.{rules}
 use Rattle.absolute_reads.proofs.get.Goals as goal
 
 pub returns-then-code-ne0 : goal.returns-then-code-ne0

@@ -7,7 +7,6 @@ use Rattle.parties.specs.Parties.{sent}
 use Rattle.change.specs.Words.{Applies, applied}
 use Rattle.absolute_test.specs.Test.{evicts, allowed_at, decided_at}
 use Rattle.absolute_verdicts.specs.Told.{ask-window, ask-bucket, ask-refused, ask-fits, ask-done}
-use borrow.Author.Rules.{rules}
 use Rattle.absolute_reads.proofs.is_allowed.Goals as goal
 
 pub returns-then-code-ne0 : goal.returns-then-code-ne0

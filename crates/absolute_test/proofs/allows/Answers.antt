@@ -3,7 +3,6 @@ use mathlib.Core.Path.{◌∙◌, ap}
 use mathlib.Core.Bool.{Bool}
 use Rattle.absolute_test.specs.Test.{total_if, allowed_at}
 use Rattle.rules.specs.Absolute.{below}
-use borrow.Author.Rules.{rules}
 use Rattle.std.proofs.Common.{not}
 use Rattle.absolute_test.proofs.allows.Goals as goal
 

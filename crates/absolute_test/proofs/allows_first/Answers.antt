@@ -3,7 +3,6 @@
 use mathlib.Core.Path.{sym, ap, ◌∙◌}
 use Rattle.absolute_test.specs.Test.{allowed_at}
 use Rattle.absolute_test.specs.Laws.{allowed-stored}
-use borrow.Author.Rules.{rules}
 use Rattle.absolute_test.proofs.allows_first.Goals as goal
 
 pub returns-then-is_below : goal.returns-then-is_below

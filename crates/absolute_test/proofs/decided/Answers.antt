@@ -1,6 +1,5 @@
 -- By whether the key may.
 use Rattle.absolute_test.specs.Test.{decided_at}
-use borrow.Author.Rules.{rules}
 use Rattle.absolute_test.proofs.decided.Goals as goal
 
 pub returns-then-may : goal.returns-then-may

@@ -1,6 +1,5 @@
 -- A total that is not below.
 use Rattle.absolute_test.specs.Test.{evicts}
-use borrow.Author.Rules.{rules}
 use Rattle.absolute_test.proofs.evicts.Goals as goal
 
 pub returns : goal.returns

@@ -4,7 +4,6 @@ use Prim.Native.Nat.{ℕ, ◌≤◌}
 use borrow.Author.Tests.{lt-ltb, le-ltb}
 use Rattle.settings.specs.Clock.{ticks-some}
 use Rattle.absolute_test.specs.Test.{rejected_at}
-use borrow.Author.Rules.{rules}
 use Rattle.absolute_test.proofs.rejected.Goals as goal
 
 pub returns-then-buckets-expired : goal.returns-then-buckets-expired

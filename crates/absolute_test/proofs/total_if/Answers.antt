@@ -1,6 +1,4 @@
 -- By whether they are out.
-use borrow.Author.Tests.{not-true, not-false}
-use borrow.Author.Rules.{rules}
 use Rattle.absolute_test.proofs.total_if.Goals as goal
 
 pub returns-then-not-out : goal.returns-then-not-out

@@ -1,7 +1,6 @@
 -- Word by word, the definition from its innermost word on.
 -- Assumes nothing.
 use Rattle.answer_lines.specs.Reading.{any_word}
-use borrow.Author.Rules.{rules}
 use Rattle.answer_lines.proofs.any_word.Goals as goal
 
 pub returns : goal.returns

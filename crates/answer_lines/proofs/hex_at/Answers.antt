@@ -1,10 +1,7 @@
 -- The invariant: so many digits were read, and what they count.
 -- Assumes nothing.
 use mathlib.Core.Path.{sym}
-use Prim.Native.Nat.{◌-◌}
-use Rattle.answer_lines.specs.Reading.{hex_length}
-use Rattle.answer_lines.specs.Hex.{HexTurn, hex-start, hex-turn, hex-done, hex-past, hex-bad, hex-room}
-use borrow.Author.Rules.{rules}
+use Rattle.answer_lines.specs.Hex.{hex-start, hex-turn, hex-done, hex-past, hex-bad, hex-room}
 use native.Mathlib.Omega.{arith}
 use Rattle.answer_lines.proofs.hex_at.Goals as goal
 

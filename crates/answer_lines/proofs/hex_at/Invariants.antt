@@ -1,9 +1,6 @@
-use mathlib.Core.Path.{sym}
 use Prim.Native.Nat.{◌-◌}
 use Rattle.answer_lines.specs.Reading.{hex_length}
-use Rattle.answer_lines.specs.Hex.{HexTurn, hex-start, hex-turn, hex-done, hex-past, hex-bad, hex-room}
-use borrow.Author.Rules.{rules}
-use native.Mathlib.Omega.{arith}
+use Rattle.answer_lines.specs.Hex.{HexTurn}
 use Rattle.answer_lines.proofs.hex_at.Given as goal
 
 abbrev pub invariant-loop-i : goal.invariant-loop-i

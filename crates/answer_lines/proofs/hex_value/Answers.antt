@@ -3,7 +3,6 @@
 use native.Mathlib.Omega.{arith}
 use mathlib.Core.Logic.{inl, inr}
 use Rattle.answer_lines.specs.Hex.{value-decimal, value-letter, value_none}
-use borrow.Author.Rules.{rules}
 use Rattle.answer_lines.proofs.hex_value.Goals as goal
 
 pub returns-in-48-to-57 : goal.returns-in-48-to-57

@@ -2,7 +2,6 @@
 -- Assumes nothing.
 use mathlib.Core.Path.{sym, ◌∙◌}
 use Rattle.answer_lines.specs.Reading.{verdict_at}
-use borrow.Author.Rules.{rules}
 use Rattle.answer_lines.proofs.verdict_at.Goals as goal
 
 pub returns-in_default : goal.returns-in_default

@@ -2,7 +2,6 @@
 -- Assumes nothing.
 use mathlib.Core.Path.{sym, ◌∙◌}
 use Rattle.answer_lines.specs.Reading.{word_if}
-use borrow.Author.Rules.{rules}
 use Rattle.answer_lines.proofs.word_if.Goals as goal
 
 pub returns-in-At : goal.returns-in-At

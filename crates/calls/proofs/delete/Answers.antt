@@ -12,7 +12,6 @@ use Rattle.judge.proofs.Verdict.{told-as}
 use Rattle.calls.specs.Opened.{deletes, no_own, none-own}
 use Rattle.calls.specs.Applies.{delete-applies}
 use Rattle.calls.specs.Seen.{delete-opened}
-use borrow.Author.Rules.{rules}
 use Rattle.calls.proofs.delete.Goals as goal
 
 pub returns-then-code-ne0 : goal.returns-then-code-ne0

@@ -10,7 +10,6 @@ use Rattle.calls.specs.Calls.{judged-passed, judged-early}
 use Rattle.calls.specs.Opened.{set_own_of, sets}
 use Rattle.calls.specs.Seen.{set-opened}
 use Rattle.calls.specs.SetLaws.{set-refused, set-carried, set-done}
-use borrow.Author.Rules.{rules}
 use Rattle.calls.proofs.set.Goals as goal
 
 pub returns-then-code-ne0 : goal.returns-then-code-ne0

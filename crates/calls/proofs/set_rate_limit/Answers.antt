@@ -13,7 +13,6 @@ use Rattle.shared_opened.specs.Opened.{limiting}
 use Rattle.calls.specs.Opened.{limits, rate_own_of}
 use Rattle.calls.specs.Applies.{rate-applies}
 use Rattle.calls.specs.Seen.{rate-opened}
-use borrow.Author.Rules.{rules}
 use Rattle.calls.proofs.set_rate_limit.Goals as goal
 
 pub returns-then-code-ne0 : goal.returns-then-code-ne0

@@ -7,7 +7,6 @@ use Rattle.room.specs.Room.{Directory, with_reading}
 use Rattle.parties.specs.Parties.{sent}
 use Rattle.change.specs.Words.{applied}
 use Rattle.change.specs.Laws.{carried-room}
-use borrow.Author.Rules.{rules}
 use Rattle.change.proofs.apply.Goals as goal
 
 pub store_reading-requires : goal.store_reading-requires

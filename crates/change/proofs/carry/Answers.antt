@@ -1,7 +1,6 @@
 -- Each arm is its case of the definition.
 use Rattle.room.specs.Laws.{room-directory}
-use Rattle.change.specs.Words.{Applies, carried}
-use borrow.Author.Rules.{rules}
+use Rattle.change.specs.Words.{carried}
 use Rattle.change.proofs.carry.Goals as goal
 
 pub release-requires : goal.release-requires

@@ -1,13 +1,11 @@
 -- The body that is lent is the slot's, and it comes back edited.
 use mathlib.Core.Path.{sym, ap, subst, ◌∙◌}
 use mathlib.Core.List.{List}
-use Prim.Native.Nat.{ℕ, ◌+◌, ◌*◌, ◌-◌}
-use borrow.Rule.Slice.PartMut.{same_len_mid}
-use Rattle.room.specs.Room.{ring_of, body_of, with_body}
+use Prim.Native.Nat.{ℕ}
+use Rattle.room.specs.Room.{ring_of, with_body}
 use Rattle.room.specs.Laws.{part_body, part-home}
 use Rattle.change.specs.Words.{with_edit}
 use Rattle.edit.specs.Bodies.{Edits, edited}
-use borrow.Author.Rules.{rules}
 use Rattle.change.proofs.edit_at.Goals as goal
 
 pub edit_body-requires : goal.edit_body-requires

@@ -9,7 +9,6 @@ use Rattle.room.specs.Room.{Directory, slots_of, entered}
 use Rattle.frame.specs.Frame.{inside-after}
 use Rattle.change.specs.Words.{taken}
 use Rattle.change.specs.Laws.{edit-change}
-use borrow.Author.Rules.{rules}
 use Rattle.change.proofs.take.Goals as goal
 
 pub enter-requires : goal.enter-requires

@@ -7,7 +7,6 @@ use Rattle.room.specs.Room.{Directory, slots_of, with_use}
 use Rattle.frame.specs.Frame.{inside-after}
 use Rattle.change.specs.Words.{updated}
 use Rattle.change.specs.Laws.{edit-change}
-use borrow.Author.Rules.{rules}
 use Rattle.change.proofs.update.Goals as goal
 
 pub set_use-requires : goal.set_use-requires

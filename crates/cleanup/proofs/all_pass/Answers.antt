@@ -1,12 +1,8 @@
 -- After i turns the first i slots have passed.
 use mathlib.Core.Path.{◌≡◌, refl, sym, ap, ◌∙◌}
-use mathlib.Core.Bool.{true}
-use Prim.Native.Nat.{◌-◌, ◌≤◌}
-use borrow.Author.Tests.{not-true, not-false}
 use Rattle.room.specs.Room.{slots_of}
 use Rattle.base.specs.Every.{every, every-on, every-off}
 use Rattle.cleanup.specs.Cleanup.{slot_passes}
-use borrow.Author.Rules.{rules}
 use native.Mathlib.Omega.{arith}
 use Rattle.cleanup.proofs.all_pass.Goals as goal
 

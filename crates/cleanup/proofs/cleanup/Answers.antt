@@ -4,7 +4,6 @@ use Prim.Native.Nat.{ℕ, ◌≤◌}
 use Rattle.settings.specs.Clock.{ticks-some}
 use Rattle.stale.specs.Uses.{cleaned}
 use Rattle.cleanup.specs.Laws.{passed, passed-ready, cleanup-refused, cleanup-done}
-use borrow.Author.Rules.{rules}
 use Rattle.cleanup.proofs.cleanup.Goals as goal
 
 pub returns-then-code-ne0 : goal.returns-then-code-ne0

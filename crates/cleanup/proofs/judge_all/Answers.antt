@@ -3,8 +3,6 @@ use mathlib.Core.Path.{sym, ◌∙◌}
 use Rattle.base.specs.Decides.{decided, undecided}
 use Rattle.settings.specs.Settings.{proper}
 use Rattle.cleanup.specs.Laws.{number-fault, number-lengths}
-use native.Mathlib.Omega.{arith}
-use borrow.Author.Rules.{rules}
 use Rattle.std.proofs.Common.{ap}
 use Rattle.std.proofs.Common.{not}
 use Rattle.cleanup.proofs.judge_all.Goals as goal

@@ -7,10 +7,19 @@ use Rattle.parties.specs.Parties.{ours}
 use Rattle.parties.proofs.Laws.{census-ours, census-counts}
 use Rattle.cleanup.specs.Cleanup.{all_pass}
 use Rattle.cleanup.specs.Laws.{number-stray, number-unsound, number-reading, number-late}
-use borrow.Author.Rules.{rules}
 use Rattle.cleanup.proofs.judge_room.Goals as goal
+use Rattle.cleanup.proofs.judge_room.Goals.{Else-not-all_pass, Else-not-held}
 
 -- ---- what is known past 5
+
+theirs : (c : goal.Else-not-held) → ours c.args.w.now ≡ true
+theirs c =
+    let a = c.args in
+    sym (census-ours a.w.now c.census-held.result c.census-held.ensures) ∙ not-false c.census-held.result.ours c.if-not-held.false
+
+passes : (c : goal.Else-not-all_pass) → let a = c.args in all_pass a.kind a.settings a.w.now ≡ true
+passes c =
+    let p = c.all_pass in sym p.ensures ∙ c.if-not-all_pass.false
 
 -- ---- the needs
 
@@ -22,38 +31,22 @@ returns-then-not-held c =
 
 pub returns-then-not-all_pass : goal.returns-then-not-all_pass
 returns-then-not-all_pass c =
-    let theirs : ours c.args.w.now ≡ true =
     let a = c.args in
-    sym (census-ours a.w.now c.census-held.result c.census-held.ensures) ∙ not-false c.census-held.result.ours c.if-not-held.false in
-    let a = c.args in
-    number-unsound a.kind a.settings a.w.now a.reading a.caller c.requires.1 c.requires.0 (theirs)
+    number-unsound a.kind a.settings a.w.now a.reading a.caller c.requires.1 c.requires.0 (theirs (goal.at.returns-then-not-all_pass c).Else-not-held)
     (sym c.all_pass.ensures ∙ c.if-not-all_pass.true)
 
 pub returns-then-reading-w : goal.returns-then-reading-w
 returns-then-reading-w c =
-    let theirs : ours c.args.w.now ≡ true =
     let a = c.args in
-    sym (census-ours a.w.now c.census-held.result c.census-held.ensures) ∙ not-false c.census-held.result.ours c.if-not-held.false in
-    let passes : let a = c.args in all_pass a.kind a.settings a.w.now ≡ true =
-    let p = c.all_pass in sym p.ensures ∙ c.if-not-all_pass.false in
-    let a = c.args in
-    number-reading a.kind a.settings a.w.now a.reading a.caller c.requires.1 c.requires.0 (theirs) (passes) c.if-reading-w.true
+    number-reading a.kind a.settings a.w.now a.reading a.caller c.requires.1 c.requires.0 (theirs (goal.at.returns-then-reading-w c).Else-not-held) (passes (goal.at.returns-then-reading-w c).Else-not-all_pass) c.if-reading-w.true
 
 pub refusal-requires : goal.refusal-requires
 refusal-requires c =
-    let theirs : ours c.args.w.now ≡ true =
-    let a = c.args in
-    sym (census-ours a.w.now c.census-held.result c.census-held.ensures) ∙ not-false c.census-held.result.ours c.if-not-held.false in
-    (c.requires.0, census-counts c.args.w.now c.census-held.result c.census-held.ensures (theirs))
+    (c.requires.0, census-counts c.args.w.now c.census-held.result c.census-held.ensures (theirs (goal.at.refusal-requires c).Else-not-held))
 
 pub returns : goal.returns
 returns c =
-    let theirs : ours c.args.w.now ≡ true =
-    let a = c.args in
-    sym (census-ours a.w.now c.census-held.result c.census-held.ensures) ∙ not-false c.census-held.result.ours c.if-not-held.false in
-    let passes : let a = c.args in all_pass a.kind a.settings a.w.now ≡ true =
-    let p = c.all_pass in sym p.ensures ∙ c.if-not-all_pass.false in
     let a = c.args in
     c.refusal.ensures ∙
-    sym (number-late a.kind a.settings a.w.now a.reading a.caller c.requires.1 c.requires.0 (theirs) (passes)
+    sym (number-late a.kind a.settings a.w.now a.reading a.caller c.requires.1 c.requires.0 (theirs (goal.at.returns c).Else-not-held) (passes (goal.at.returns c).Else-not-all_pass)
     c.if-reading-w.false)

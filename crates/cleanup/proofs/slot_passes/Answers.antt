@@ -3,9 +3,7 @@ use mathlib.Core.Path.{sym, ap, ◌∙◌}
 use Prim.Native.Nat.{ℕ}
 use Rattle.opened.specs.Slot.{slot_of}
 use Rattle.opened.specs.Look.{plain-slot}
-use borrow.Author.Tests.{not-true, not-false}
 use Rattle.cleanup.specs.Laws.{passes-free, fails-key, passes-right}
-use borrow.Author.Rules.{rules}
 use Rattle.cleanup.proofs.slot_passes.Goals as goal
 
 pub returns-then-holder_of-eq-NOBODY : goal.returns-then-holder_of-eq-NOBODY

@@ -7,7 +7,6 @@ use Prim.Native.Nat.{ℕ}
 use Rattle.room.specs.Room.{Directory, slots_of, with_reading, cleared}
 use Rattle.room.specs.Entries.{freed-room}
 use Rattle.clearing.specs.Clear.{clear-refused, clear_room, clear-done}
-use borrow.Author.Rules.{rules}
 use Rattle.clearing.proofs.clear.Goals as goal
 
 pub returns-then-code-ne0 : goal.returns-then-code-ne0

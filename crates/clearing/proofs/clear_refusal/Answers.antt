@@ -11,11 +11,21 @@ use Rattle.room.specs.Laws.{sized-room}
 use Rattle.parties.specs.Parties.{ours}
 use Rattle.parties.proofs.Laws.{census-ours, census-counts}
 use Rattle.clearing.specs.Clear.{clear-fault, clear-lengths, clear-stray, clear-reading, clear-late}
-use borrow.Author.Rules.{rules}
 use native.Mathlib.Omega.{arith}
 use Rattle.std.proofs.Common.{ap}
 use Rattle.std.proofs.Common.{not}
 use Rattle.clearing.proofs.clear_refusal.Goals as goal
+use Rattle.clearing.proofs.clear_refusal.Goals.{Else-not-held, Else-not-sized}
+
+fine : (c : goal.Else-not-sized) → let a = c.args in (first (faults a.settings) ≡ 0) × Room a.w.now
+fine c =
+    let k = c.sized in
+    (sym c.refusal-n.ensures ∙ c.if-n-ne0.false, decided k.result (ap not c.if-not-sized.false) k.ensures)
+
+theirs : (c : goal.Else-not-held) → ours c.args.w.now ≡ true
+theirs c =
+    let a = c.args in
+    sym (census-ours a.w.now c.census-held.result c.census-held.ensures) ∙ not-false c.census-held.result.ours c.if-not-held.false
 
 pub returns-then-n-ne0 : goal.returns-then-n-ne0
 returns-then-n-ne0 c =
@@ -38,52 +48,28 @@ census-held-requires c =
 
 pub bounds-w-2 : goal.bounds-w-2
 bounds-w-2 c =
-    let fine : let a = c.args in (first (faults a.settings) ≡ 0) × Room a.w.now =
-    let k = c.sized in
-    (sym c.refusal-n.ensures ∙ c.if-n-ne0.false, decided k.result (ap not c.if-not-sized.false) k.ensures) in
-    let f = fine in omega (arith, f.1.long)
+    let f = (fine (goal.at.bounds-w-2 c).Else-not-sized) in omega (arith, f.1.long)
 
 pub returns-then-not-held : goal.returns-then-not-held
 returns-then-not-held c =
-    let fine : let a = c.args in (first (faults a.settings) ≡ 0) × Room a.w.now =
-    let k = c.sized in
-    (sym c.refusal-n.ensures ∙ c.if-n-ne0.false, decided k.result (ap not c.if-not-sized.false) k.ensures) in
     let a = c.args in
-    let f = fine in
+    let f = (fine (goal.at.returns-then-not-held c).Else-not-sized) in
     clear-stray a.settings a.w.now a.reading a.caller f.0 f.1
     (sym (census-ours a.w.now c.census-held.result c.census-held.ensures) ∙ not-true c.census-held.result.ours c.if-not-held.true)
 
 pub returns-then-reading-w : goal.returns-then-reading-w
 returns-then-reading-w c =
-    let fine : let a = c.args in (first (faults a.settings) ≡ 0) × Room a.w.now =
-    let k = c.sized in
-    (sym c.refusal-n.ensures ∙ c.if-n-ne0.false, decided k.result (ap not c.if-not-sized.false) k.ensures) in
-    let theirs : ours c.args.w.now ≡ true =
     let a = c.args in
-    sym (census-ours a.w.now c.census-held.result c.census-held.ensures) ∙ not-false c.census-held.result.ours c.if-not-held.false in
-    let a = c.args in
-    let f = fine in
-    clear-reading a.settings a.w.now a.reading a.caller f.0 f.1 (theirs) c.if-reading-w.true
+    let f = (fine (goal.at.returns-then-reading-w c).Else-not-sized) in
+    clear-reading a.settings a.w.now a.reading a.caller f.0 f.1 (theirs (goal.at.returns-then-reading-w c).Else-not-held) c.if-reading-w.true
 
 pub refusal-requires : goal.refusal-requires
 refusal-requires c =
-    let fine : let a = c.args in (first (faults a.settings) ≡ 0) × Room a.w.now =
-    let k = c.sized in
-    (sym c.refusal-n.ensures ∙ c.if-n-ne0.false, decided k.result (ap not c.if-not-sized.false) k.ensures) in
-    let theirs : ours c.args.w.now ≡ true =
     let a = c.args in
-    sym (census-ours a.w.now c.census-held.result c.census-held.ensures) ∙ not-false c.census-held.result.ours c.if-not-held.false in
-    let a = c.args in
-    ((fine).1, census-counts a.w.now c.census-held.result c.census-held.ensures (theirs))
+    ((fine (goal.at.refusal-requires c).Else-not-sized).1, census-counts a.w.now c.census-held.result c.census-held.ensures (theirs (goal.at.refusal-requires c).Else-not-held))
 
 pub returns : goal.returns
 returns c =
-    let fine : let a = c.args in (first (faults a.settings) ≡ 0) × Room a.w.now =
-    let k = c.sized in
-    (sym c.refusal-n.ensures ∙ c.if-n-ne0.false, decided k.result (ap not c.if-not-sized.false) k.ensures) in
-    let theirs : ours c.args.w.now ≡ true =
     let a = c.args in
-    sym (census-ours a.w.now c.census-held.result c.census-held.ensures) ∙ not-false c.census-held.result.ours c.if-not-held.false in
-    let a = c.args in
-    let f = fine in
-    c.refusal.ensures ∙ sym (clear-late a.settings a.w.now a.reading a.caller f.0 f.1 (theirs) c.if-reading-w.false)
+    let f = (fine (goal.at.returns c).Else-not-sized) in
+    c.refusal.ensures ∙ sym (clear-late a.settings a.w.now a.reading a.caller f.0 f.1 (theirs (goal.at.returns c).Else-not-held) c.if-reading-w.false)

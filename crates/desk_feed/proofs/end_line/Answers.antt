@@ -4,7 +4,6 @@ use mathlib.Core.Path.{ap, ◌∙◌}
 use Prim.Native.Nat.{ℕ}
 use lib.ListN.{take}
 use Rattle.desk_feed.specs.Laws.{take-least, least-long}
-use borrow.Author.Rules.{rules}
 use Rattle.desk_feed.proofs.end_line.Goals as goal
 
 pub slice_bounds-take_line-end : goal.slice_bounds-take_line-end

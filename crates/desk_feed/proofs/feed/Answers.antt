@@ -1,12 +1,9 @@
 -- The invariant: the bytes taken so far went in one after the other, and what is left to take is what is left of the block.
 -- Assumes nothing.
-use mathlib.Core.Path.{◌≡◌, refl, ◌∙◌}
-use Prim.Native.Nat.{◌-◌}
-use lib.ListN.{length}
+use mathlib.Core.Path.{refl, ◌∙◌}
 use Rattle.desk_feed.specs.Feed.{whole}
-use Rattle.desk_feed.specs.Laws.{Stands, stands-first, stands-next, stands-full, stands-end}
+use Rattle.desk_feed.specs.Laws.{stands-first, stands-next, stands-full, stands-end}
 use native.Mathlib.Omega.{arith}
-use borrow.Author.Rules.{rules}
 use Rattle.desk_feed.proofs.feed.Goals as goal
 
 pub loop-taken-init : goal.loop-taken-init

@@ -1,10 +1,8 @@
-use mathlib.Core.Path.{◌≡◌, refl, ◌∙◌}
+use mathlib.Core.Path.{◌≡◌}
 use Prim.Native.Nat.{◌-◌}
 use lib.ListN.{length}
 use Rattle.desk_feed.specs.Feed.{whole}
-use Rattle.desk_feed.specs.Laws.{Stands, stands-first, stands-next, stands-full, stands-end}
-use native.Mathlib.Omega.{arith}
-use borrow.Author.Rules.{rules}
+use Rattle.desk_feed.specs.Laws.{Stands}
 use Rattle.desk_feed.proofs.feed.Given as goal
 
 abbrev pub invariant-loop-taken : goal.invariant-loop-taken

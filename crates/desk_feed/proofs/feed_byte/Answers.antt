@@ -3,7 +3,6 @@
 use borrow.Author.Tests.{eq-eqb, ne_eqb}
 use Rattle.desk_feed.specs.Feed.{whole, ending, byte}
 use Rattle.desk_feed.specs.Laws.{line-gone, byte-gone}
-use borrow.Author.Rules.{rules}
 use Rattle.desk_feed.proofs.feed_byte.Goals as goal
 
 pub returns-then-b-eq-NEWLINE : goal.returns-then-b-eq-NEWLINE

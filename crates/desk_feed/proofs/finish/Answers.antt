@@ -4,7 +4,6 @@ use mathlib.Core.Path.{refl}
 use borrow.Author.Tests.{lt-ltb, le-ltb}
 use Rattle.printing.specs.Printing.{put-none}
 use Rattle.desk_feed.specs.Feed.{finishing}
-use borrow.Author.Rules.{rules}
 use Rattle.desk_feed.proofs.finish.Goals as goal
 
 pub returns-then-out-lt-LONGEST_LINE : goal.returns-then-out-lt-LONGEST_LINE

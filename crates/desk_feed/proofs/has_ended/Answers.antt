@@ -1,7 +1,6 @@
 -- Each arm is its case of the definition.
 -- Assumes nothing.
 use Rattle.desk_feed.specs.Feed.{has_ended}
-use borrow.Author.Rules.{rules}
 use Rattle.desk_feed.proofs.has_ended.Goals as goal
 
 pub returns-in-Waiting : goal.returns-in-Waiting

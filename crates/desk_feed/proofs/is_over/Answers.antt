@@ -1,7 +1,6 @@
 -- Each arm is its case of the definition.
 -- Assumes nothing.
 use Rattle.desk_feed.specs.Feed.{is_over}
-use borrow.Author.Rules.{rules}
 use Rattle.desk_feed.proofs.is_over.Goals as goal
 
 pub returns-in-Waiting : goal.returns-in-Waiting

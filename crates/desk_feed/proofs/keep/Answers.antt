@@ -1,7 +1,6 @@
 -- A byte past the room that is lent is passed over.
 -- Assumes nothing.
 use Rattle.desk_feed.specs.Laws.{keep-full, keep-more}
-use borrow.Author.Rules.{rules}
 use Rattle.desk_feed.proofs.keep.Goals as goal
 
 pub returns-then-hold-held : goal.returns-then-hold-held

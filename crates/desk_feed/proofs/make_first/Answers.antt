@@ -1,6 +1,5 @@
 -- Each arm is its case of the definition.
 -- Assumes nothing.
-use borrow.Author.Rules.{rules}
 use Rattle.desk_feed.proofs.make_first.Goals as goal
 
 pub returns-in-Desk : goal.returns-in-Desk

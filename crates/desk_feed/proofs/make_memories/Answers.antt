@@ -1,8 +1,6 @@
 -- Each memory is made or left by itself.
 -- Assumes nothing.
-use borrow.Author.Tests.{not-true, not-false}
 use Rattle.desk_feed.specs.Laws.{both-made}
-use borrow.Author.Rules.{rules}
 use Rattle.desk_feed.proofs.make_memories.Goals as goal
 
 pub returns-then-not-one : goal.returns-then-not-one

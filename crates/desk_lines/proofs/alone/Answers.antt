@@ -1,6 +1,5 @@
 -- The slots are the room's.
 -- Assumes nothing.
-use Rattle.std.proofs.Common.{rules}
 use Rattle.desk_lines.proofs.alone.Goals as goal
 
 pub returns : goal.returns

@@ -1,7 +1,6 @@
 -- The line of what is told.
 -- Assumes nothing.
 use Rattle.desk_lines.specs.Lines.{decision_line}
-use Rattle.std.proofs.Common.{rules}
 use Rattle.desk_lines.proofs.decision_line.Goals as goal
 
 pub returns : goal.returns

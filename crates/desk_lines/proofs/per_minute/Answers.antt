@@ -1,7 +1,6 @@
 -- Both numbers are the doubles that the definition names.
 -- Assumes nothing.
 use Rattle.desk_lines.specs.Lines.{per_minute}
-use Rattle.std.proofs.Common.{rules}
 use Rattle.desk_lines.proofs.per_minute.Goals as goal
 
 pub returns : goal.returns

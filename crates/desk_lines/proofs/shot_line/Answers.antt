@@ -1,7 +1,6 @@
 -- Each arm is its case of the definition.
 -- Assumes nothing.
 use Rattle.desk_lines.specs.Lines.{shot_line}
-use Rattle.std.proofs.Common.{rules}
 use Rattle.desk_lines.proofs.shot_line.Goals as goal
 
 pub returns-in-Held : goal.returns-in-Held

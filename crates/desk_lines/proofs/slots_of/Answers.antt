@@ -1,6 +1,6 @@
 -- Where there is not a word, there are no slots.
 -- Assumes nothing.
-use Rattle.std.proofs.Common.{sym, rules}
+use Rattle.std.proofs.Common.{sym}
 use lib.ListN.{get_or-eq_default}
 use Rattle.desk_lines.proofs.slots_of.Goals as goal
 

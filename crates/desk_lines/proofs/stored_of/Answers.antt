@@ -1,7 +1,6 @@
 -- The words are a room, the key's slot is the lowest with it, and its totals stand at the start of its body.
 -- Assumes nothing.
-use Rattle.std.proofs.Common.{sym, ap, ◌∙◌, arith, rules}
-use borrow.Author.Tests.{not-true, not-false}
+use Rattle.std.proofs.Common.{sym, ap, ◌∙◌, arith}
 use Rattle.base.specs.Decides.{decided}
 use Rattle.opened.specs.Sound.{has_series}
 use Rattle.room.specs.Room.{find}

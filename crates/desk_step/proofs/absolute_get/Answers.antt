@@ -1,6 +1,6 @@
 -- The line is that of the answer.
 -- Assumes nothing.
-use Rattle.std.proofs.Common.{ap, ◌∙◌, rules}
+use Rattle.std.proofs.Common.{ap, ◌∙◌}
 use Rattle.desk_step.specs.Desk.{absolute_get}
 use Rattle.desk_lines.specs.Lines.{total_line}
 use Rattle.desk_step.proofs.absolute_get.Goals as goal

@@ -5,7 +5,6 @@ use Rattle.desk_step.specs.Desk.{absolute_inc}
 use Rattle.desk_lines.specs.Lines.{alone, decision_line, per_minute}
 use Rattle.parties.specs.Parties.{sent}
 use Rattle.desk_step.specs.Laws.{line-told}
-use Rattle.std.proofs.Common.{rules}
 use Rattle.desk_step.proofs.absolute_inc.Goals as goal
 
 pub returns : goal.returns

@@ -1,6 +1,6 @@
 -- Each arm is its case of the definition.
 -- Assumes nothing.
-use Rattle.std.proofs.Common.{sym, ap, ◌∙◌, rules}
+use Rattle.std.proofs.Common.{sym, ap, ◌∙◌}
 use Rattle.desk_step.specs.Desk.{opening_in, open_with, opening_of}
 use Rattle.desk_step.proofs.begin.Goals as goal
 

@@ -1,6 +1,6 @@
 -- Each operation is its case of the definition: the other room is left.
 -- Assumes nothing.
-use Rattle.std.proofs.Common.{refl, rules}
+use Rattle.std.proofs.Common.{refl}
 use Rattle.desk_step.specs.Desk.{call_of}
 use Rattle.desk_step.proofs.call.Goals as goal
 

@@ -1,6 +1,6 @@
 -- The settings open the desk exactly where none of refusals 1 to 4 applies.
 -- Assumes nothing.
-use Rattle.std.proofs.Common.{rules, eq-eqb, ne_eqb}
+use Rattle.std.proofs.Common.{eq-eqb, ne_eqb}
 use Rattle.desk_step.specs.Desk.{open_with}
 use Rattle.desk_step.proofs.open_with.Goals as goal
 

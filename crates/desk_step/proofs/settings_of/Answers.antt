@@ -1,6 +1,5 @@
 -- The factor is the double nearest to the number read.
 -- Assumes nothing.
-use Rattle.std.proofs.Common.{rules}
 use Rattle.desk_step.proofs.settings_of.Goals as goal
 
 pub returns : goal.returns

@@ -1,6 +1,6 @@
 -- A bad line leaves both rooms; in any other the key stands inside the line.
 -- Assumes nothing.
-use Rattle.std.proofs.Common.{sym, refl, ◌∙◌, arith, rules}
+use Rattle.std.proofs.Common.{sym, refl, ◌∙◌, arith}
 use Rattle.desk_step.specs.Desk.{stepped}
 use Rattle.desk_step.specs.Laws.{read-inside}
 use Rattle.desk_step.proofs.step.Goals as goal

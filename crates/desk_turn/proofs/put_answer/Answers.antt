@@ -2,7 +2,6 @@
 -- Assumes nothing.
 use Rattle.desk_turn.specs.Puts.{answer-put}
 use native.Mathlib.Omega.{arith}
-use borrow.Author.Rules.{rules}
 use Rattle.desk_turn.proofs.put_answer.Goals as goal
 
 pub overflow_add-result : goal.overflow_add-result

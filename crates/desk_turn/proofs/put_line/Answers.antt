@@ -1,7 +1,6 @@
 -- The newline comes right behind the line.
 -- Assumes nothing.
 use Rattle.desk_turn.specs.Puts.{line-put}
-use borrow.Author.Rules.{rules}
 use Rattle.desk_turn.proofs.put_line.Goals as goal
 
 pub returns : goal.returns

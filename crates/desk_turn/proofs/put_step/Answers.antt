@@ -2,7 +2,6 @@
 -- Assumes nothing.
 use mathlib.Core.Path.{refl}
 use Rattle.desk_turn.specs.Lines.{turn}
-use borrow.Author.Rules.{rules}
 use Rattle.desk_turn.proofs.put_step.Goals as goal
 
 pub returns : goal.returns

@@ -1,7 +1,6 @@
 -- Each arm is its case of the definition.
 -- Assumes nothing.
 use Rattle.desk_turn.specs.Lines.{stepped_by}
-use borrow.Author.Rules.{rules}
 use Rattle.desk_turn.proofs.step.Goals as goal
 
 pub returns-in-Desk : goal.returns-in-Desk

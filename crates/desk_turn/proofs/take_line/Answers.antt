@@ -3,7 +3,6 @@
 use mathlib.Core.Path.{refl}
 use Rattle.printing.specs.Printing.{put-none}
 use Rattle.desk_turn.specs.Lines.{turn}
-use borrow.Author.Rules.{rules}
 use Rattle.desk_turn.proofs.take_line.Goals as goal
 
 pub returns-in-Waiting : goal.returns-in-Waiting

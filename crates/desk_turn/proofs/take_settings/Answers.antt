@@ -2,7 +2,6 @@
 -- Assumes nothing.
 use mathlib.Core.Path.{refl, sym, ◌∙◌}
 use Rattle.printing.specs.Printing.{put-none}
-use borrow.Author.Rules.{rules}
 use Rattle.desk_turn.proofs.take_settings.Goals as goal
 
 pub returns-in-Open : goal.returns-in-Open

@@ -1,6 +1,5 @@
 -- Each arm is its case of the definition.
-use Rattle.edit.specs.Bodies.{Acts, acted}
-use borrow.Author.Rules.{rules}
+use Rattle.edit.specs.Bodies.{acted}
 use Rattle.edit.proofs.act.Goals as goal
 
 pub increment-requires : goal.increment-requires

@@ -5,7 +5,6 @@ use Prim.Native.Nat.{ℕ}
 use Rattle.edit.specs.Bodies.{Acts, acted, fixed, edited}
 use Rattle.edit.specs.BodyLaws.{edit-starts, edit-acts}
 use native.Mathlib.Omega.{arith}
-use borrow.Author.Rules.{rules}
 use Rattle.edit.proofs.edit_body.Goals as goal
 
 pub start-requires : goal.start-requires

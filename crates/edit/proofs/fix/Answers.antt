@@ -3,7 +3,6 @@ use mathlib.Core.Path.{refl}
 use lib.ListN.{length-set}
 use Rattle.edit.specs.Bodies.{fixed}
 use native.Mathlib.Omega.{arith}
-use borrow.Author.Rules.{rules}
 use Rattle.edit.proofs.fix.Goals as goal
 
 pub bounds-b-5 : goal.bounds-b-5

@@ -1,7 +1,6 @@
 -- By whether the series begins.
 use Rattle.edit.specs.Bodies.{started}
 use native.Mathlib.Omega.{arith}
-use borrow.Author.Rules.{rules}
 use Rattle.edit.proofs.start.Goals as goal
 
 pub begin-requires : goal.begin-requires

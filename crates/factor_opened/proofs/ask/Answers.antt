@@ -1,8 +1,6 @@
 -- The limits are the soft and the hard one.
 -- Assumes nothing.
 use Rattle.factor_opened.specs.Opened.{worked_at, asked_at}
-use native.Mathlib.Omega.{arith}
-use borrow.Author.Rules.{rules}
 use Rattle.factor_opened.proofs.ask.Goals as goal
 
 pub returns : goal.returns

@@ -1,8 +1,6 @@
 -- By the test.
 -- Assumes nothing.
 use mathlib.Core.Path.{sym, ◌∙◌}
-use native.Mathlib.Omega.{arith}
-use borrow.Author.Rules.{rules}
 use Rattle.factor_opened.proofs.ask_by.Goals as goal
 
 pub returns-then-is_usable : goal.returns-then-is_usable

@@ -1,7 +1,6 @@
 -- By the rule; a constant is its bits.
 -- Assumes nothing.
 use lib.Ieee.{of_bits}
-use borrow.Author.Rules.{rules}
 use Rattle.factor_opened.proofs.fresh_by.Goals as goal
 
 pub returns-in-Nil : goal.returns-in-Nil

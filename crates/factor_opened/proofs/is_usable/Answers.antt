@@ -1,7 +1,5 @@
 -- The tests of the definition, in its order.
-use borrow.Author.Tests.{not-true, not-false}
 use Rattle.factor_opened.specs.Opened.{usable_at}
-use borrow.Author.Rules.{rules}
 use Rattle.factor_opened.proofs.is_usable.Goals as goal
 
 pub returns-then-not-stays : goal.returns-then-not-stays

@@ -1,5 +1,4 @@
 -- The words are opened.
-use borrow.Author.Rules.{rules}
 use Rattle.factor_opened.proofs.kept.Goals as goal
 
 pub returns : goal.returns

@@ -2,7 +2,6 @@
 use mathlib.Core.Path.{sym, ◌∙◌}
 use borrow.Author.Tests.{le-leb, lt-leb, lt-ltb, le-ltb, eq-eqb, ne_eqb}
 use Rattle.factor_opened.specs.Opened.{rule_at}
-use borrow.Author.Rules.{rules}
 use Rattle.factor_opened.proofs.rule_of.Goals as goal
 
 pub returns-then-not-series : goal.returns-then-not-series

@@ -5,14 +5,12 @@ use mathlib.Core.Bool.{Bool, cond}
 use mathlib.Core.List.{List}
 use Prim.Native.Nat.{ℕ, ◌≤◌}
 use lib.ListN.{drop}
-use borrow.Author.Tests.{not-true, not-false}
 use Rattle.ring.specs.Ring.{counts, len_of, buckets}
 use Rattle.ring.specs.Sound.{Sound}
 use Rattle.room.specs.Room.{ring_of, last_of, body_of}
 use Rattle.room.specs.Laws.{part_body}
 use Rattle.settings.specs.Clock.{ticks_in}
 use Rattle.rules.specs.Buckets.{last_second, recent}
-use borrow.Author.Rules.{rules}
 use Rattle.factor_opened.proofs.second_of.Goals as goal
 
 pub returns-then-not-series : goal.returns-then-not-series

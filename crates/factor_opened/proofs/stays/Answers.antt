@@ -1,5 +1,4 @@
 -- The tests of the definition, in its order.
-use borrow.Author.Tests.{not-true, not-false}
 use Rattle.factor_opened.specs.Opened.{stays_at}
 use Rattle.factor_opened.proofs.stays.Goals as goal
 

@@ -1,6 +1,5 @@
 -- Each part is what its function says.
 -- Assumes nothing.
-use borrow.Author.Rules.{rules}
 use Rattle.factor_opened.proofs.work_out.Goals as goal
 
 pub returns : goal.returns

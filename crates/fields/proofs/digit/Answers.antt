@@ -1,9 +1,7 @@
 -- `lines::digit` meets its contract: each arm knows the class, and the class is `class_of b`.
 -- Assumes nothing.
 use mathlib.Core.Path.{sym, ap, ◌∙◌}
-use Prim.Native.Nat.{◌+◌}
-use Rattle.fields.specs.Bytes.{digit_in, digit_of, digit-small}
-use borrow.Author.Rules.{rules}
+use Rattle.fields.specs.Bytes.{digit_in}
 use Rattle.fields.proofs.digit.Goals as goal
 
 pub returns-in-Digit : goal.returns-in-Digit

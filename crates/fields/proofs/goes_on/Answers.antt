@@ -2,7 +2,6 @@
 -- Assumes nothing.
 use mathlib.Core.Path.{sym, ap, ◌∙◌}
 use Rattle.fields.specs.Bytes.{counted}
-use borrow.Author.Rules.{rules}
 use Rattle.fields.proofs.goes_on.Goals as goal
 
 pub returns-in-Digit : goal.returns-in-Digit

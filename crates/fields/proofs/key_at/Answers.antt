@@ -3,7 +3,6 @@
 use native.Mathlib.Omega.{arith}
 use mathlib.Core.Path.{sym}
 use Rattle.fields.specs.Turns.{key-none, key-long, key-found}
-use borrow.Author.Rules.{rules}
 use Rattle.fields.proofs.key_at.Goals as goal
 
 pub overflow_sub-end : goal.overflow_sub-end

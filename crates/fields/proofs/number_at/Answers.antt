@@ -2,9 +2,7 @@
 -- Assumes nothing.
 use native.Mathlib.Omega.{arith}
 use mathlib.Core.Path.{sym, ◌∙◌}
-use mathlib.Core.Logic.{⊎_elim}
 use Rattle.fields.specs.Turns.{number-inside, number-none, number-zeros, number_is}
-use borrow.Author.Rules.{rules}
 use Rattle.fields.proofs.number_at.Goals as goal
 use Rattle.fields.proofs.number_at.Goals.{then-line-at-eq48+else-end-at-gt1, else-line-at-eq48}
 

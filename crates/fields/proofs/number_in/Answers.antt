@@ -2,13 +2,8 @@
 -- a number that passes the largest u64 before the end passes it at the end too.
 -- Assumes nothing.
 use native.Mathlib.Omega.{arith}
-use Prim.Native.Nat.{◌+◌, ◌-◌, ◌*◌, ◌≤◌, ◌<◌}
-use mathlib.Core.Path.{◌≡◌, refl, sym, ap, ◌∙◌}
-use lib.ListN.{length, get_or, drop}
-use Rattle.fields.specs.Numbers.{value, value_from}
-use Rattle.fields.specs.Ranges.{largest}
+use mathlib.Core.Path.{refl, sym, ◌∙◌}
 use Rattle.fields.specs.Turns.{value-past, digit-read, number-turn, number-over, number_fits}
-use borrow.Author.Rules.{rules}
 use Rattle.fields.proofs.number_in.Goals as goal
 
 pub loop-i-init : goal.loop-i-init

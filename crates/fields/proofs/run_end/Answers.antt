@@ -1,13 +1,7 @@
 -- `lines::run_end` meets its contract. The invariant: the run from the start ends where the run from `i` ends.
 -- Assumes nothing.
-use Prim.Native.Nat.{◌+◌, ◌-◌, ◌≤◌}
-use mathlib.Core.Path.{◌≡◌, refl, sym, ◌∙◌}
-use lib.ListN.{length, drop}
-use borrow.Author.Tests.{not-true, not-false}
-use Rattle.fields.specs.Bytes.{counts}
-use Rattle.fields.specs.Parts.{run}
+use mathlib.Core.Path.{refl, sym, ◌∙◌}
 use Rattle.fields.specs.Turns.{run_on, run-stop, run_past}
-use borrow.Author.Rules.{rules}
 use Rattle.fields.proofs.run_end.Goals as goal
 
 pub loop-i-init : goal.loop-i-init

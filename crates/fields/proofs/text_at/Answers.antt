@@ -2,13 +2,11 @@
 -- text stands at `j`.
 -- Assumes nothing.
 use native.Mathlib.Omega.{arith}
-use Prim.Native.Nat.{◌+◌, ◌-◌, ◌≤◌}
+use Prim.Native.Nat.{◌+◌}
 use mathlib.Core.Path.{◌≡◌, refl, sym, ap, ◌∙◌}
-use lib.ListN.{length, drop}
-use Rattle.fields.specs.Parts.{begins}
+use lib.ListN.{length}
 use Rattle.fields.specs.Turns.{begins-on, begins-other, begins-short, begins-whole, text-found, text-missing}
 use Rattle.fields.specs.declared.Place.TheVariants.{At}
-use borrow.Author.Rules.{rules}
 use Rattle.fields.proofs.text_at.Goals as goal
 
 pub loop-i-init : goal.loop-i-init

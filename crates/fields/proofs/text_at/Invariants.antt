@@ -1,11 +1,7 @@
-use native.Mathlib.Omega.{arith}
 use Prim.Native.Nat.{◌+◌, ◌-◌, ◌≤◌}
-use mathlib.Core.Path.{◌≡◌, refl, sym, ap, ◌∙◌}
+use mathlib.Core.Path.{◌≡◌}
 use lib.ListN.{length, drop}
 use Rattle.fields.specs.Parts.{begins}
-use Rattle.fields.specs.Turns.{begins-on, begins-other, begins-short, begins-whole, text-found, text-missing}
-use Rattle.fields.specs.declared.Place.TheVariants.{At}
-use borrow.Author.Rules.{rules}
 use Rattle.fields.proofs.text_at.Given as goal
 
 abbrev pub invariant-loop-i : goal.invariant-loop-i

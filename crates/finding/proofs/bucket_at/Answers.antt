@@ -7,7 +7,6 @@ use lib.ListN.{get_or}
 use Rattle.ring.specs.Ring.{Shape, no_bucket, buckets}
 use Rattle.room.specs.Room.{ring_of}
 use Rattle.room.specs.Laws.{part_body}
-use borrow.Author.Rules.{rules}
 use Rattle.finding.proofs.bucket_at.Goals as goal
 
 pub nth_or_none-requires : goal.nth_or_none-requires

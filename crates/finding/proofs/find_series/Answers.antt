@@ -2,7 +2,6 @@
 -- Assumes nothing.
 use Rattle.finding.specs.Finding.{asked}
 use Rattle.finding.proofs.FindingLaws.{found-is}
-use borrow.Author.Rules.{rules}
 use Rattle.finding.proofs.find_series.Goals as goal
 
 pub returns : goal.returns

@@ -3,7 +3,6 @@
 use mathlib.Core.Path.{sym}
 use lib.ListN.{get_or-eq_default}
 use native.Mathlib.Omega.{arith}
-use borrow.Author.Rules.{rules}
 use Rattle.finding.proofs.last_reading.Goals as goal
 
 pub returns-then-room-le-LAST : goal.returns-then-room-le-LAST

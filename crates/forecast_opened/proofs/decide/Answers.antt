@@ -6,7 +6,6 @@ use Rattle.settings.specs.Settings.{cache_in}
 use Rattle.settings.specs.declared.Settings.{Settings}
 use Rattle.factor_opened.specs.Opened.{InRoom, worked_at, asked_at}
 use Rattle.forecast_opened.specs.Forecast.{outcome_at}
-use borrow.Author.Rules.{rules}
 use Rattle.forecast_opened.proofs.decide.Goals as goal
 
 pub ask_by-requires : goal.ask_by-requires

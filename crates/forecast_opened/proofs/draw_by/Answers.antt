@@ -1,6 +1,5 @@
 -- Each part is what its function says.
 use Rattle.rules.specs.Suppressed.{drawn}
-use borrow.Author.Rules.{rules}
 use Rattle.forecast_opened.proofs.draw_by.Goals as goal
 
 pub returns : goal.returns

@@ -1,8 +1,6 @@
 -- The room is the limiter's; the table has the number if it is admitted.
 -- Assumes nothing.
 use mathlib.Core.Path.{sym, ◌∙◌}
-use borrow.Author.Rules.{rules}
-use borrow.Author.Tests.{not-true, not-false}
 use Rattle.parties.specs.Parties.{sent}
 use Rattle.gateway.proofs.Laws.{asked-turned, asked-admitted}
 use Rattle.gateway.proofs.ask.Goals as goal

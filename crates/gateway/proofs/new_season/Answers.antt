@@ -1,6 +1,5 @@
 -- Words that are no table are left; a table's are zeros then.
 -- Assumes nothing.
-use borrow.Author.Rules.{rules}
 use Rattle.base.specs.Decides.{decided, undecided}
 use Rattle.gateway.proofs.Laws.{season-refused, season-done}
 use Rattle.std.proofs.Common.{ap}

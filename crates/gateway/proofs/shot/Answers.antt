@@ -1,10 +1,19 @@
 -- Held, stopped, or the limiter's.
 -- Assumes nothing.
 use mathlib.Core.Path.{sym, ◌∙◌}
-use borrow.Author.Rules.{rules}
 use Rattle.parties.specs.Parties.{sent}
 use Rattle.gateway.proofs.Laws.{Past, told-as, stopped, not_stopped, stands, shot-again, shot-passed}
 use Rattle.gateway.proofs.shot.Goals as goal
+use Rattle.gateway.proofs.shot.Goals.{Else-code-ne0}
+
+past : (c : goal.Else-code-ne0) → let a = c.args in
+    let key = sent a.caller a.controller.now in
+    Past a.settings a.table.now a.room.now a.reading key a.number a.rate a.draw c.look-seen.result c.look-seen.ensures
+past c =
+    let a = c.args in
+    let key = sent a.caller a.controller.now in
+    not_stopped a.settings a.table.now a.room.now a.reading key a.number a.rate a.draw c.look-seen.result
+    c.look-seen.ensures (sym c.if-code-ne0.false ∙ c.stops-code.ensures)
 
 pub returns-then-is_again : goal.returns-then-is_again
 returns-then-is_again c =
@@ -24,30 +33,16 @@ returns-then-code-ne0 c =
 
 pub ask-requires : goal.ask-requires
 ask-requires c =
-    let past : let a = c.args in
-    let key = sent a.caller a.controller.now in
-    Past a.settings a.table.now a.room.now a.reading key a.number a.rate a.draw c.look-seen.result c.look-seen.ensures =
-    let a = c.args in
-    let key = sent a.caller a.controller.now in
-    not_stopped a.settings a.table.now a.room.now a.reading key a.number a.rate a.draw c.look-seen.result
-    c.look-seen.ensures (sym c.if-code-ne0.false ∙ c.stops-code.ensures) in
     let a = c.args in
     let key = sent a.caller a.controller.now in
     stands a.settings a.table.now a.room.now a.reading key a.number a.rate a.draw c.look-seen.result
-    c.look-seen.ensures (past)
+    c.look-seen.ensures (past (goal.at.ask-requires c).Else-code-ne0)
 
 pub returns : goal.returns
 returns c =
-    let past : let a = c.args in
-    let key = sent a.caller a.controller.now in
-    Past a.settings a.table.now a.room.now a.reading key a.number a.rate a.draw c.look-seen.result c.look-seen.ensures =
-    let a = c.args in
-    let key = sent a.caller a.controller.now in
-    not_stopped a.settings a.table.now a.room.now a.reading key a.number a.rate a.draw c.look-seen.result
-    c.look-seen.ensures (sym c.if-code-ne0.false ∙ c.stops-code.ensures) in
     let a = c.args in
     let key = sent a.caller a.controller.now in
     told-as
     (shot-passed a.settings a.table.now a.room.now a.reading key a.number a.rate a.draw c.look-seen.result
-    c.look-seen.ensures (past) (sym c.is_again.ensures ∙ c.if-is_again.false))
+    c.look-seen.ensures (past (goal.at.returns c).Else-code-ne0) (sym c.is_again.ensures ∙ c.if-is_again.false))
     c.ask.ensures

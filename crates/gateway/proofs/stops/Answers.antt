@@ -1,6 +1,5 @@
 -- Each is met where those before it are not.
 -- Assumes nothing.
-use borrow.Author.Rules.{rules}
 use borrow.Author.Tests.{eq-eqb, ne_eqb, lt-ltb, le-ltb}
 use Rattle.gateway.specs.Steps.{stops}
 use Rattle.std.proofs.Common.{ap}

@@ -1,6 +1,5 @@
 -- The settings' number, where there is one.
 -- Assumes nothing.
-use borrow.Author.Rules.{rules}
 use borrow.Author.Tests.{eq-eqb, ne_eqb}
 use Rattle.gateway.specs.Steps.{unsoundness}
 use Rattle.gateway.proofs.unsoundness.Goals as goal

@@ -5,7 +5,6 @@ use Rattle.history.specs.Words.{raised_words, incremented}
 use Prim.Native.Nat.{ℕ, ◌-◌}
 use mathlib.Core.Path.{sym, ap, ◌∙◌}
 use native.Mathlib.Omega.{arith}
-use borrow.Author.Rules.{rules}
 use Rattle.history.proofs.increment.Goals as goal
 
 pub overflow_sub-n : goal.overflow_sub-n

@@ -3,9 +3,7 @@
 use Rattle.history.specs.Steps.{joined_is}
 use Rattle.history.specs.Changes.{joins-none}
 use Rattle.ring.specs.View.{view-length}
-use Prim.Native.Nat.{◌-◌}
 use native.Mathlib.Omega.{arith}
-use borrow.Author.Rules.{rules}
 use Rattle.history.proofs.is_joined.Goals as goal
 
 pub returns-then-n-eq0 : goal.returns-then-n-eq0

@@ -3,10 +3,9 @@
 use Rattle.history.specs.Changes.{raise-within}
 use Rattle.ring.specs.Ring.{count_of, denied_of, Rewrites, rewritten}
 use Rattle.ring.specs.declared.Bucket.{Bucket}
-use Prim.Native.Nat.{◌+◌, ◌-◌}
+use Prim.Native.Nat.{◌+◌}
 use mathlib.Core.Path.{sym, ap, subst, ◌∙◌}
 use native.Mathlib.Omega.{arith}
-use borrow.Author.Rules.{rules}
 use Rattle.history.proofs.raise.Goals as goal
 
 pub overflow_add-c : goal.overflow_add-c

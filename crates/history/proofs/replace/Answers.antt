@@ -4,9 +4,8 @@ use Rattle.history.specs.Steps.{sets-leaves, sets-free}
 use Rattle.history.specs.Words.{replaced_words}
 use Rattle.ring.specs.Ring.{pushed, without}
 use mathlib.Core.List.{List}
-use Prim.Native.Nat.{ℕ, ◌-◌}
+use Prim.Native.Nat.{ℕ}
 use mathlib.Core.Path.{ap, ◌∙◌}
-use borrow.Author.Rules.{rules}
 use Rattle.history.proofs.replace.Goals as goal
 
 pub evict-requires : goal.evict-requires

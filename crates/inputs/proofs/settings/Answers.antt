@@ -1,5 +1,4 @@
 -- Each value is what its number says.
-use borrow.Author.Rules.{rules}
 use Rattle.inputs.proofs.settings.Goals as goal
 
 pub returns : goal.returns

@@ -1,10 +1,7 @@
 -- A key that is too long has no slot, and another's is looked for.
 -- Assumes nothing.
-use mathlib.Core.Path.{ap}
-use Prim.Native.Nat.{ℕ}
 use borrow.Author.Tests.{lt-ltb, le-ltb}
 use Rattle.opened.specs.Sound.{addressed}
-use borrow.Author.Rules.{rules}
 use Rattle.judge.proofs.address.Goals as goal
 
 pub returns-then-key-gt-LONGEST_KEY : goal.returns-then-key-gt-LONGEST_KEY

@@ -1,13 +1,9 @@
 -- Settings first, then the lengths.
 -- Assumes nothing.
-use mathlib.Core.Path.{◌∙◌, sym}
 use borrow.Author.Tests.{eq-eqb, ne_eqb}
 use Rattle.base.specs.Decides.{decided, undecided, not_so}
 use Rattle.room.specs.Laws.{sized-room, room-sized}
-use Rattle.settings.specs.Settings.{faults}
-use Rattle.common.specs.Refusals.{first}
 use Rattle.judge.specs.Judge.{fault_of}
-use borrow.Author.Rules.{rules}
 use Rattle.std.proofs.Common.{ap}
 use Rattle.std.proofs.Common.{not}
 use Rattle.judge.proofs.fault.Goals as goal

@@ -6,7 +6,6 @@ use Rattle.parties.specs.Parties.{sent}
 use Rattle.opened.specs.Slot.{first_look}
 use Rattle.judge.specs.Judge.{slot_in, slot_by}
 use Rattle.judge.proofs.Laws.{refused-is, passed_is, standing-left, fault-early, no-fault, opened-is, slot-by}
-use borrow.Author.Rules.{rules}
 use Rattle.judge.proofs.judge.Goals as goal
 
 pub returns-then-n-ne0 : goal.returns-then-n-ne0

@@ -1,6 +1,5 @@
 -- By whether a first look is taken.
 -- Assumes nothing.
-use borrow.Author.Rules.{rules}
 use Rattle.judge.proofs.look_of.Goals as goal
 
 pub returns-then-first : goal.returns-then-first

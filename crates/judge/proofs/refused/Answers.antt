@@ -1,5 +1,4 @@
 -- Its slot is none.
-use borrow.Author.Rules.{rules}
 use Rattle.judge.proofs.refused.Goals as goal
 
 pub returns : goal.returns

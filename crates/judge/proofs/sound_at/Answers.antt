@@ -6,7 +6,6 @@ use native.Mathlib.Omega.{arith}
 use Rattle.room.specs.Room.{last_of}
 use Rattle.parties.specs.Parties.{sent}
 use Rattle.opened.specs.Right.{slot_right, sound_none, sound-some}
-use borrow.Author.Rules.{rules}
 use Rattle.judge.proofs.sound_at.Goals as goal
 
 pub returns-then-slots-at : goal.returns-then-slots-at

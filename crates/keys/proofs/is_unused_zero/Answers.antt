@@ -1,7 +1,6 @@
 -- No byte used, all eight used, or some: the power that the definition compares with, each time.
 -- Assumes nothing.
 use native.Mathlib.Omega.{arith}
-use borrow.Author.Rules.{rules}
 use Rattle.keys.specs.KeyLaws.{unused-none, unused-all, unused-some}
 use Rattle.keys.proofs.is_unused_zero.Goals as goal
 

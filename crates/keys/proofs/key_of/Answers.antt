@@ -1,6 +1,5 @@
 -- Four times eight bytes.
 -- Assumes nothing.
-use borrow.Author.Rules.{rules}
 use Rattle.keys.specs.Keys.{key_of}
 use Rattle.keys.proofs.key_of.Goals as goal
 

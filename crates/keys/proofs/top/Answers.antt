@@ -1,7 +1,7 @@
 -- After k turns the product is 256 to the k.
 -- Assumes nothing.
 use mathlib.Core.Path.{◌≡◌, refl, ap, ◌∙◌}
-use Prim.Native.Nat.{◌-◌, ◌≤◌, ◌^◌}
+use Prim.Native.Nat.{◌^◌}
 use native.Mathlib.Omega.{arith}
 use Rattle.keys.specs.KeyLaws.{power-fits, power-turn}
 use Rattle.keys.proofs.top.Goals as goal

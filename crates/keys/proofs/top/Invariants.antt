@@ -1,7 +1,5 @@
-use mathlib.Core.Path.{◌≡◌, refl, ap, ◌∙◌}
+use mathlib.Core.Path.{◌≡◌}
 use Prim.Native.Nat.{◌-◌, ◌≤◌, ◌^◌}
-use native.Mathlib.Omega.{arith}
-use Rattle.keys.specs.KeyLaws.{power-fits, power-turn}
 use Rattle.keys.proofs.top.Given as goal
 
 abbrev pub invariant-loop-k : goal.invariant-loop-k

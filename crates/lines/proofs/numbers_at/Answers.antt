@@ -4,7 +4,6 @@
 use mathlib.Core.Path.{sym, ◌∙◌}
 use borrow.Author.Tests.{eq-eqb, ne_eqb}
 use Rattle.lines.specs.Reading.{numbers_at}
-use borrow.Author.Rules.{rules}
 use Rattle.lines.proofs.numbers_at.Goals as goal
 
 pub returns-in_default : goal.returns-in_default

@@ -2,7 +2,6 @@
 -- Assumes nothing.
 use mathlib.Core.Path.{sym, ◌∙◌}
 use Rattle.lines.specs.Reading.{op_at}
-use borrow.Author.Rules.{rules}
 use Rattle.lines.proofs.op_at.Goals as goal
 
 pub text_at-requires : goal.text_at-requires

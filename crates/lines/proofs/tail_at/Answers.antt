@@ -3,7 +3,6 @@
 -- Assumes nothing.
 use mathlib.Core.Path.{sym, ◌∙◌}
 use Rattle.lines.specs.Reading.{tail_at}
-use borrow.Author.Rules.{rules}
 use Rattle.lines.proofs.tail_at.Goals as goal
 
 pub returns-in_default : goal.returns-in_default

@@ -1,7 +1,5 @@
 -- The tests of the definition, in its order.
-use borrow.Author.Tests.{not-true, not-false, le-leb}
 use Rattle.opened.specs.Right.{cached_right}
-use borrow.Author.Rules.{rules}
 use Rattle.opened.proofs.cached_right.Goals as goal
 
 pub returns-then-not-cached : goal.returns-then-not-cached

@@ -1,7 +1,5 @@
 -- By the room's kind; the constant's bits are those of 1.
-use mathlib.Core.Path.{refl}
 use lib.Ieee.{of_bits}
-use borrow.Author.Rules.{rules}
 use Rattle.opened.proofs.divisor.Goals as goal
 
 pub returns-in-Absolute : goal.returns-in-Absolute

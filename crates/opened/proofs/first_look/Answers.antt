@@ -1,7 +1,6 @@
 -- All stay, or the slot is as it was.
 -- Assumes nothing.
 use mathlib.Core.Path.{sym, ◌∙◌}
-use borrow.Author.Rules.{rules}
 use Rattle.opened.specs.Look.{look-leaves, look-else}
 use Rattle.opened.proofs.first_look.Goals as goal
 

@@ -2,7 +2,6 @@
 -- Assumes nothing.
 use mathlib.Core.Path.{sym, ap, ◌∙◌}
 use Prim.Native.Nat.{ℕ}
-use borrow.Author.Rules.{rules}
 use lib.Dec.{leb}
 use Rattle.opened.specs.Look.{leaves_none, leaves_by}
 use Rattle.opened.proofs.leaves_expired.Goals as goal

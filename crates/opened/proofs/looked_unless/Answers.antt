@@ -1,6 +1,5 @@
 -- By whether there is one.
 -- Assumes nothing.
-use borrow.Author.Rules.{rules}
 use Rattle.opened.proofs.looked_unless.Goals as goal
 
 pub returns-then-without : goal.returns-then-without

@@ -1,5 +1,4 @@
 -- Its pass is one that found nothing.
-use borrow.Author.Rules.{rules}
 use Rattle.opened.proofs.no_slot.Goals as goal
 
 pub returns : goal.returns

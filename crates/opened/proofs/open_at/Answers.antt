@@ -8,7 +8,6 @@ use Rattle.opened.specs.Right.{slot-here, slot-none}
 use Rattle.room.specs.Room.{ring_of, last_of}
 use Rattle.room.specs.Laws.{part_body, part_length}
 use native.Mathlib.Omega.{arith}
-use borrow.Author.Rules.{rules}
 use Rattle.opened.proofs.open_at.Goals as goal
 
 pub returns-then-slots-at : goal.returns-then-slots-at

@@ -1,7 +1,6 @@
 -- Each field is read from its word, or by the function of its name; the pass takes the look.
 use Rattle.opened.specs.Slot.{opened}
 use Rattle.opened.specs.Look.{opened-look}
-use borrow.Author.Rules.{rules}
 use Rattle.opened.proofs.open_body.Goals as goal
 
 pub returns : goal.returns

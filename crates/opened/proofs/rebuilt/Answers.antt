@@ -1,6 +1,5 @@
 -- A slot is its parts.
 -- Assumes nothing.
-use borrow.Author.Rules.{rules}
 use Rattle.opened.proofs.rebuilt.Goals as goal
 
 pub returns : goal.returns

@@ -1,6 +1,4 @@
 -- The pass is made only where there is a series.
-use borrow.Author.Tests.{not-true, not-false}
-use borrow.Author.Rules.{rules}
 use Rattle.opened.proofs.series_pass.Goals as goal
 
 pub returns-then-not-series : goal.returns-then-not-series

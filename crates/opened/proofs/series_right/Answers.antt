@@ -1,7 +1,5 @@
 -- The tests of the definition, in its order.
-use borrow.Author.Tests.{not-true, not-false}
 use Rattle.opened.specs.Right.{series_right}
-use borrow.Author.Rules.{rules}
 use Rattle.opened.proofs.series_right.Goals as goal
 
 pub returns-then-not-series : goal.returns-then-not-series

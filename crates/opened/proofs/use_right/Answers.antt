@@ -1,6 +1,5 @@
 -- By the room's kind.
 use Rattle.opened.specs.Sound.{right_use}
-use borrow.Author.Rules.{rules}
 use Rattle.opened.proofs.use_right.Goals as goal
 
 pub returns-then-has_series : goal.returns-then-has_series

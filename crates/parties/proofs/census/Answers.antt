@@ -9,7 +9,6 @@ use lib.Bits.{bit_and}
 use lib.Count.{ones, ones-le}
 use mir.Syntax.{w64}
 use mir.Val.{Fits}
-use borrow.Author.Rules.{rules}
 use Rattle.layout.specs.Layout.{firsts_word, seconds_word}
 use Rattle.room.specs.Room.{slots_of}
 use Rattle.parties.specs.Parties.{ours}

@@ -2,8 +2,6 @@
 -- Assumes nothing.
 use mathlib.Core.Path.{sym}
 use native.Mathlib.Omega.{arith}
-use borrow.Author.Rules.{rules}
-use borrow.Author.Tests.{not-true, not-false}
 use Rattle.common.specs.Refusals.{first}
 use Rattle.parties.specs.Parties.{turns}
 use Rattle.parties.proofs.Laws.{overdrawn-is}

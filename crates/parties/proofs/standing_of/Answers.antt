@@ -1,12 +1,10 @@
 -- 5 by the census, then what the other two say.
 -- Assumes nothing.
 use mathlib.Core.Path.{◌≡◌, sym, ◌∙◌}
-use mathlib.Core.Bool.{true, false}
-use borrow.Author.Rules.{rules}
+use mathlib.Core.Bool.{false}
 use borrow.Author.Tests.{not-true, not-false}
 use Rattle.common.specs.Refusals.{first}
 use Rattle.parties.specs.Parties.{ours, standing_of}
-use Rattle.parties.specs.Census.{Counts}
 use Rattle.parties.proofs.Laws.{census-ours, census-counts}
 use Rattle.parties.proofs.standing_of.Goals as goal
 

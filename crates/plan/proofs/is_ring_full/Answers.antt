@@ -2,7 +2,6 @@
 use mathlib.Core.Path.{◌≡◌, ◌∙◌, sym}
 use mathlib.Core.Bool.{true, false}
 use Rattle.plan.specs.Plan.{joins_after, full_after}
-use borrow.Author.Rules.{rules}
 use Rattle.plan.proofs.is_ring_full.Goals as goal
 
 pub returns-then-joins_after : goal.returns-then-joins_after

@@ -1,7 +1,6 @@
 -- By whether a bucket is left.
 use borrow.Author.Tests.{lt-ltb, le-ltb}
 use Rattle.plan.specs.Plan.{joins_after}
-use borrow.Author.Rules.{rules}
 use Rattle.plan.proofs.joins_after.Goals as goal
 
 pub returns-then-buckets-gone : goal.returns-then-buckets-gone

@@ -1,8 +1,6 @@
 -- A key with a slot needs none.
 -- Assumes nothing.
 use mathlib.Core.Path.{sym, ◌∙◌}
-use borrow.Author.Rules.{rules}
-use borrow.Author.Tests.{not-true}
 use Rattle.plan.specs.Plan.{lacks_at}
 use Rattle.plan.proofs.lacks_slot.Goals as goal
 

@@ -1,6 +1,5 @@
 -- A count over 2^53 passes it alone; else the difference is there.
 use Rattle.plan.specs.Fits.{passes-is, passes_count}
-use borrow.Author.Rules.{rules}
 use Rattle.plan.proofs.passes.Goals as goal
 
 pub returns-then-count-gt-MOST_TOTAL : goal.returns-then-count-gt-MOST_TOTAL

@@ -1,6 +1,5 @@
 -- By whether the key has a slot.
 use Rattle.plan.specs.Plan.{place_of}
-use borrow.Author.Rules.{rules}
 use Rattle.plan.proofs.place.Goals as goal
 
 pub returns-then-has_slot : goal.returns-then-has_slot

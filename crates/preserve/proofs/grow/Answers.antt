@@ -6,9 +6,8 @@ use Rattle.preserve.specs.Preserving.{grown_words}
 use Rattle.ring.specs.Ring.{len_of}
 use Rattle.rules.specs.Buckets.{kept_end}
 use borrow.Author.Tests.{eq-eqb, ne_eqb}
-use Prim.Native.Nat.{ℕ, ◌-◌}
+use Prim.Native.Nat.{ℕ}
 use mathlib.Core.Path.{◌≡◌, sym, ap, ◌∙◌}
-use borrow.Author.Rules.{rules}
 use Rattle.preserve.proofs.grow.Goals as goal
 
 pub push-requires : goal.push-requires

@@ -1,6 +1,5 @@
 -- `history::kept_end` meets its contract, case by case.
 -- Assumes nothing.
-use borrow.Author.Rules.{rules}
 use Rattle.preserve.proofs.kept_end.Goals as goal
 
 pub returns-in-PreserveNewest : goal.returns-in-PreserveNewest

@@ -1,7 +1,6 @@
 -- `history::lost` meets its contract, case by case.
 -- Assumes nothing.
 use native.Mathlib.Omega.{arith}
-use borrow.Author.Rules.{rules}
 use Rattle.preserve.proofs.lost.Goals as goal
 
 pub returns-in-PreserveOldest : goal.returns-in-PreserveOldest

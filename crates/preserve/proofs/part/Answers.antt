@@ -2,9 +2,8 @@
 -- Assumes nothing.
 use Rattle.preserve.proofs.Turns.{part-some, part-stores, part-words}
 use Rattle.preserve.specs.Preserving.{lost_at}
-use Prim.Native.Nat.{ℕ, ◌-◌}
+use Prim.Native.Nat.{ℕ}
 use mathlib.Core.Path.{refl, ap, ◌∙◌}
-use borrow.Author.Rules.{rules}
 use Rattle.preserve.proofs.part.Goals as goal
 
 pub overflow_sub-retained : goal.overflow_sub-retained

@@ -2,7 +2,6 @@
 -- Assumes nothing.
 use Rattle.preserve.specs.Preserving.{preserved_words}
 use borrow.Author.Tests.{lt-ltb, le-ltb}
-use borrow.Author.Rules.{rules}
 use Rattle.preserve.proofs.preserve.Goals as goal
 
 pub returns-then-total-n : goal.returns-then-total-n

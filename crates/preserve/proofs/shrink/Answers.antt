@@ -3,10 +3,9 @@
 use Rattle.preserve.proofs.Turns.{shrunk-whole, shrunk-part, walked-parts}
 use Rattle.preserve.proofs.Preserves.{walked-leaves}
 use Rattle.preserve.specs.Preserving.{part_words}
-use Prim.Native.Nat.{ℕ, ◌-◌}
+use Prim.Native.Nat.{ℕ}
 use mathlib.Core.List.{List}
 use mathlib.Core.Path.{ap, ◌∙◌}
-use borrow.Author.Rules.{rules}
 use Rattle.preserve.proofs.shrink.Goals as goal
 
 pub take_out-requires : goal.take_out-requires

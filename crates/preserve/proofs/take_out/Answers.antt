@@ -5,7 +5,6 @@ use Rattle.preserve.specs.Preserving.{out_words}
 use Rattle.answers.specs.declared.HistoryPreservation.TheVariants.{PreserveNewest, PreserveOldest}
 use Rattle.answers.specs.declared.HistoryPreservation.{HistoryPreservation}
 use mathlib.Core.Path.{◌≡◌, sym, ap, subst, ◌∙◌}
-use borrow.Author.Rules.{rules}
 use Rattle.preserve.proofs.take_out.Goals as goal
 
 pub evict-requires : goal.evict-requires

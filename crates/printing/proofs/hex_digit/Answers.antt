@@ -1,10 +1,7 @@
 -- `printing::hex_digit` meets its contract: a digit below ten, and a letter from ten on.
 -- Assumes nothing.
-use mathlib.Core.Path.{sym}
-use native.Mathlib.Omega.{arith}
 use borrow.Author.Tests.{lt-ltb, le-ltb}
 use Rattle.printing.specs.Answers.{hex_digit}
-use borrow.Author.Rules.{rules}
 use Rattle.printing.proofs.hex_digit.Goals as goal
 
 pub returns-then-d-lt10 : goal.returns-then-d-lt10

@@ -1,7 +1,6 @@
 -- `printing::print` meets its contract: a room that is too short is left, and in any other the eight fields stand one after the other.
 -- Assumes nothing.
 use Rattle.printing.specs.Printing.{print-short, print-whole}
-use borrow.Author.Rules.{rules}
 use Rattle.printing.proofs.print.Goals as goal
 
 pub returns-then-out-lt-LONGEST : goal.returns-then-out-lt-LONGEST

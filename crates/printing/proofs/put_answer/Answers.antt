@@ -2,7 +2,6 @@
 -- Assumes nothing.
 use native.Mathlib.Omega.{arith}
 use Rattle.printing.specs.Printing.{put_word}
-use borrow.Author.Rules.{rules}
 use Rattle.printing.proofs.put_answer.Goals as goal
 
 pub returns-in-Allowed : goal.returns-in-Allowed

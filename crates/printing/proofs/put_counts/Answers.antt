@@ -1,9 +1,7 @@
 -- `printing::put_counts` meets its contract: four fields, one after the other.
 -- Assumes nothing.
-use native.Mathlib.Omega.{arith}
 use Rattle.printing.specs.Answers.{show_counts}
 use Rattle.printing.specs.Printing.{put_four}
-use borrow.Author.Rules.{rules}
 use Rattle.printing.proofs.put_counts.Goals as goal
 
 pub returns : goal.returns

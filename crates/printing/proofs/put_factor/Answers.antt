@@ -2,7 +2,6 @@
 -- Assumes nothing.
 use native.Mathlib.Omega.{arith}
 use Rattle.printing.specs.Printing.{put-field, hex-length}
-use borrow.Author.Rules.{rules}
 use Rattle.printing.proofs.put_factor.Goals as goal
 
 pub returns : goal.returns

@@ -4,7 +4,6 @@ use Prim.Native.Nat.{◌≤◌}
 use native.Mathlib.Omega.{arith}
 use Rattle.fields.specs.Numbers.{show-short}
 use Rattle.printing.specs.Printing.{put-field}
-use borrow.Author.Rules.{rules}
 use Rattle.printing.proofs.put_field.Goals as goal
 
 pub put_number-requires : goal.put_number-requires

@@ -1,13 +1,10 @@
 -- `printing::put_text` meets its contract. The invariant: the first `i` bytes of the text are copied in.
 -- Assumes nothing.
-use mathlib.Core.Path.{◌≡◌, refl, sym, ap, ◌∙◌}
-use Prim.Native.Nat.{◌+◌, ◌-◌, ◌≤◌}
+use mathlib.Core.Path.{refl}
 use native.Mathlib.Omega.{arith}
-use native.Mathlib.Numerals.{add-one}
-use lib.ListN.{length, get_or, set, length-set}
-use lib.Seq.{paste, paste-zero, paste-suc}
+use lib.ListN.{length-set}
+use lib.Seq.{paste-zero}
 use Rattle.printing.specs.Printing.{put_copy, copy-byte}
-use borrow.Author.Rules.{rules}
 use Rattle.printing.proofs.put_text.Goals as goal
 
 pub loop-i-init : goal.loop-i-init

@@ -3,7 +3,6 @@
 use native.Mathlib.Omega.{arith}
 use Rattle.printing.specs.Answers.{show_verdict}
 use Rattle.printing.specs.Printing.{put_four}
-use borrow.Author.Rules.{rules}
 use Rattle.printing.proofs.put_verdict.Goals as goal
 
 pub returns : goal.returns

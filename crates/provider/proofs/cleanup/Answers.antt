@@ -4,7 +4,6 @@ use Prim.Native.Nat.{ℕ, ◌≤◌}
 use Rattle.settings.specs.Clock.{ticks-some}
 use Rattle.stale.specs.Uses.{cleaned}
 use Rattle.provider.specs.Laws.{both-ready, both-refused, both-done}
-use borrow.Author.Rules.{rules}
 use Rattle.provider.proofs.cleanup.Goals as goal
 
 pub returns-then-code-ne0 : goal.returns-then-code-ne0

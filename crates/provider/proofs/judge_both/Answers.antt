@@ -1,7 +1,5 @@
 -- The lower of the two numbers.
 use Rattle.provider.specs.Laws.{number_is}
-use native.Mathlib.Omega.{arith}
-use borrow.Author.Rules.{rules}
 use Rattle.provider.proofs.judge_both.Goals as goal
 
 pub returns : goal.returns

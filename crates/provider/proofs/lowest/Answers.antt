@@ -1,7 +1,5 @@
 -- By which of the two is 0, and by the order of two that are not.
 use Rattle.provider.specs.Laws.{lowest-left, lowest-right, lowest-less, lowest-more}
-use borrow.Author.Rules.{rules}
-use native.Mathlib.Omega.{arith}
 use Rattle.provider.proofs.lowest.Goals as goal
 
 pub returns-then-m-eq0 : goal.returns-then-m-eq0

@@ -1,8 +1,6 @@
 -- `quick::both_parts` meets its contract: its two runs are one pass over the buckets.
 -- Assumes nothing.
 use Rattle.quick.specs.Turns.{one-pass}
-use native.Mathlib.Omega.{arith}
-use borrow.Author.Rules.{rules}
 use Rattle.quick.proofs.both_parts.Goals as goal
 
 pub returns : goal.returns

@@ -1,8 +1,6 @@
 -- `quick::full_turn` meets its contract, field by field.
 -- Assumes nothing.
 use Rattle.quick.specs.Quick.{full_turn}
-use native.Mathlib.Omega.{arith}
-use borrow.Author.Rules.{rules}
 use Rattle.quick.proofs.full_turn.Goals as goal
 
 pub returns : goal.returns

@@ -3,7 +3,6 @@
 use borrow.Author.Tests.{le-leb, lt-leb}
 use Rattle.quick.specs.Quick.{minus}
 use native.Mathlib.Omega.{arith}
-use borrow.Author.Rules.{rules}
 use Rattle.quick.proofs.minus.Goals as goal
 
 pub returns-then-b-a : goal.returns-then-b-a

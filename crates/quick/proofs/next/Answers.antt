@@ -3,7 +3,6 @@
 use Prim.Native.Nat.{◌+◌}
 use Rattle.ring.specs.Wrap.{wrap-lo, wrap-hi}
 use native.Mathlib.Omega.{arith}
-use borrow.Author.Rules.{rules}
 use Rattle.quick.proofs.next.Goals as goal
 
 pub returns-then-j-r : goal.returns-then-j-r

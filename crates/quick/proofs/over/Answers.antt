@@ -7,7 +7,6 @@ use borrow.Author.Tests.{lt-ltb, le-ltb}
 use Rattle.ring.specs.Ring.{len_of, declined_of, buckets}
 use Rattle.quick.specs.Quick.{few, run_of}
 use native.Mathlib.Omega.{arith}
-use borrow.Author.Rules.{rules}
 use Rattle.quick.proofs.over.Goals as goal
 
 pub returns-then-len-le-FEW : goal.returns-then-len-le-FEW

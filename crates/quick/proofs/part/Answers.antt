@@ -1,12 +1,7 @@
 -- `quick::part` meets its contract. Assumes nothing.
-use borrow.Author.Rules.{rules}
-use native.Mathlib.Omega.{arith}
-use mathlib.Core.Path.{◌≡◌, refl, sym, ap, ◌∙◌}
-use Prim.Native.Nat.{◌-◌, ◌+◌, ◌*◌, ◌≤◌, ◌<◌}
-use lib.ListN.{length}
+use mathlib.Core.Path.{ap, ◌∙◌}
 use Rattle.quick.specs.Quick.{run_of}
 use Rattle.quick.specs.Turns.{rows-cells}
-use borrow.Author.Rules.{rules}
 use Rattle.quick.proofs.part.Goals as goal
 
 pub returns : goal.returns

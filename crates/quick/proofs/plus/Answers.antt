@@ -4,7 +4,6 @@ use Prim.Native.Nat.{◌+◌}
 use borrow.Author.Tests.{le-leb, lt-leb}
 use Rattle.quick.specs.Quick.{words, plus}
 use native.Mathlib.Omega.{arith}
-use borrow.Author.Rules.{rules}
 use Rattle.quick.proofs.plus.Goals as goal
 
 pub returns-then-a-b : goal.returns-then-a-b

@@ -1,10 +1,6 @@
 -- `quick::run` meets its contract. Assumes nothing.
-use borrow.Author.Rules.{rules}
 use native.Mathlib.Omega.{arith}
-use mathlib.Core.Path.{◌≡◌, refl, sym, ap, ◌∙◌}
-use Prim.Native.Nat.{◌-◌, ◌+◌, ◌*◌, ◌≤◌, ◌<◌}
-use lib.ListN.{length, drop}
-use Rattle.quick.specs.Quick.{run_of, rows}
+use mathlib.Core.Path.{refl}
 use Rattle.quick.specs.Turns.{run-turn, run_end}
 use Rattle.quick.proofs.run.Goals as goal
 

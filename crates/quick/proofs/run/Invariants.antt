@@ -1,10 +1,7 @@
-use borrow.Author.Rules.{rules}
-use native.Mathlib.Omega.{arith}
-use mathlib.Core.Path.{◌≡◌, refl, sym, ap, ◌∙◌}
-use Prim.Native.Nat.{◌-◌, ◌+◌, ◌*◌, ◌≤◌, ◌<◌}
+use mathlib.Core.Path.{◌≡◌}
+use Prim.Native.Nat.{◌-◌, ◌≤◌}
 use lib.ListN.{length, drop}
 use Rattle.quick.specs.Quick.{run_of, rows}
-use Rattle.quick.specs.Turns.{run-turn, run_end}
 use Rattle.quick.proofs.run.Given as goal
 
 abbrev pub invariant-loop-k : goal.invariant-loop-k

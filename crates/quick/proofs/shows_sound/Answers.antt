@@ -4,7 +4,6 @@ use mathlib.Core.Path.{ap, ◌∙◌}
 use Rattle.ring.specs.Ring.{total_of, declined_of}
 use Rattle.quick.specs.declared.Acc.{Acc}
 use Rattle.quick.specs.Quick.{met_of, first_of, shown}
-use borrow.Author.Rules.{rules}
 use Rattle.quick.proofs.shows_sound.Goals as goal
 
 pub returns : goal.returns

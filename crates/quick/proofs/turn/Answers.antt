@@ -1,8 +1,5 @@
 -- `quick::turn` meets its contract: the one or the other.
 -- Assumes nothing.
-use Rattle.quick.specs.Quick.{turn_of}
-use native.Mathlib.Omega.{arith}
-use borrow.Author.Rules.{rules}
 use Rattle.quick.proofs.turn.Goals as goal
 
 pub returns-then-plain : goal.returns-then-plain

@@ -1,14 +1,10 @@
 -- `quick::walk` meets its contract. At every turn the place is that of the next bucket, and what is left of the pass comes to the whole.
 -- Assumes nothing.
 use mathlib.Core.Path.{◌≡◌, refl, sym, ◌∙◌}
-use mathlib.Core.Bool.{false}
-use Prim.Native.Nat.{◌+◌, ◌-◌, ◌≤◌, ◌<◌}
-use lib.ListN.{drop}
-use Rattle.ring.specs.Ring.{head_of, len_of, wrap, buckets}
+use Prim.Native.Nat.{◌+◌, ◌<◌}
+use Rattle.ring.specs.Ring.{head_of, len_of}
 use Rattle.ring.specs.Wrap.{wrap-lo}
-use Rattle.quick.specs.Quick.{run_of}
 use Rattle.quick.specs.Turns.{next_place, next-inside, walk_turn, walk_end}
-use borrow.Author.Rules.{rules}
 use native.Mathlib.Omega.{arith}
 use Rattle.quick.proofs.walk.Goals as goal
 

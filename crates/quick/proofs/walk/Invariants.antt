@@ -1,13 +1,9 @@
-use mathlib.Core.Path.{◌≡◌, refl, sym, ◌∙◌}
+use mathlib.Core.Path.{◌≡◌}
 use mathlib.Core.Bool.{false}
 use Prim.Native.Nat.{◌+◌, ◌-◌, ◌≤◌, ◌<◌}
 use lib.ListN.{drop}
-use Rattle.ring.specs.Ring.{head_of, len_of, wrap, buckets}
-use Rattle.ring.specs.Wrap.{wrap-lo}
+use Rattle.ring.specs.Ring.{head_of, wrap, buckets}
 use Rattle.quick.specs.Quick.{run_of}
-use Rattle.quick.specs.Turns.{next_place, next-inside, walk_turn, walk_end}
-use borrow.Author.Rules.{rules}
-use native.Mathlib.Omega.{arith}
 use Rattle.quick.proofs.walk.Given as goal
 
 abbrev pub invariant-loop-k : goal.invariant-loop-k

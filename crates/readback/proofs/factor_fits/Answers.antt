@@ -1,6 +1,5 @@
 -- The word of the factor is tried.
 -- Assumes nothing.
-use borrow.Author.Rules.{rules}
 use Rattle.readback.proofs.factor_fits.Goals as goal
 
 pub returns : goal.returns

@@ -1,9 +1,7 @@
 -- Each case of the definition.
 -- Assumes nothing.
 use Rattle.readback.specs.Meaning.{is_fit}
-use borrow.Author.Tests.{not-true, not-false}
 use mathlib.Core.Path.{sym, ◌∙◌}
-use borrow.Author.Rules.{rules}
 use Rattle.readback.proofs.is_fit.Goals as goal
 
 pub returns-then-not-factor_fits : goal.returns-then-not-factor_fits

@@ -1,9 +1,7 @@
 -- Each test is one of the definition's.
 -- Assumes nothing.
 use Rattle.readback.specs.Meaning.{meaning_of}
-use borrow.Author.Tests.{not-true, not-false}
 use mathlib.Core.Path.{sym, ◌∙◌}
-use borrow.Author.Rules.{rules}
 use Rattle.readback.proofs.meaning_of.Goals as goal
 
 pub returns-then-not-is_fit : goal.returns-then-not-is_fit

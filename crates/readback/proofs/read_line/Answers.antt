@@ -2,7 +2,6 @@
 -- Assumes nothing.
 use mathlib.Core.Path.{sym, ◌∙◌}
 use Rattle.readback.specs.Laws.{read_none, read_some}
-use borrow.Author.Rules.{rules}
 use Rattle.readback.proofs.read_line.Goals as goal
 
 pub returns-in_default : goal.returns-in_default

@@ -2,7 +2,6 @@
 -- Assumes nothing.
 use borrow.Author.Tests.{lt-leb, le-leb}
 use mathlib.Core.Path.{sym, ◌∙◌}
-use borrow.Author.Rules.{rules}
 use Rattle.readback.proofs.refusal_fits.Goals as goal
 
 pub returns-then-code-lt1 : goal.returns-then-code-lt1

@@ -1,7 +1,6 @@
 -- Each word's case of the definition.
 -- Assumes nothing.
 use Rattle.readback.specs.Meaning.{told_by}
-use borrow.Author.Rules.{rules}
 use Rattle.readback.proofs.told_by.Goals as goal
 
 pub returns-in-Allowed : goal.returns-in-Allowed

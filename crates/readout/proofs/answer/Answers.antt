@@ -1,7 +1,6 @@
 -- The two cases of the definition.
 -- Assumes nothing.
 use borrow.Author.Tests.{eq-eqb, ne_eqb}
-use borrow.Author.Rules.{rules}
 use Rattle.readout.proofs.answer.Goals as goal
 
 pub returns-then-code-ne0 : goal.returns-then-code-ne0

@@ -2,7 +2,6 @@
 -- Assumes nothing.
 use Rattle.finding.specs.Finding.{asked}
 use Rattle.readout.proofs.Laws.{plan-is}
-use borrow.Author.Rules.{rules}
 use Rattle.readout.proofs.decide.Goals as goal
 
 pub returns : goal.returns

@@ -1,5 +1,5 @@
 -- After i turns the row holds the first i buckets, and then what it held (`row_at`); a turn puts bucket i at its place.
-use Rattle.std.proofs.Common.{◌≡◌, ◌∙◌, ℕ, ◌<◌, List, length, get_or, ap, sym, subst, arith}
+use Rattle.std.proofs.Common.{◌≡◌, ◌∙◌, ℕ, List, length, get_or, ap, sym, subst, arith}
 use Rattle.std.specs.Prelude.{min, set}
 use Rattle.ring.specs.declared.Bucket.{Bucket}
 use Rattle.ring.specs.Ring.{buckets, no_bucket}

@@ -1,7 +1,6 @@
 -- `ring::at` meets its contract: it reads the three words of one cell.
 -- Assumes nothing.
 use Rattle.ring.specs.Ring.{bucket_at}
-use borrow.Author.Rules.{rules}
 use Rattle.ring.proofs.at.Goals as goal
 
 pub returns : goal.returns

@@ -1,7 +1,6 @@
 -- `ring::cell` meets its contract: a place that is wrapped is below the ring, so its three words lie in the body.
 -- Assumes nothing.
 use native.Mathlib.Omega.{arith}
-use borrow.Author.Rules.{rules}
 use Rattle.ring.proofs.cell.Goals as goal
 
 -- src/lib.rt:67:1

@@ -3,7 +3,6 @@
 use Rattle.ring.specs.Ring.{without}
 use lib.ListN.{length-set}
 use native.Mathlib.Omega.{arith}
-use borrow.Author.Rules.{rules}
 use Rattle.ring.proofs.evict.Goals as goal
 
 pub bounds-b-2 : goal.bounds-b-2

@@ -1,6 +1,5 @@
 -- `ring::nth` meets its contract: bucket `i` stands `i` places after the head.
 -- Assumes nothing.
-use borrow.Author.Rules.{rules}
 use Rattle.ring.proofs.nth.Goals as goal
 
 pub returns : goal.returns

@@ -3,7 +3,6 @@
 use Rattle.ring.specs.View.{view-at, view-none}
 use mathlib.Core.Path.{sym, ◌∙◌}
 use native.Mathlib.Omega.{arith}
-use borrow.Author.Rules.{rules}
 use Rattle.ring.proofs.nth_or_none.Goals as goal
 
 pub returns-then-i-word : goal.returns-then-i-word

@@ -3,7 +3,6 @@
 use Rattle.ring.specs.Ring.{pushed}
 use lib.ListN.{length-set}
 use native.Mathlib.Omega.{arith}
-use borrow.Author.Rules.{rules}
 use Rattle.ring.proofs.push.Goals as goal
 
 -- src/lib.rt:112:5

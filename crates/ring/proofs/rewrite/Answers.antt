@@ -4,7 +4,6 @@ use Rattle.ring.specs.Ring.{count_of, denied_of, rewritten}
 use mathlib.Core.Path.{ap}
 use lib.ListN.{length-set}
 use native.Mathlib.Omega.{arith}
-use borrow.Author.Rules.{rules}
 use Rattle.ring.proofs.rewrite.Goals as goal
 
 -- src/lib.rt:126:13

@@ -2,7 +2,6 @@
 use Prim.Native.Nat.{◌+◌}
 use native.Mathlib.Nat.{div-le_self}
 use native.Mathlib.Omega.{arith}
-use borrow.Author.Rules.{rules}
 use Rattle.settings.specs.Clock.{window_in_milliseconds}
 use Rattle.settings.specs.Settings.{window_in, bucket_in}
 use Rattle.ring_length.specs.RingLength.{ring-refused, ring-told, in-range}

@@ -1,7 +1,6 @@
 -- Shifted down, and the rest cut off.
 -- Assumes nothing.
 use native.Mathlib.Omega.{arith}
-use borrow.Author.Rules.{rules}
 use Rattle.base.specs.Bits.{bit-shift}
 use Rattle.room.proofs.bit.Goals as goal
 

@@ -1,10 +1,8 @@
 -- After s turns the words are those with the holder's own of the first s slots freed.
 -- Assumes nothing.
 use mathlib.Core.Path.{◌≡◌, refl, ap, ◌∙◌}
-use Prim.Native.Nat.{◌-◌, ◌≤◌}
 use native.Mathlib.Omega.{arith}
-use lib.ListN.{length}
-use Rattle.room.specs.Entries.{freed-ready, freed-turn, freed-length}
+use Rattle.room.specs.Entries.{freed-ready, freed-turn}
 use Rattle.room.specs.Room.{freed, slots_of}
 use Rattle.room.proofs.clear.Goals as goal
 

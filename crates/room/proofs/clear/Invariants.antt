@@ -1,9 +1,6 @@
-use mathlib.Core.Path.{◌≡◌, refl, ap, ◌∙◌}
+use mathlib.Core.Path.{◌≡◌}
 use Prim.Native.Nat.{◌-◌, ◌≤◌}
-use native.Mathlib.Omega.{arith}
-use lib.ListN.{length}
-use Rattle.room.specs.Entries.{freed-ready, freed-turn, freed-length}
-use Rattle.room.specs.Room.{freed, slots_of}
+use Rattle.room.specs.Room.{freed}
 use Rattle.room.proofs.clear.Given as goal
 
 abbrev pub invariant-loop-s : goal.invariant-loop-s

@@ -5,7 +5,6 @@ use mathlib.Core.List.{List, [], ◌∷◌}
 use Prim.Native.Nat.{ℕ, ◌+◌}
 use native.Mathlib.Omega.{arith}
 use lib.ListN.{length-set}
-use borrow.Author.Rules.{rules}
 use Rattle.base.specs.Writes.{writes}
 use Rattle.layout.specs.Layout.{len_word, a_word, b_word, c_word, d_word}
 use Rattle.room.specs.Room.{entered, entry_of}

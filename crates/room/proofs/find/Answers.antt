@@ -1,11 +1,8 @@
 -- No slot below the one looked at has the key: the search from 0 is the search from there.
 -- Assumes nothing.
-use mathlib.Core.Path.{◌≡◌, sym, ◌∙◌}
-use Prim.Native.Nat.{◌-◌, ◌≤◌}
+use mathlib.Core.Path.{sym, ◌∙◌}
 use native.Mathlib.Omega.{arith}
-use borrow.Author.Rules.{rules}
-use Rattle.base.specs.Seek.{seek, seek-start, seek-on, seek-here, seek-end}
-use Rattle.room.specs.Room.{slots_of, has}
+use Rattle.base.specs.Seek.{seek-start, seek-on, seek-here, seek-end}
 use Rattle.room.proofs.find.Goals as goal
 
 pub bounds-w-0 : goal.bounds-w-0

@@ -1,8 +1,6 @@
-use mathlib.Core.Path.{◌≡◌, sym, ◌∙◌}
+use mathlib.Core.Path.{◌≡◌}
 use Prim.Native.Nat.{◌-◌, ◌≤◌}
-use native.Mathlib.Omega.{arith}
-use borrow.Author.Rules.{rules}
-use Rattle.base.specs.Seek.{seek, seek-start, seek-on, seek-here, seek-end}
+use Rattle.base.specs.Seek.{seek}
 use Rattle.room.specs.Room.{slots_of, has}
 use Rattle.room.proofs.find.Given as goal
 

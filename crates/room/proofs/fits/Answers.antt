@@ -1,7 +1,6 @@
 -- Each test is a field of the record; the sizes are small enough not to wrap.
 -- Assumes nothing.
 use native.Mathlib.Omega.{arith}
-use borrow.Author.Rules.{rules}
 use Rattle.room.specs.Laws.{bodies-few}
 use Rattle.room.proofs.fits.Goals as goal
 

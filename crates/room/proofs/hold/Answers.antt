@@ -4,7 +4,6 @@ use mathlib.Core.Path.{ap₂}
 use Prim.Native.Nat.{ℕ}
 use native.Mathlib.Omega.{arith}
 use lib.ListN.{set, length-set}
-use borrow.Author.Rules.{rules}
 use Rattle.layout.specs.Layout.{firsts_word, seconds_word}
 use Rattle.room.specs.Room.{held}
 use Rattle.room.proofs.hold.Goals as goal

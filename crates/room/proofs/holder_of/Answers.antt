@@ -1,7 +1,6 @@
 -- A bit of each of the two words.
 -- Assumes nothing.
 use native.Mathlib.Omega.{arith}
-use borrow.Author.Rules.{rules}
 use Rattle.room.specs.Room.{holder_of}
 use Rattle.room.proofs.holder_of.Goals as goal
 

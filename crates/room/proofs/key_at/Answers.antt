@@ -3,7 +3,6 @@
 use mathlib.Core.Path.{ap}
 use Prim.Native.Nat.{ℕ, ◌+◌}
 use lib.ListN.{get_or}
-use borrow.Author.Rules.{rules}
 use Rattle.layout.specs.Layout.{len_word, a_word, b_word, c_word, d_word}
 use Rattle.room.specs.Room.{key_at, entry_of}
 use Rattle.room.proofs.key_at.Goals as goal

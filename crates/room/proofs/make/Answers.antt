@@ -5,7 +5,6 @@ use mathlib.Core.Bool.{true}
 use Prim.Native.Nat.{◌<◌}
 use native.Mathlib.Omega.{arith}
 use lib.ListN.{length, set, length-set}
-use borrow.Author.Rules.{rules}
 use Rattle.base.specs.Decides.{decided, undecided}
 use Rattle.room.specs.Laws.{zeros-long, empty-made, not_made}
 use Rattle.layout.specs.Layout.{last_word, slots_word, ring_word}

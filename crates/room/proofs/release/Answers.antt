@@ -1,6 +1,5 @@
 -- Nobody holds it.
 -- Assumes nothing.
-use borrow.Author.Rules.{rules}
 use Rattle.room.specs.Room.{released}
 use Rattle.room.proofs.release.Goals as goal
 

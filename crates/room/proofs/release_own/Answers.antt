@@ -1,7 +1,6 @@
 -- Freed where it is held so.
 -- Assumes nothing.
 use mathlib.Core.Path.{sym, ◌∙◌}
-use borrow.Author.Rules.{rules}
 use borrow.Author.Tests.{eq-eqb, ne_eqb}
 use Rattle.room.specs.Room.{released_own}
 use Rattle.room.proofs.release_own.Goals as goal

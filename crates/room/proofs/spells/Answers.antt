@@ -1,6 +1,5 @@
 -- Word by word, the definition's conjunction.
 -- Assumes nothing.
-use borrow.Author.Rules.{rules}
 use borrow.Author.Tests.{eq-eqb, ne_eqb}
 use Rattle.room.specs.Room.{spells}
 use Rattle.room.specs.Entries.{spelled-last}

@@ -1,7 +1,6 @@
 -- By who holds it.
 -- Assumes nothing.
 use mathlib.Core.Path.{sym, ◌∙◌}
-use borrow.Author.Rules.{rules}
 use Rattle.room.specs.Entries.{used-held, used-free}
 use Rattle.room.proofs.used_at.Goals as goal
 

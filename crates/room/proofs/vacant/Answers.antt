@@ -1,11 +1,8 @@
 -- No slot below the one looked at is free: the search from 0 is the search from there.
 -- Assumes nothing.
-use mathlib.Core.Path.{◌≡◌, sym, ◌∙◌}
-use Prim.Native.Nat.{◌-◌, ◌≤◌}
+use mathlib.Core.Path.{sym, ◌∙◌}
 use native.Mathlib.Omega.{arith}
-use borrow.Author.Rules.{rules}
-use Rattle.base.specs.Seek.{seek, seek-start, seek-on, seek-here, seek-end}
-use Rattle.room.specs.Room.{slots_of, free}
+use Rattle.base.specs.Seek.{seek-start, seek-on, seek-here, seek-end}
 use Rattle.room.specs.Entries.{free-yes, free-no}
 use Rattle.room.proofs.vacant.Goals as goal
 

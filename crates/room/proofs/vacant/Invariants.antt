@@ -1,10 +1,7 @@
-use mathlib.Core.Path.{◌≡◌, sym, ◌∙◌}
+use mathlib.Core.Path.{◌≡◌}
 use Prim.Native.Nat.{◌-◌, ◌≤◌}
-use native.Mathlib.Omega.{arith}
-use borrow.Author.Rules.{rules}
-use Rattle.base.specs.Seek.{seek, seek-start, seek-on, seek-here, seek-end}
+use Rattle.base.specs.Seek.{seek}
 use Rattle.room.specs.Room.{slots_of, free}
-use Rattle.room.specs.Entries.{free-yes, free-no}
 use Rattle.room.proofs.vacant.Given as goal
 
 abbrev pub invariant-loop-spare : goal.invariant-loop-spare

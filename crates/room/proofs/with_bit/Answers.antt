@@ -1,7 +1,6 @@
 -- The bit is taken off, and the other one put on.
 -- Assumes nothing.
 use native.Mathlib.Omega.{arith}
-use borrow.Author.Rules.{rules}
 use Rattle.base.specs.Bits.{Put, put-bit}
 use Rattle.room.proofs.with_bit.Goals as goal
 

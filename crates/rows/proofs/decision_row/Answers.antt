@@ -1,6 +1,5 @@
 -- Case by case, as the definition has them.
 use Rattle.answers.specs.Rows.{decision_row}
-use borrow.Author.Rules.{rules}
 use Rattle.rows.proofs.decision_row.Goals as goal
 
 pub returns-in-Allowed : goal.returns-in-Allowed

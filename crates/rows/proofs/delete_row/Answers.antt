@@ -1,6 +1,5 @@
 -- Case by case, as the definition has them.
 use Rattle.answers.specs.Rows.{delete_row}
-use borrow.Author.Rules.{rules}
 use Rattle.rows.proofs.delete_row.Goals as goal
 
 pub returns-in-Deleted : goal.returns-in-Deleted

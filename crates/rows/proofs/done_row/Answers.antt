@@ -1,6 +1,5 @@
 -- Case by case, as the definition has them.
 use Rattle.answers.specs.Rows.{done_row}
-use borrow.Author.Rules.{rules}
 use Rattle.rows.proofs.done_row.Goals as goal
 
 pub returns-in-Done : goal.returns-in-Done

@@ -1,6 +1,5 @@
 -- Case by case, as the definition has them.
 use Rattle.answers.specs.Rows.{factor_row}
-use borrow.Author.Rules.{rules}
 use Rattle.rows.proofs.factor_row.Goals as goal
 
 pub returns-in-Factor : goal.returns-in-Factor

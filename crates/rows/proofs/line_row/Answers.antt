@@ -1,7 +1,6 @@
 -- Case by case, as the definition has them.
 -- Assumes nothing.
 use Rattle.told.specs.Rows.{line_row}
-use borrow.Author.Rules.{rules}
 use Rattle.rows.proofs.line_row.Goals as goal
 
 pub returns-in-Line : goal.returns-in-Line

@@ -1,6 +1,5 @@
 -- Case by case, as the definition has them.
 use Rattle.answers.specs.Rows.{old_rate_row}
-use borrow.Author.Rules.{rules}
 use Rattle.rows.proofs.old_rate_row.Goals as goal
 
 pub returns-in-Was : goal.returns-in-Was

@@ -1,6 +1,5 @@
 -- Case by case, as the definition has them.
 use Rattle.answers.specs.Rows.{ring_row}
-use borrow.Author.Rules.{rules}
 use Rattle.rows.proofs.ring_row.Goals as goal
 
 pub returns-in-Ring : goal.returns-in-Ring

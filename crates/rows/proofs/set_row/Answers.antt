@@ -1,6 +1,5 @@
 -- Case by case, as the definition has them.
 use Rattle.answers.specs.Rows.{set_row}
-use borrow.Author.Rules.{rules}
 use Rattle.rows.proofs.set_row.Goals as goal
 
 pub returns-in-Set : goal.returns-in-Set

@@ -1,6 +1,5 @@
 -- Case by case, as the definition has them.
 use Rattle.answers.specs.Rows.{shot_row}
-use borrow.Author.Rules.{rules}
 use Rattle.rows.proofs.shot_row.Goals as goal
 
 pub returns-in-Held : goal.returns-in-Held

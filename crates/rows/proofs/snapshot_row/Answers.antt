@@ -1,6 +1,5 @@
 -- Case by case, as the definition has them.
 use Rattle.answers.specs.Rows.{snapshot_row}
-use borrow.Author.Rules.{rules}
 use Rattle.rows.proofs.snapshot_row.Goals as goal
 
 pub returns-in-Snapshot : goal.returns-in-Snapshot

@@ -1,7 +1,6 @@
 -- Case by case, as the definition has them.
 -- Assumes nothing.
 use Rattle.told.specs.Rows.{told_row}
-use borrow.Author.Rules.{rules}
 use Rattle.rows.proofs.told_row.Goals as goal
 
 pub returns-in-Allowed : goal.returns-in-Allowed

@@ -1,6 +1,5 @@
 -- Case by case, as the definition has them.
 use Rattle.answers.specs.Rows.{total_row}
-use borrow.Author.Rules.{rules}
 use Rattle.rows.proofs.total_row.Goals as goal
 
 pub returns-in-Total : goal.returns-in-Total

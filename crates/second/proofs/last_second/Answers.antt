@@ -1,9 +1,6 @@
 -- `second::last_second` meets its contract: at every turn what was walked past is young, and the sum is what it counts.
 -- Assumes nothing.
-use Prim.Native.Nat.{◌≤◌}
-use Rattle.ring.specs.Ring.{len_of}
-use Rattle.second.specs.Walk.{Walks, walk_start, walk-fits, walk-on, walk-old, walk_end}
-use borrow.Author.Rules.{rules}
+use Rattle.second.specs.Walk.{walk_start, walk-fits, walk-on, walk-old, walk_end}
 use native.Mathlib.Omega.{arith}
 use Rattle.second.proofs.last_second.Goals as goal
 

@@ -1,8 +1,6 @@
 use Prim.Native.Nat.{◌≤◌}
 use Rattle.ring.specs.Ring.{len_of}
-use Rattle.second.specs.Walk.{Walks, walk_start, walk-fits, walk-on, walk-old, walk_end}
-use borrow.Author.Rules.{rules}
-use native.Mathlib.Omega.{arith}
+use Rattle.second.specs.Walk.{Walks}
 use Rattle.second.proofs.last_second.Given as goal
 
 abbrev pub invariant-loop-k : goal.invariant-loop-k

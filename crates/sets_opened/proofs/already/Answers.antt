@@ -1,7 +1,6 @@
 -- The tests of the definition, in its order.
-use borrow.Author.Tests.{not-true, not-false, eq-eqb, ne_eqb, lt-ltb}
+use borrow.Author.Tests.{eq-eqb, ne_eqb, lt-ltb}
 use Rattle.sets_opened.specs.Sets.{already_at}
-use borrow.Author.Rules.{rules}
 use native.Mathlib.Omega.{arith}
 use Rattle.sets_opened.proofs.already.Goals as goal
 

@@ -1,6 +1,5 @@
 -- The tests of the definition, in its order.
 use Rattle.sets_opened.specs.Sets.{idle_at}
-use borrow.Author.Rules.{rules}
 use Rattle.std.proofs.Common.{ap}
 use Rattle.std.proofs.Common.{not}
 use Rattle.sets_opened.proofs.idle.Goals as goal

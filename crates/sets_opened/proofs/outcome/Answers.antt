@@ -1,6 +1,5 @@
 -- Field by field.
 use Rattle.sets_opened.specs.Sets.{outcome_at}
-use borrow.Author.Rules.{rules}
 use Rattle.sets_opened.proofs.outcome.Goals as goal
 
 pub returns : goal.returns

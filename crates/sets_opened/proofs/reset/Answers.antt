@@ -2,7 +2,6 @@
 use mathlib.Core.Path.{◌∙◌, ap}
 use Rattle.edit.specs.declared.Edit.{Edit}
 use Rattle.plan.specs.Plan.{relimited}
-use borrow.Author.Rules.{rules}
 use Rattle.sets_opened.proofs.reset.Goals as goal
 
 pub returns-in-Replace : goal.returns-in-Replace

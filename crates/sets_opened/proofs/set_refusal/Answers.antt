@@ -2,7 +2,6 @@
 use borrow.Author.Tests.{lt-ltb, le-ltb}
 use Rattle.common.specs.Refusals.{first}
 use Rattle.sets_opened.specs.Sets.{set_own}
-use borrow.Author.Rules.{rules}
 use Rattle.std.proofs.Common.{ap}
 use Rattle.std.proofs.Common.{not}
 use Rattle.sets_opened.proofs.set_refusal.Goals as goal

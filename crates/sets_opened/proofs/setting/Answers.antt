@@ -1,7 +1,6 @@
 -- The tests of the definition.
 use borrow.Author.Tests.{eq-eqb, ne_eqb}
 use Rattle.sets_opened.specs.Sets.{setting}
-use borrow.Author.Rules.{rules}
 use Rattle.sets_opened.proofs.setting.Goals as goal
 
 pub returns-then-still : goal.returns-then-still

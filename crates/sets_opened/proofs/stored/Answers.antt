@@ -2,7 +2,6 @@
 use mathlib.Core.Path.{◌∙◌, ap}
 use Rattle.change.specs.declared.Change.TheVariants.{Update}
 use Rattle.sets_opened.specs.Sets.{stored, stored-known}
-use borrow.Author.Rules.{rules}
 use Rattle.sets_opened.proofs.stored.Goals as goal
 
 pub returns-then-series : goal.returns-then-series

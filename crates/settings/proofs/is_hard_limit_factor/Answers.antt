@@ -3,7 +3,6 @@ use mathlib.Core.Path.{◌∙◌, sym, ap}
 use mathlib.Core.Bool.{Bool, ◌&&◌}
 use lib.Ieee.{of_bits, le}
 use Rattle.common.specs.Ranges.{one, most, factor_ok}
-use borrow.Author.Rules.{rules}
 use Rattle.settings.proofs.is_hard_limit_factor.Goals as goal
 
 pub returns : goal.returns

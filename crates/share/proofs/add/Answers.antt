@@ -1,6 +1,5 @@
 -- The parts' sum is below c, or one c is carried: compared with the room left, so that no sum passes a word.
 use Rattle.share.specs.Share.{sum_below, sum-carried}
-use borrow.Author.Rules.{rules}
 use Rattle.share.proofs.add.Goals as goal
 
 pub returns-then-part-space : goal.returns-then-part-space

@@ -1,6 +1,5 @@
 -- Where the double of the half is over, n units are over too.
 use Rattle.share.specs.Share.{comes-fits, comes-over, double-over, double-holds}
-use borrow.Author.Rules.{rules}
 use Rattle.share.proofs.doubled.Goals as goal
 
 pub add-requires : goal.add-requires

@@ -1,6 +1,5 @@
 -- By what the slot holds.
 use Rattle.shared_opened.specs.Opened.{deleted_at}
-use borrow.Author.Rules.{rules}
 use Rattle.shared_opened.proofs.deleted.Goals as goal
 
 pub returns-then-series : goal.returns-then-series

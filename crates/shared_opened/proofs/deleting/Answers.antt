@@ -1,6 +1,5 @@
 -- By whether the key has a slot.
 use Rattle.shared_opened.specs.Opened.{deleting}
-use borrow.Author.Rules.{rules}
 use Rattle.shared_opened.proofs.deleting.Goals as goal
 
 pub returns-then-has_slot : goal.returns-then-has_slot

@@ -1,5 +1,4 @@
 -- By the room's kind.
-use borrow.Author.Rules.{rules}
 use Rattle.shared_opened.proofs.limit_of.Goals as goal
 
 pub returns-in-Absolute : goal.returns-in-Absolute

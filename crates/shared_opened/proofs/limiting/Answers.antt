@@ -5,7 +5,6 @@ use Rattle.edit.specs.declared.Edit.{Edit}
 use Rattle.change.specs.declared.Change.TheVariants.{Update}
 use Rattle.plan.specs.Plan.{keeping, relimited}
 use Rattle.shared_opened.specs.Opened.{limiting, limiting-known}
-use borrow.Author.Rules.{rules}
 use Rattle.shared_opened.proofs.limiting.Goals as goal
 
 pub returns-then-series : goal.returns-then-series

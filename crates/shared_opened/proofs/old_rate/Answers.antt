@@ -5,7 +5,6 @@ use Rattle.common.specs.Limits.{rate_back}
 use Rattle.settings.specs.Settings.{window_in}
 use Rattle.answers.specs.declared.OldRateAnswer.TheVariants.{Was}
 use Rattle.shared_opened.specs.Opened.{old_rate_at}
-use borrow.Author.Rules.{rules}
 use Rattle.shared_opened.proofs.old_rate.Goals as goal
 
 pub returns-then-series : goal.returns-then-series

@@ -1,7 +1,6 @@
 -- The one test.
 use Rattle.common.specs.Refusals.{first}
 use Rattle.rules.specs.Sets.{rate_turns}
-use borrow.Author.Rules.{rules}
 use Rattle.std.proofs.Common.{ap}
 use Rattle.std.proofs.Common.{not}
 use Rattle.shared_opened.proofs.rate_refusal.Goals as goal

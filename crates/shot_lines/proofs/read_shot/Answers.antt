@@ -2,9 +2,7 @@
 -- definition, which then computes to the answer.
 -- Assumes nothing.
 use mathlib.Core.Path.{sym, ◌∙◌}
-use borrow.Author.Tests.{not-true, not-false}
 use Rattle.shot_lines.specs.Reading.{read_shot}
-use borrow.Author.Rules.{rules}
 use Rattle.shot_lines.proofs.read_shot.Goals as goal
 
 pub returns-in_default : goal.returns-in_default

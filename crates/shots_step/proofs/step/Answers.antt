@@ -4,7 +4,6 @@ use mathlib.Core.Path.{refl, sym, ◌∙◌}
 use Rattle.shots_step.specs.Shots.{stepped}
 use Rattle.shots_step.specs.Laws.{read-inside}
 use native.Mathlib.Omega.{arith}
-use borrow.Author.Rules.{rules}
 use Rattle.shots_step.proofs.step.Goals as goal
 
 pub returns-in_default : goal.returns-in_default

@@ -5,7 +5,6 @@ use Rattle.parties.specs.Parties.{sent}
 use Rattle.desk_lines.specs.Lines.{alone, per_minute}
 use Rattle.shots_step.specs.Shots.{shot_of}
 use Rattle.shots_step.specs.Laws.{line-told}
-use borrow.Author.Rules.{rules}
 use Rattle.shots_step.proofs.take.Goals as goal
 
 pub returns : goal.returns

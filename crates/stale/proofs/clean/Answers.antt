@@ -6,7 +6,6 @@ use Prim.Native.Nat.{ℕ}
 use Rattle.room.specs.Room.{Directory, slots_of, with_reading}
 use Rattle.stale.specs.Uses.{cleaned}
 use Rattle.stale.specs.Swept.{swept-room}
-use borrow.Author.Rules.{rules}
 use Rattle.stale.proofs.clean.Goals as goal
 
 pub store_reading-requires : goal.store_reading-requires

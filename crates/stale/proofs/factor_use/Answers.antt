@@ -1,7 +1,6 @@
 -- By the age.
 use Rattle.stale.specs.Stays.{factor-young, factor-old}
 use native.Mathlib.Omega.{arith}
-use borrow.Author.Rules.{rules}
 use Rattle.stale.proofs.factor_use.Goals as goal
 
 pub returns-then-milliseconds-stale : goal.returns-then-milliseconds-stale

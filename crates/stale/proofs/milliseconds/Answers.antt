@@ -1,7 +1,6 @@
 -- The difference, divided.
 use mathlib.Core.Path.{ap}
 use Prim.Native.Nat.{ℕ, ◌/◌}
-use borrow.Author.Rules.{rules}
 use Rattle.stale.proofs.milliseconds.Goals as goal
 
 pub returns : goal.returns

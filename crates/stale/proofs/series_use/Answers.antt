@@ -3,7 +3,6 @@ use Rattle.ring.specs.Ring.{buckets}
 use Rattle.ring.specs.View.{view-length}
 use Rattle.stale.specs.Stays.{series-none, series-old, series-young, newest-age}
 use native.Mathlib.Omega.{arith}
-use borrow.Author.Rules.{rules}
 use Rattle.stale.proofs.series_use.Goals as goal
 
 pub returns-then-n-eq0 : goal.returns-then-n-eq0

@@ -1,7 +1,6 @@
 -- One store, by what stays.
 -- Assumes nothing.
 use mathlib.Core.Path.{sym, ◌∙◌}
-use borrow.Author.Rules.{rules}
 use borrow.Author.Tests.{eq-eqb, ne_eqb}
 use Rattle.stale.specs.Uses.{settled}
 use Rattle.stale.proofs.settle.Goals as goal

@@ -1,12 +1,10 @@
 -- After `at` turns the words are those with the first `at` slots swept.
 use Rattle.room.specs.Laws.{room-directory}
 use mathlib.Core.Path.{◌≡◌, refl, ap, ◌∙◌}
-use Prim.Native.Nat.{◌-◌, ◌≤◌, ◌<◌}
-use lib.ListN.{length}
+use Prim.Native.Nat.{◌<◌}
 use Rattle.room.specs.Room.{slots_of}
 use Rattle.stale.specs.Uses.{swept}
-use Rattle.stale.specs.Swept.{swept-length, swept-readable, swept-turn}
-use borrow.Author.Rules.{rules}
+use Rattle.stale.specs.Swept.{swept-readable, swept-turn}
 use native.Mathlib.Omega.{arith}
 use Rattle.stale.proofs.sweep.Goals as goal
 

@@ -4,7 +4,6 @@ use Rattle.ring.specs.Ring.{buckets}
 use Rattle.opened.specs.Sound.{factor_time_of, has_series}
 use Rattle.stale.specs.Stays.{series-few, factor-few, after-series, after-factor, after_both, after-other}
 use native.Mathlib.Omega.{arith}
-use borrow.Author.Rules.{rules}
 use Rattle.stale.proofs.use_after.Goals as goal
 
 pub series_use-requires : goal.series_use-requires

@@ -8,7 +8,6 @@ use Rattle.room.specs.Laws.{part_body, part_length}
 use Rattle.opened.specs.Sound.{has_series}
 use Rattle.stale.specs.Uses.{use_after}
 use native.Mathlib.Omega.{arith}
-use borrow.Author.Rules.{rules}
 use Rattle.stale.proofs.use_next.Goals as goal
 
 pub use_after-requires : goal.use_after-requires

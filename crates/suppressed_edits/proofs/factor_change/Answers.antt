@@ -1,7 +1,6 @@
 -- By the series.
 use mathlib.Core.Path.{◌∙◌}
 use Rattle.suppressed_edits.specs.Edits.{factor-series, factor-lone}
-use borrow.Author.Rules.{rules}
 use Rattle.suppressed_edits.proofs.factor_change.Goals as goal
 
 pub returns-then-series : goal.returns-then-series

@@ -1,7 +1,5 @@
 -- By the series.
 use Rattle.suppressed_edits.specs.Edits.{get_change, get-series}
-use borrow.Author.Tests.{not-true, not-false}
-use borrow.Author.Rules.{rules}
 use Rattle.suppressed_edits.proofs.get_change.Goals as goal
 
 pub returns-then-not-series : goal.returns-then-not-series

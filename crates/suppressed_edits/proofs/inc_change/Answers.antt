@@ -1,7 +1,6 @@
 -- By whether the key has a slot.
 use mathlib.Core.Path.{sym, ◌∙◌}
 use Rattle.suppressed_edits.specs.Edits.{inc_change}
-use borrow.Author.Rules.{rules}
 use Rattle.suppressed_edits.proofs.inc_change.Goals as goal
 
 pub returns-then-has_slot : goal.returns-then-has_slot

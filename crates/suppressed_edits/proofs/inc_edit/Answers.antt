@@ -1,6 +1,5 @@
 -- By the series.
 use Rattle.suppressed_edits.specs.Edits.{inc_edit}
-use borrow.Author.Rules.{rules}
 use Rattle.suppressed_edits.proofs.inc_edit.Goals as goal
 
 pub returns-then-series : goal.returns-then-series

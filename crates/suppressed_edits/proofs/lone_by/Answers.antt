@@ -1,5 +1,4 @@
 -- By whether the slot is there.
-use borrow.Author.Rules.{rules}
 use Rattle.suppressed_edits.proofs.lone_by.Goals as goal
 
 pub returns-then-there : goal.returns-then-there

@@ -1,5 +1,4 @@
 -- By what becomes of the cached factor.
-use borrow.Author.Rules.{rules}
 use Rattle.suppressed_edits.proofs.lone_change.Goals as goal
 
 pub returns-in-Left : goal.returns-in-Left

@@ -1,6 +1,5 @@
 -- By what becomes of the cached factor.
 use Rattle.suppressed_edits.specs.Edits.{recached}
-use borrow.Author.Rules.{rules}
 use Rattle.suppressed_edits.proofs.recached.Goals as goal
 
 pub returns-in-Left : goal.returns-in-Left

@@ -1,6 +1,5 @@
 -- The ring's length is the room's; a slot is lacking where the key has none and none is left.
 -- Assumes nothing.
-use borrow.Author.Rules.{rules}
 use Rattle.suppressed_inc.proofs.late.Goals as goal
 
 pub returns : goal.returns

@@ -1,6 +1,5 @@
 -- By the series.
 use Rattle.suppressed_verdicts.specs.Opened.{limit_at}
-use borrow.Author.Rules.{rules}
 use Rattle.suppressed_inc.proofs.limit_for.Goals as goal
 
 pub returns-then-series : goal.returns-then-series

@@ -4,7 +4,6 @@ use Prim.Native.Nat.{ℕ}
 use Rattle.parties.specs.Parties.{sent}
 use Rattle.change.specs.Words.{Applies, applied}
 use Rattle.suppressed_verdicts.specs.Laws.{not-early, slot-found, proper-found, slot-in-room, get-early, get-applies, get-done}
-use borrow.Author.Rules.{rules}
 use Rattle.suppressed_reads.proofs.get.Goals as goal
 
 pub returns-then-code-ne0 : goal.returns-then-code-ne0

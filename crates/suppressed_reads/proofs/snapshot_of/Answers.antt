@@ -1,6 +1,4 @@
 -- By the series.
-use borrow.Author.Tests.{not-true, not-false}
-use borrow.Author.Rules.{rules}
 use Rattle.suppressed_reads.proofs.snapshot_of.Goals as goal
 
 pub returns-then-not-series : goal.returns-then-not-series

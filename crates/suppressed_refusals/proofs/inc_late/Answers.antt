@@ -1,5 +1,4 @@
 -- The conditions are those of the list.
-use borrow.Author.Rules.{rules}
 use Rattle.suppressed_refusals.proofs.inc_late.Goals as goal
 
 pub returns : goal.returns

@@ -1,7 +1,6 @@
 -- The three cases of the definition, in its order.
 use lib.Ieee.{of_bits}
 use Rattle.suppression.specs.Tested.{tested-nil, tested-one, tested-draw}
-use Rattle.std.proofs.Common.{rules}
 use Rattle.suppression.proofs.admits.Goals as goal
 
 pub returns-then-factor : goal.returns-then-factor

@@ -1,7 +1,6 @@
 -- The arm taken is the one that the perceived rate picks.
 use lib.Ieee.{of_bits}
 use Rattle.suppression.specs.Tested.{fresh-nil, fresh-rate}
-use Rattle.std.proofs.Common.{rules}
 use Rattle.suppression.proofs.fresh_factor.Goals as goal
 
 pub returns-then-perceived : goal.returns-then-perceived

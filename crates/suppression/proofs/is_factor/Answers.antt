@@ -1,5 +1,5 @@
 -- The three tests are those of the definition, in its order.
-use Rattle.std.proofs.Common.{refl, rules, le-ltb}
+use Rattle.std.proofs.Common.{refl, le-ltb}
 use lib.Ieee.{of_bits}
 use Rattle.suppression.specs.Factor.{factor_word_ok}
 use Rattle.suppression.specs.Tested.{tested-factor, negative-factor}

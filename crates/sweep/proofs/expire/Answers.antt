@@ -1,15 +1,13 @@
 -- `sweep::expire` meets its contract. At every turn the place is that of the next bucket, and what goes from here on comes to all that goes.
 -- Assumes nothing.
 use mathlib.Core.Path.{◌≡◌, refl, sym, ◌∙◌}
-use Prim.Native.Nat.{◌+◌, ◌-◌, ◌≤◌, ◌<◌}
-use borrow.Author.Tests.{not-true, not-false}
-use borrow.Author.Rules.{rules}
+use Prim.Native.Nat.{◌+◌, ◌<◌}
 use native.Mathlib.Omega.{arith}
-use Rattle.ring.specs.Ring.{head_of, len_of, wrap}
+use Rattle.ring.specs.Ring.{head_of, len_of}
 use Rattle.ring.specs.Wrap.{wrap-lo}
 use Rattle.quick.specs.Turns.{next_place, next-inside, at_place}
 use Rattle.rules.specs.Buckets.{older}
-use Rattle.sweep.specs.Turns.{Goes, gone-start, gone-turn, gone-stop, gone-end}
+use Rattle.sweep.specs.Turns.{gone-start, gone-turn, gone-stop, gone-end}
 use Rattle.sweep.proofs.expire.Goals as goal
 
 pub loop-k-init : goal.loop-k-init

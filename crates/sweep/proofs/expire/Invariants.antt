@@ -1,13 +1,7 @@
-use mathlib.Core.Path.{◌≡◌, refl, sym, ◌∙◌}
+use mathlib.Core.Path.{◌≡◌}
 use Prim.Native.Nat.{◌+◌, ◌-◌, ◌≤◌, ◌<◌}
-use borrow.Author.Tests.{not-true, not-false}
-use borrow.Author.Rules.{rules}
-use native.Mathlib.Omega.{arith}
-use Rattle.ring.specs.Ring.{head_of, len_of, wrap}
-use Rattle.ring.specs.Wrap.{wrap-lo}
-use Rattle.quick.specs.Turns.{next_place, next-inside, at_place}
-use Rattle.rules.specs.Buckets.{older}
-use Rattle.sweep.specs.Turns.{Goes, gone-start, gone-turn, gone-stop, gone-end}
+use Rattle.ring.specs.Ring.{head_of, wrap}
+use Rattle.sweep.specs.Turns.{Goes}
 use Rattle.sweep.proofs.expire.Given as goal
 
 abbrev pub invariant-loop-k : goal.invariant-loop-k

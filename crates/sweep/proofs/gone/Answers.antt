@@ -3,10 +3,8 @@
 -- Assumes nothing.
 use mathlib.Core.Path.{sym, ◌∙◌}
 use mathlib.Core.Bool.{true, false}
-use borrow.Author.Tests.{not-true, not-false}
 use Rattle.sweep.specs.Looked.{gone-by}
 use Rattle.sweep.specs.Wholly.{gone-wholly}
-use borrow.Author.Rules.{rules}
 use Rattle.sweep.proofs.gone.Goals as goal
 
 pub returns-then-not-older : goal.returns-then-not-older

@@ -5,7 +5,6 @@ use Rattle.quick.specs.Judged.{shown-sound}
 use Rattle.ring.specs.Sound.{true-sound}
 use Rattle.sweep.specs.Found.{sound-over, sound-swept}
 use native.Mathlib.Omega.{arith}
-use borrow.Author.Rules.{rules}
 use Rattle.sweep.proofs.is_sound.Goals as goal
 
 pub returns-then-shows_sound : goal.returns-then-shows_sound

@@ -1,6 +1,5 @@
 -- `sweep::older` meets its contract: the age is the difference, or 0.
 -- Assumes nothing.
-use borrow.Author.Rules.{rules}
 use Rattle.sweep.proofs.older.Goals as goal
 
 pub returns : goal.returns

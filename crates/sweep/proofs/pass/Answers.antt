@@ -3,7 +3,6 @@
 use Rattle.sweep.specs.Looked.{looked-unfit}
 use Rattle.base.specs.Decides.{decided, undecided}
 use mathlib.Core.Path.{◌∙◌}
-use borrow.Author.Rules.{rules}
 use Rattle.std.proofs.Common.{ap}
 use Rattle.std.proofs.Common.{not}
 use Rattle.sweep.proofs.pass.Goals as goal

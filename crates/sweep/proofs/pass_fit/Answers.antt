@@ -1,12 +1,10 @@
 -- `sweep::pass_fit` meets its contract: what is sound finds what the rules say, and anything else finds nothing.
 -- Assumes nothing.
 use mathlib.Core.Path.{sym, ap, ◌∙◌}
-use borrow.Author.Tests.{not-true, not-false}
 use Rattle.ring.specs.declared.Bucket.{Bucket}
 use Rattle.ring.specs.Sound.{sound-true}
 use Rattle.sweep.specs.Looked.{looked-not, pass-looked}
 use Rattle.sweep.specs.Wholly.{newest-at}
-use borrow.Author.Rules.{rules}
 use Rattle.sweep.proofs.pass_fit.Goals as goal
 
 pub gone-g-requires : goal.gone-g-requires

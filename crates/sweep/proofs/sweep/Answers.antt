@@ -1,10 +1,7 @@
 -- `sweep::sweep` meets its contract. At every turn, sweeping what is left of the buckets from here comes to the whole sweep.
 -- Assumes nothing.
-use Rattle.sweep.specs.Turns.{Sweeps, sweep-start, sweep-turn, sweep-off, sweep-end}
+use Rattle.sweep.specs.Turns.{sweep-start, sweep-turn, sweep-off, sweep-end}
 use mathlib.Core.Path.{refl, sym, ◌∙◌}
-use Prim.Native.Nat.{◌-◌, ◌≤◌}
-use borrow.Author.Tests.{not-true, not-false}
-use borrow.Author.Rules.{rules}
 use native.Mathlib.Omega.{arith}
 use Rattle.sweep.proofs.sweep.Goals as goal
 

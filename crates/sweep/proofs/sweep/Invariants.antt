@@ -1,9 +1,5 @@
-use Rattle.sweep.specs.Turns.{Sweeps, sweep-start, sweep-turn, sweep-off, sweep-end}
-use mathlib.Core.Path.{refl, sym, ◌∙◌}
+use Rattle.sweep.specs.Turns.{Sweeps}
 use Prim.Native.Nat.{◌-◌, ◌≤◌}
-use borrow.Author.Tests.{not-true, not-false}
-use borrow.Author.Rules.{rules}
-use native.Mathlib.Omega.{arith}
 use Rattle.sweep.proofs.sweep.Given as goal
 
 abbrev pub invariant-loop-k : goal.invariant-loop-k

@@ -1,8 +1,6 @@
 -- The entry behind the others is there once the count is raised.
 -- Assumes nothing.
-use borrow.Author.Rules.{rules}
-use Rattle.table.specs.Table.{known_of}
-use Rattle.table.specs.Laws.{raised-ready, raised-length}
+use Rattle.table.specs.Laws.{raised-ready}
 use Rattle.table.proofs.enter.Goals as goal
 
 pub enter-requires : goal.enter-requires

@@ -1,7 +1,6 @@
 -- A key that is too long has no entry, and another's is looked for.
 -- Assumes nothing.
 use borrow.Author.Tests.{lt-ltb, le-ltb}
-use borrow.Author.Rules.{rules}
 use Rattle.table.specs.Table.{entry_for}
 use Rattle.table.proofs.entry_for.Goals as goal
 

@@ -1,10 +1,9 @@
 -- No entry from the first one to the one looked at has the key: the search from the first is the search from there.
 -- Assumes nothing.
 use mathlib.Core.Path.{◌≡◌, refl, sym, ◌∙◌}
-use Prim.Native.Nat.{◌-◌, ◌≤◌}
 use native.Mathlib.Omega.{arith}
-use Rattle.base.specs.Seek.{seek, seek-on, seek-here, seek-end}
-use Rattle.table.specs.Table.{names, entry_from}
+use Rattle.base.specs.Seek.{seek-on, seek-here, seek-end}
+use Rattle.table.specs.Table.{names}
 use Rattle.table.specs.Laws.{table-directory}
 use Rattle.table.proofs.entry_from.Goals as goal
 

@@ -1,9 +1,7 @@
-use mathlib.Core.Path.{◌≡◌, refl, sym, ◌∙◌}
+use mathlib.Core.Path.{◌≡◌}
 use Prim.Native.Nat.{◌-◌, ◌≤◌}
-use native.Mathlib.Omega.{arith}
-use Rattle.base.specs.Seek.{seek, seek-on, seek-here, seek-end}
+use Rattle.base.specs.Seek.{seek}
 use Rattle.table.specs.Table.{names, entry_from}
-use Rattle.table.specs.Laws.{table-directory}
 use Rattle.table.proofs.entry_from.Given as goal
 
 abbrev pub invariant-loop-i : goal.invariant-loop-i

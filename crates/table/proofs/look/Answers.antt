@@ -2,14 +2,17 @@
 -- Assumes nothing.
 use mathlib.Core.Path.{sym, ◌∙◌}
 use native.Mathlib.Omega.{arith}
-use borrow.Author.Rules.{rules}
-use borrow.Author.Tests.{not-true, not-false}
 use Rattle.base.specs.Decides.{decided, undecided}
 use Rattle.table.specs.Table.{Table}
 use Rattle.table.specs.Laws.{table-directory, looked-not, looked-new, looked-unsound, looked-known}
 use Rattle.std.proofs.Common.{ap}
 use Rattle.std.proofs.Common.{not}
 use Rattle.table.proofs.look.Goals as goal
+use Rattle.table.proofs.look.Goals.{Else-not-sized}
+
+table : (c : goal.Else-not-sized) → Table c.args.w.now
+table c =
+    let o = c.sized in decided o.result (ap not c.if-not-sized.false) o.ensures
 
 pub returns-then-not-sized : goal.returns-then-not-sized
 returns-then-not-sized c =
@@ -19,51 +22,37 @@ returns-then-not-sized c =
 
 pub entry_for-at-requires : goal.entry_for-at-requires
 entry_for-at-requires c =
-    let table : Table c.args.w.now =
-    let o = c.sized in decided o.result (ap not c.if-not-sized.false) o.ensures in
-    table
+    (table (goal.at.entry_for-at-requires c).Else-not-sized)
 
 pub bounds-w-0 : goal.bounds-w-0
 bounds-w-0 c =
-    let table : Table c.args.w.now =
-    let o = c.sized in decided o.result (ap not c.if-not-sized.false) o.ensures in
-    let t = table in omega arith
+    let t = (table (goal.at.bounds-w-0 c).Else-not-sized) in omega arith
 
 pub returns-then-w-at : goal.returns-then-w-at
 returns-then-w-at c =
-    let table : Table c.args.w.now =
-    let o = c.sized in decided o.result (ap not c.if-not-sized.false) o.ensures in
     let a = c.args in
-    looked-new a.w.now a.key.now c.entry_for-at.result (table) c.entry_for-at.ensures c.if-w-at.true
+    looked-new a.w.now a.key.now c.entry_for-at.result (table (goal.at.returns-then-w-at c).Else-not-sized) c.entry_for-at.ensures c.if-w-at.true
 
 pub once-requires : goal.once-requires
 once-requires c =
-    let table : Table c.args.w.now =
-    let o = c.sized in decided o.result (ap not c.if-not-sized.false) o.ensures in
-    (table, c.if-w-at.false)
+    (table (goal.at.once-requires c).Else-not-sized, c.if-w-at.false)
 
 pub returns-then-not-once : goal.returns-then-not-once
 returns-then-not-once c =
-    let table : Table c.args.w.now =
-    let o = c.sized in decided o.result (ap not c.if-not-sized.false) o.ensures in
     let a = c.args in
     let x = c.once in
     c.unsound-then-not-once.ensures ∙
-    looked-unsound a.w.now a.key.now c.entry_for-at.result (table) (λ i. omega (arith, c.shared_slice_known-2-1.given i))
+    looked-unsound a.w.now a.key.now c.entry_for-at.result (table (goal.at.returns-then-not-once c).Else-not-sized) (λ i. omega (arith, c.shared_slice_known-2-1.given i))
     c.entry_for-at.ensures c.if-w-at.false (sym x.ensures ∙ c.if-not-once.true)
 
 pub use_of-requires : goal.use_of-requires
 use_of-requires c =
-    let table : Table c.args.w.now =
-    let o = c.sized in decided o.result (ap not c.if-not-sized.false) o.ensures in
-    (table-directory (table), omega arith)
+    (table-directory (table (goal.at.use_of-requires c).Else-not-sized), omega arith)
 
 pub returns : goal.returns
 returns c =
-    let table : Table c.args.w.now =
-    let o = c.sized in decided o.result (ap not c.if-not-sized.false) o.ensures in
     let a = c.args in
     let x = c.once in
-    looked-known a.w.now a.key.now c.entry_for-at.result (table) (λ i. omega (arith, c.shared_slice_known-2-1.given i))
+    looked-known a.w.now a.key.now c.entry_for-at.result (table (goal.at.returns c).Else-not-sized) (λ i. omega (arith, c.shared_slice_known-2-1.given i))
     c.entry_for-at.ensures c.if-w-at.false c.use_of.result c.use_of.ensures
     (sym x.ensures ∙ c.if-not-once.false)

@@ -1,6 +1,5 @@
 -- Words of another number are left; these are zeros then.
 -- Assumes nothing.
-use borrow.Author.Rules.{rules}
 use Rattle.table.specs.Laws.{table-made, not_made}
 use Rattle.table.proofs.make.Goals as goal
 

@@ -3,8 +3,6 @@
 use mathlib.Core.Path.{sym, ap, ◌∙◌}
 use Prim.Native.Nat.{◌+◌}
 use lib.Dec.{eqb}
-use borrow.Author.Rules.{rules}
-use borrow.Author.Tests.{not-true, not-false}
 use Rattle.table.specs.Table.{known_of, entry_from, numbered}
 use Rattle.table.specs.Laws.{table-directory, once-not, once-else}
 use Rattle.table.proofs.once.Goals as goal

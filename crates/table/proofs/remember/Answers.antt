@@ -4,7 +4,6 @@ use mathlib.Core.Path.{ap, ◌∙◌}
 use Prim.Native.Nat.{◌+◌}
 use native.Mathlib.Omega.{arith}
 use lib.ListN.{set}
-use borrow.Author.Rules.{rules}
 use Rattle.layout.specs.Layout.{slots_word}
 use Rattle.room.specs.Room.{entered}
 use Rattle.table.specs.Table.{known_of}

@@ -1,7 +1,6 @@
 -- Each arm is its case of the definition.
 -- Assumes nothing.
 use Rattle.told.specs.Told.{decided}
-use borrow.Author.Rules.{rules}
 use Rattle.told.proofs.decided.Goals as goal
 
 pub returns-in-Allowed : goal.returns-in-Allowed

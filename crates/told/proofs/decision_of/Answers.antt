@@ -1,7 +1,6 @@
 -- Each arm is its case of the definition.
 -- Assumes nothing.
 use Rattle.told.specs.Told.{decision_of}
-use borrow.Author.Rules.{rules}
 use Rattle.told.proofs.decision_of.Goals as goal
 
 pub returns-in-Allowed : goal.returns-in-Allowed

@@ -2,7 +2,6 @@
 -- Assumes nothing.
 use Rattle.told.specs.Told.{live}
 use lib.Ieee.{of_bits}
-use borrow.Author.Rules.{rules}
 use Rattle.told.proofs.live.Goals as goal
 
 pub returns-in-Total : goal.returns-in-Total

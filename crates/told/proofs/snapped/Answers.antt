@@ -1,7 +1,6 @@
 -- Each arm is its case of the definition.
 -- Assumes nothing.
 use Rattle.told.specs.Told.{snapped}
-use borrow.Author.Rules.{rules}
 use Rattle.told.proofs.snapped.Goals as goal
 
 pub returns-in-Snapshot : goal.returns-in-Snapshot

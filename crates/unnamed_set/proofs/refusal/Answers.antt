@@ -2,7 +2,6 @@
 use Rattle.unnamed_set.specs.Laws.{refusal-early, refusal-own, refusal-none}
 use mathlib.Core.Path.{◌∙◌, sym}
 use Rattle.parties.specs.Parties.{sent}
-use borrow.Author.Rules.{rules}
 use Rattle.unnamed_set.proofs.refusal.Goals as goal
 
 pub returns-then-code-ne0 : goal.returns-then-code-ne0

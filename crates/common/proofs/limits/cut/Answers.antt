@@ -1,7 +1,7 @@
 -- `cut` meets its contract: the two tests are the two ends of the range. A constant is its bit pattern, which `of_bits` takes to the number. Assumes nothing.
-use Rattle.std.proofs.Common.{◌≡◌, true, T, sym, subst, rules}
-use lib.Ieee.{Float, of_bits, le}
-use Rattle.common.specs.Cut.{two_to64, over_minus_one, cut_small, cut-large}
+use Rattle.std.proofs.Common.{T, sym, subst}
+use lib.Ieee.{of_bits}
+use Rattle.common.specs.Cut.{over_minus_one, cut_small, cut-large}
 use Rattle.common.proofs.limits.cut.Goals as goal
 
 pub truncating_f64_to_u64-requires : goal.truncating_f64_to_u64-requires

@@ -1,6 +1,5 @@
 -- The word's number is cut.
 use Rattle.common.specs.Limits.{cut_word}
-use Rattle.std.proofs.Common.{rules}
 use Rattle.common.proofs.limits.cut_limit.Goals as goal
 
 pub returns : goal.returns

@@ -1,6 +1,5 @@
 -- The word is that of the product.
 use Rattle.common.specs.Limits.{hard_word}
-use Rattle.std.proofs.Common.{rules}
 use Rattle.common.proofs.limits.hard_limit.Goals as goal
 
 pub returns : goal.returns

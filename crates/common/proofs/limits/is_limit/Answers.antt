@@ -1,7 +1,6 @@
 -- The comparison is the definition's.
 use lib.Ieee.{of_bits}
 use Rattle.common.specs.Tested.{tested-limit}
-use Rattle.std.proofs.Common.{rules}
 use Rattle.common.proofs.limits.is_limit.Goals as goal
 
 pub returns : goal.returns

@@ -1,6 +1,5 @@
 -- The word's number, divided, is cut.
 use Rattle.common.specs.Limits.{soft_word}
-use Rattle.std.proofs.Common.{rules}
 use Rattle.common.proofs.limits.soft_limit.Goals as goal
 
 pub returns : goal.returns

@@ -1,5 +1,5 @@
 -- The product is within the range exactly where the value is at most the range divided by the multiplier, so it is only formed where it fits.
-use Rattle.std.proofs.Common.{◌*◌, ◌≤◌, sym, arith, rules}
+use Rattle.std.proofs.Common.{◌*◌, ◌≤◌, sym, arith}
 use Rattle.common.specs.Units.{period-none, period-within, period-over, period-fits}
 use Rattle.common.proofs.units.checked_duration.Goals as goal
 

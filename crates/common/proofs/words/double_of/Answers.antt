@@ -1,7 +1,6 @@
 -- A NaN's pattern is the one large below its sign, and 0 / 0 is the NaN.
 use lib.Ieee.{of_bits, div}
 use Rattle.common.specs.Words.{nan-word, no-nan-word}
-use Rattle.std.proofs.Common.{rules}
 use Rattle.common.proofs.words.double_of.Goals as goal
 
 pub returns-then-word-gt9218868437227405312 : goal.returns-then-word-gt9218868437227405312

@@ -1,6 +1,5 @@
 -- Only a NaN differs from itself.
 use Rattle.common.specs.Words.{nan-bits, no_nan}
-use Rattle.std.proofs.Common.{rules}
 use Rattle.common.proofs.words.word_of.Goals as goal
 
 pub returns-then-x : goal.returns-then-x

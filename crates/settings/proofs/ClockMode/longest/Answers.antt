@@ -2,7 +2,6 @@
 use mathlib.Core.Path.{ap}
 use Prim.Native.Nat.{ℕ}
 use native.Mathlib.Omega.{arith}
-use borrow.Author.Rules.{rules}
 use Rattle.settings.specs.Clock.{longest, mode-some, mode-few, length-few}
 use Rattle.settings.proofs.ClockMode.longest.Goals as goal
 

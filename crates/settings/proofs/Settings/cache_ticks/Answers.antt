@@ -2,7 +2,6 @@
 use mathlib.Core.Path.{ap}
 use Prim.Native.Nat.{ℕ, ◌*◌}
 use native.Mathlib.Omega.{arith}
-use borrow.Author.Rules.{rules}
 use Rattle.settings.specs.Settings.{cache_in}
 use Rattle.settings.specs.Clock.{length-few}
 use Rattle.settings.proofs.Settings.cache_ticks.Goals as goal

@@ -1,6 +1,5 @@
 -- Each value is its type's default, and the factor's bits are those of 1.
 use lib.Ieee.{of_bits}
-use borrow.Author.Rules.{rules}
 use Rattle.settings.proofs.Settings.default.Goals as goal
 
 pub returns : goal.returns

@@ -1,7 +1,6 @@
 -- `first_fault` is handed the four range tests.
 use mathlib.Core.Path.{sym}
 use Rattle.settings.specs.Settings.{faults}
-use borrow.Author.Rules.{rules}
 use Rattle.settings.proofs.Settings.refusal.Goals as goal
 
 pub returns : goal.returns

@@ -1,5 +1,4 @@
 -- Each arm is its case of the definition.
-use Rattle.std.proofs.Common.{rules}
 use Rattle.common.proofs.comparator.RateLimitComparator.matches.Goals as goal
 
 pub returns-in-Eq : goal.returns-in-Eq

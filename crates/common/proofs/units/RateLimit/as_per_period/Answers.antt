@@ -1,5 +1,4 @@
 -- The period is the double that the definition names.
-use Rattle.std.proofs.Common.{rules}
 use Rattle.common.proofs.units.RateLimit.as_per_period.Goals as goal
 
 pub returns : goal.returns

@@ -1,5 +1,5 @@
 -- The period is the double that the definition names, and `per_second` judges the quotient.
-use Rattle.std.proofs.Common.{sym, rules}
+use Rattle.std.proofs.Common.{sym}
 use Rattle.common.specs.Units.{rate_of}
 use Rattle.common.proofs.units.RateLimit.from_period.Goals as goal
 

@@ -1,7 +1,6 @@
 -- The three cases of the definition; 1 / 0 is the infinity.
 use lib.Ieee.{of_bits, div}
 use Rattle.common.specs.Tested.{back-most, back-infinite, back-divided}
-use Rattle.std.proofs.Common.{rules}
 use Rattle.common.proofs.units.RateLimit.from_stored_window_limit.Goals as goal
 
 pub returns-then-x : goal.returns-then-x

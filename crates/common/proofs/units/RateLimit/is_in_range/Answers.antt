@@ -1,7 +1,6 @@
 -- The constant's bits are those of 2^-900.
 use lib.Ieee.{of_bits}
 use Rattle.common.specs.Ranges.{rate_ok}
-use Rattle.std.proofs.Common.{rules}
 use Rattle.common.proofs.units.RateLimit.is_in_range.Goals as goal
 
 pub returns : goal.returns

@@ -1,5 +1,5 @@
 -- The answer is made by the range test.
-use Rattle.std.proofs.Common.{sym, ◌∙◌, rules}
+use Rattle.std.proofs.Common.{sym, ◌∙◌}
 use Rattle.common.specs.Units.{rate_from}
 use Rattle.common.proofs.units.RateLimit.per_second.Goals as goal
 

@@ -1,7 +1,6 @@
 -- The answer is made of what `checked_duration` gives, case by case.
-use Rattle.std.proofs.Common.{sym, ◌∙◌, rules}
+use Rattle.std.proofs.Common.{sym, ◌∙◌}
 use Rattle.common.specs.Units.{cache_of}
-use Rattle.common.proofs.units.SuppressionFactorCachePeriod.from_milliseconds.Statement.{statement}
 use Rattle.common.proofs.units.SuppressionFactorCachePeriod.from_milliseconds.Goals as goal
 
 pub returns-in-Within : goal.returns-in-Within

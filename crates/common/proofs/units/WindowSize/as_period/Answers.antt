@@ -1,5 +1,4 @@
 -- Both numbers are the doubles that the definition names.
-use Rattle.std.proofs.Common.{rules}
 use Rattle.common.proofs.units.WindowSize.as_period.Goals as goal
 
 pub returns : goal.returns

@@ -1,5 +1,5 @@
 -- The answer is made of what `checked_duration` gives, case by case.
-use Rattle.std.proofs.Common.{sym, ◌∙◌, rules}
+use Rattle.std.proofs.Common.{sym, ◌∙◌}
 use Rattle.common.specs.Units.{window_of}
 use Rattle.common.proofs.units.WindowSize.from_seconds.Goals as goal
 
