@@ -1,6 +1,6 @@
 -- What the faces for C and Rust answer and leave, for every input, by the verdicts that the limiters' contracts name. An answer goes out as the row of five
 -- words that `answers`' Rows gives it. w are the words of a room. Assumes nothing.
-use Rattle.std.specs.Prelude.{◌≡◌, Bool, cond, List, ℕ}
+use Rattle.std.specs.Prelude.{◌≡◌, Bool, Option, Some, None, cond, List, ℕ}
 use Rattle.answers.specs.Rows.{refused_row, done_row, set_row, shot_row, number_of}
 use Rattle.common.specs.declared.units.RateLimit.{RateLimit}
 use Rattle.settings.specs.declared.Settings.{Settings}
@@ -13,10 +13,8 @@ use Rattle.provider.specs.Provider as Provider
 use Rattle.gateway.specs.Gateway as Gateway
 use Rattle.calls.specs.Set as Set
 use Rattle.unnamed_set.specs.Unnamed as Unnamed
-use Rattle.inputs.specs.declared.Comparison.{Comparison}
-use Rattle.inputs.specs.declared.Comparison.TheVariants as compared
-use Rattle.inputs.specs.declared.Mode.{Mode}
-use Rattle.inputs.specs.declared.Mode.TheVariants as chosen
+use Rattle.common.specs.declared.comparator.RateLimitComparator.{RateLimitComparator}
+use Rattle.answers.specs.declared.HistoryUpdateMode.{HistoryUpdateMode}
 
 -- ---- the shape of every face
 
@@ -51,10 +49,10 @@ abbrev pub shown_gateway : Gateway.Verdict → Face (List ℕ × List ℕ)
 shown_gateway v = face (shot_row v.answer) (v.table, v.room)
 
 -- a set whose numbers name a comparator and a mode; else it is no call, is judged without them, and every word stays
-unfoldable pub shown_set : RoomKind → Settings → List ℕ → ℕ → Sent → RateLimit → Comparison → ℕ → Mode → Face (List ℕ)
-shown_set kind s w t key rate (compared.Named c) count (chosen.Named m) = shown set_row (Set.set kind s w t key rate c count m)
-shown_set kind s w t key rate (compared.Named c) count chosen.Unnamed = face (refused_row (Unnamed.refusal kind s w t key rate count)) w
-shown_set kind s w t key rate compared.Unnamed count m = face (refused_row (Unnamed.refusal kind s w t key rate count)) w
+unfoldable pub shown_set : RoomKind → Settings → List ℕ → ℕ → Sent → RateLimit → Option RateLimitComparator → ℕ → Option HistoryUpdateMode → Face (List ℕ)
+shown_set kind s w t key rate (Some c) count (Some m) = shown set_row (Set.set kind s w t key rate c count m)
+shown_set kind s w t key rate (Some c) count None = face (refused_row (Unnamed.refusal kind s w t key rate count)) w
+shown_set kind s w t key rate None count m = face (refused_row (Unnamed.refusal kind s w t key rate count)) w
 
 -- ---- rooms
 

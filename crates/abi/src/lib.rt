@@ -3,11 +3,11 @@
 #![tactic(auto)]
 
 ghost use Rattle.std.specs.Prelude.{◌≡◌, cond, eqb, length};
-ghost use Rattle.answers.specs.Rows.{refused_row, decision_row, total_row, snapshot_row, factor_row, old_rate_row, delete_row, done_row, ring_row};
+ghost use Rattle.answers.specs.Rows.{refused_row, decision_row, total_row, snapshot_row, factor_row, old_rate_row, delete_row, done_row, ring_row, number_of};
 ghost use Rattle.ring_length.specs.RingLength.{ring_for};
 ghost use Rattle.room.specs.Room.{fits, empty};
 ghost use Rattle.parties.specs.Parties.{sent};
-ghost use Rattle.rules.specs.declared.RoomKind.TheVariants.{Absolute, Suppressed};
+ghost use Rattle.rules.specs.declared.RoomKind.TheVariants as Kind;
 ghost use Rattle.clearing.specs.Clear as Clear;
 ghost use Rattle.calls.specs.Delete as Delete;
 ghost use Rattle.calls.specs.Rate.{set_rate_limit};
@@ -25,17 +25,27 @@ ghost use Rattle.inputs.specs.Inputs.{settings, rated, comparison_of, replacing,
 ghost use Rattle.abi.specs.Faces.{Faced, caller_of, shown, shown_both, shown_gateway, shown_set, room_words, make_number};
 ghost use Rattle.abi.specs.ReadOut.{bucket_row};
 
+use absolute::Absolute;
 use answers::HistoryUpdateMode;
-use common::RateLimit;
-use inputs::{Comparison, Mode};
+use common::{RateLimit, RateLimitComparator, Refusal};
+use limiter::Limiter;
 use parties::Caller;
 use rules::RoomKind;
 use settings::Settings;
-
-// The lengths of a room or a table are wrong.
-const WRONG_LENGTHS: u64 = 5;
+use suppressed::Suppressed;
 
 // ---- rooms
+
+// What is told of a making: 0, or the refusal's number.
+#[tactic(auto, unfolding(answers::specs::Rows::done_row))]
+fn number_of(made: Result<(), Refusal>) -> u64
+    ensures { result ≡ number_of (done_row made) }
+{
+    match made {
+        Ok(()) => 0,
+        Err(refusal) => refusal.number(),
+    }
+}
 
 // How many words a room needs, 0 where there is no such room.
 #[unsafe(no_mangle)]
@@ -82,10 +92,7 @@ pub extern "C" fn frostaxle_make(room: &mut [u64], slots: u64, ring: u64) -> u64
     ensures value { result ≡ make_number (fits slots ring (length room.old)) }
     ensures room_after { room.new ≡ cond (fits slots ring (length room.old)) (empty slots ring) room.old }
 {
-    if room::make(room, slots, ring) {
-        return 0;
-    }
-    WRONG_LENGTHS
+    number_of(room::make(room, slots, ring))
 }
 
 // Who calls, by the numbers that a face is given.
@@ -114,7 +121,7 @@ fn unnamed(
     ensures { Given (refused_row (Unnamed.refusal kind settings room.now reading (sent caller key.now) (rated rate) count)) result
         row.new }
 {
-    let number = unnamed_set::refusal(
+    let refusal = unnamed_set::refusal(
         kind,
         settings,
         room,
@@ -124,7 +131,7 @@ fn unnamed(
         RateLimit(rate),
         count,
     );
-    rows::give(rows::refused_row(number), row)
+    rows::give(rows::refused_row(refusal.number()), row)
 }
 
 // A set of either limiter, once its numbers are read.
@@ -137,17 +144,14 @@ fn set(
     key: &[u8],
     rate: f64,
     count: u64,
-    comparison: Comparison,
-    mode: Mode,
+    comparison: Option<RateLimitComparator>,
+    mode: Option<HistoryUpdateMode>,
     row: &mut [u64; 5],
 ) -> u64
     ensures { Faced (shown_set kind settings room.old reading (sent caller key.now) (rated rate) comparison count mode) result
         row.new room.new }
 {
-    let Comparison::Named(c) = comparison else {
-        return unnamed(kind, settings, room, reading, caller, key, rate, count, row);
-    };
-    let Mode::Named(m) = mode else {
+    let (Some(c), Some(m)) = (comparison, mode) else {
         return unnamed(kind, settings, room, reading, caller, key, rate, count, row);
     };
     let answer = calls::set(
@@ -260,12 +264,12 @@ pub extern "C" fn frostaxle_absolute_set_rate_limit(
     rate: f64,
     row: &mut [u64; 5],
 ) -> u64
-    ensures { Faced (shown old_rate_row (set_rate_limit Absolute (settings window bucket cache factor clock) room.old reading
+    ensures { Faced (shown old_rate_row (set_rate_limit Kind.Absolute (settings window bucket cache factor clock) room.old reading
         (sent (caller_of party first second) key.now) (rated rate))) result row.new room.new }
 {
     let settings = inputs::settings(window, bucket, cache, factor, clock);
     let caller = caller_of(party, first, second);
-    let answer = absolute::set_rate_limit(settings, room, reading, caller, key, RateLimit(rate));
+    let answer = Absolute::set_rate_limit(settings, room, reading, caller, key, RateLimit(rate));
     rows::give(rows::old_rate_row(answer), row)
 }
 
@@ -284,12 +288,12 @@ pub extern "C" fn frostaxle_absolute_delete(
     key: &[u8],
     row: &mut [u64; 5],
 ) -> u64
-    ensures { Faced (shown delete_row (Delete.delete Absolute (settings window bucket cache factor clock) room.old reading
+    ensures { Faced (shown delete_row (Delete.delete Kind.Absolute (settings window bucket cache factor clock) room.old reading
         (sent (caller_of party first second) key.now))) result row.new room.new }
 {
     let settings = inputs::settings(window, bucket, cache, factor, clock);
     let caller = caller_of(party, first, second);
-    let answer = absolute::delete(settings, room, reading, caller, key);
+    let answer = Absolute::delete(settings, room, reading, caller, key);
     rows::give(rows::delete_row(answer), row)
 }
 
@@ -312,7 +316,7 @@ pub extern "C" fn frostaxle_absolute_clear(
 {
     let settings = inputs::settings(window, bucket, cache, factor, clock);
     let caller = caller_of(party, first, second);
-    let answer = absolute::clear(settings, room, reading, caller);
+    let answer = Absolute::clear(settings, room, reading, caller);
     rows::give(rows::done_row(answer), row)
 }
 
@@ -335,12 +339,12 @@ pub extern "C" fn frostaxle_absolute_set_if(
     operand: u64,
     row: &mut [u64; 5],
 ) -> u64
-    ensures { Faced (shown_set Absolute (settings window bucket cache factor clock) room.old reading (sent (caller_of party first second)
+    ensures { Faced (shown_set Kind.Absolute (settings window bucket cache factor clock) room.old reading (sent (caller_of party first second)
         key.now) (rated rate) (comparison_of comparator operand) count replacing) result row.new room.new }
 {
     let settings = inputs::settings(window, bucket, cache, factor, clock);
     let comparison = inputs::comparison_of(comparator, operand);
-    let mode = Mode::Named(HistoryUpdateMode::Replace);
+    let mode = Some(HistoryUpdateMode::Replace);
     set(
         RoomKind::Absolute,
         settings,
@@ -376,7 +380,7 @@ pub extern "C" fn frostaxle_absolute_set_if_preserve_history(
     preservation: u64,
     row: &mut [u64; 5],
 ) -> u64
-    ensures { Faced (shown_set Absolute (settings window bucket cache factor clock) room.old reading (sent (caller_of party first second)
+    ensures { Faced (shown_set Kind.Absolute (settings window bucket cache factor clock) room.old reading (sent (caller_of party first second)
         key.now) (rated rate) (comparison_of comparator operand) count (preserving preservation)) result row.new room.new }
 {
     let settings = inputs::settings(window, bucket, cache, factor, clock);
@@ -413,12 +417,12 @@ pub extern "C" fn frostaxle_absolute_cleanup(
     stale: u64,
     row: &mut [u64; 5],
 ) -> u64
-    ensures { Faced (shown done_row (Cleanup.cleanup Absolute (settings window bucket cache factor clock) room.old reading
+    ensures { Faced (shown done_row (Cleanup.cleanup Kind.Absolute (settings window bucket cache factor clock) room.old reading
         (caller_of party first second) stale)) result row.new room.new }
 {
     let settings = inputs::settings(window, bucket, cache, factor, clock);
     let caller = caller_of(party, first, second);
-    let answer = absolute::cleanup(settings, room, reading, caller, stale);
+    let answer = Absolute::cleanup(settings, room, reading, caller, stale);
     rows::give(rows::done_row(answer), row)
 }
 
@@ -527,12 +531,12 @@ pub extern "C" fn frostaxle_suppressed_set_rate_limit(
     rate: f64,
     row: &mut [u64; 5],
 ) -> u64
-    ensures { Faced (shown old_rate_row (set_rate_limit Suppressed (settings window bucket cache factor clock) room.old reading
+    ensures { Faced (shown old_rate_row (set_rate_limit Kind.Suppressed (settings window bucket cache factor clock) room.old reading
         (sent (caller_of party first second) key.now) (rated rate))) result row.new room.new }
 {
     let settings = inputs::settings(window, bucket, cache, factor, clock);
     let caller = caller_of(party, first, second);
-    let answer = suppressed::set_rate_limit(settings, room, reading, caller, key, RateLimit(rate));
+    let answer = Suppressed::set_rate_limit(settings, room, reading, caller, key, RateLimit(rate));
     rows::give(rows::old_rate_row(answer), row)
 }
 
@@ -551,12 +555,12 @@ pub extern "C" fn frostaxle_suppressed_delete(
     key: &[u8],
     row: &mut [u64; 5],
 ) -> u64
-    ensures { Faced (shown delete_row (Delete.delete Suppressed (settings window bucket cache factor clock) room.old reading
+    ensures { Faced (shown delete_row (Delete.delete Kind.Suppressed (settings window bucket cache factor clock) room.old reading
         (sent (caller_of party first second) key.now))) result row.new room.new }
 {
     let settings = inputs::settings(window, bucket, cache, factor, clock);
     let caller = caller_of(party, first, second);
-    let answer = suppressed::delete(settings, room, reading, caller, key);
+    let answer = Suppressed::delete(settings, room, reading, caller, key);
     rows::give(rows::delete_row(answer), row)
 }
 
@@ -579,7 +583,7 @@ pub extern "C" fn frostaxle_suppressed_clear(
 {
     let settings = inputs::settings(window, bucket, cache, factor, clock);
     let caller = caller_of(party, first, second);
-    let answer = suppressed::clear(settings, room, reading, caller);
+    let answer = Suppressed::clear(settings, room, reading, caller);
     rows::give(rows::done_row(answer), row)
 }
 
@@ -602,12 +606,12 @@ pub extern "C" fn frostaxle_suppressed_set_if(
     operand: u64,
     row: &mut [u64; 5],
 ) -> u64
-    ensures { Faced (shown_set Suppressed (settings window bucket cache factor clock) room.old reading (sent (caller_of party first second)
+    ensures { Faced (shown_set Kind.Suppressed (settings window bucket cache factor clock) room.old reading (sent (caller_of party first second)
         key.now) (rated rate) (comparison_of comparator operand) count replacing) result row.new room.new }
 {
     let settings = inputs::settings(window, bucket, cache, factor, clock);
     let comparison = inputs::comparison_of(comparator, operand);
-    let mode = Mode::Named(HistoryUpdateMode::Replace);
+    let mode = Some(HistoryUpdateMode::Replace);
     set(
         RoomKind::Suppressed,
         settings,
@@ -643,7 +647,7 @@ pub extern "C" fn frostaxle_suppressed_set_if_preserve_history(
     preservation: u64,
     row: &mut [u64; 5],
 ) -> u64
-    ensures { Faced (shown_set Suppressed (settings window bucket cache factor clock) room.old reading (sent (caller_of party first second)
+    ensures { Faced (shown_set Kind.Suppressed (settings window bucket cache factor clock) room.old reading (sent (caller_of party first second)
         key.now) (rated rate) (comparison_of comparator operand) count (preserving preservation)) result row.new room.new }
 {
     let settings = inputs::settings(window, bucket, cache, factor, clock);
@@ -680,12 +684,12 @@ pub extern "C" fn frostaxle_suppressed_cleanup(
     stale: u64,
     row: &mut [u64; 5],
 ) -> u64
-    ensures { Faced (shown done_row (Cleanup.cleanup Suppressed (settings window bucket cache factor clock) room.old reading
+    ensures { Faced (shown done_row (Cleanup.cleanup Kind.Suppressed (settings window bucket cache factor clock) room.old reading
         (caller_of party first second) stale)) result row.new room.new }
 {
     let settings = inputs::settings(window, bucket, cache, factor, clock);
     let caller = caller_of(party, first, second);
-    let answer = suppressed::cleanup(settings, room, reading, caller, stale);
+    let answer = Suppressed::cleanup(settings, room, reading, caller, stale);
     rows::give(rows::done_row(answer), row)
 }
 
@@ -729,10 +733,7 @@ pub extern "C" fn frostaxle_gateway_make_table(table: &mut [u64]) -> u64
     ensures value { result ≡ make_number (eqb (length table.old) table_words) }
     ensures table_after { table.new ≡ cond (eqb (length table.old) table_words) empty_table table.old }
 {
-    if gateway::make_table(table) {
-        return 0;
-    }
-    WRONG_LENGTHS
+    number_of(gateway::make_table(table))
 }
 
 // A shot by its number: held, or what the suppressed limiter decides on a count of 1.
@@ -787,17 +788,14 @@ fn bucket_row(
 ) -> [u64; 5]
     ensures { result ≡ bucket_row kind settings room.now (asked party key.now) at }
 {
-    let found = finding::find_series(kind, settings, room, party, key);
-    let code = found.code;
-    let slot = found.slot;
-    let count = found.count;
-    if code != 0 {
-        return rows::refused_row(code);
-    }
-    if count <= at {
+    let found = match finding::find_series(kind, settings, room, party, key) {
+        Ok(found) => found,
+        Err(refusal) => return rows::refused_row(refusal.number()),
+    };
+    if found.count <= at {
         return [0, 2, 0, 0, 0];
     }
-    let bucket = finding::bucket_at(room, slot, at);
+    let bucket = finding::bucket_at(room, found.slot, at);
     [0, 1, bucket.count, bucket.declined, bucket.time]
 }
 
@@ -814,7 +812,7 @@ pub extern "C" fn frostaxle_absolute_bucket(
     at: usize,
     row: &mut [u64; 5],
 ) -> u64
-    ensures { Given (bucket_row Absolute (settings window bucket cache factor clock) room.now (asked party key.now) at) result
+    ensures { Given (bucket_row Kind.Absolute (settings window bucket cache factor clock) room.now (asked party key.now) at) result
         row.new }
 {
     let settings = inputs::settings(window, bucket, cache, factor, clock);
@@ -837,7 +835,7 @@ pub extern "C" fn frostaxle_suppressed_bucket(
     at: usize,
     row: &mut [u64; 5],
 ) -> u64
-    ensures { Given (bucket_row Suppressed (settings window bucket cache factor clock) room.now (asked party key.now) at) result
+    ensures { Given (bucket_row Kind.Suppressed (settings window bucket cache factor clock) room.now (asked party key.now) at) result
         row.new }
 {
     let settings = inputs::settings(window, bucket, cache, factor, clock);

@@ -1,4 +1,5 @@
-// The exports for C, under the names of include/frostaxle.h: each calls the function of `abi` that has its name, and states its clauses again.
+// The exports for C, under the names of include/frostaxle.h: each calls the function of `abi` that has its name, and states its clauses again. C has no
+// enums, options or generics of ours, so here stand numbers, and a function for either limiter.
 #![tactic(auto)]
 
 ghost use Rattle.std.specs.Prelude.{◌≡◌, cond, eqb, length};

@@ -3,18 +3,18 @@
 // `absolute_reads` and `absolute_inc`.
 #![tactic(auto)]
 
-ghost use Rattle.std.specs.Prelude.{◌≡◌, ◌&&◌};
+ghost use Rattle.std.specs.Prelude.{◌≡◌};
 ghost use Rattle.common.specs.Limits.{absolute_word};
 ghost use Rattle.common.specs.Ranges.{rate_ok};
-ghost use Rattle.common.specs.Refusals.{first};
+ghost use Rattle.common.specs.Refusals.{first, ruled};
 ghost use Rattle.room.specs.Room.{Room, ring_of};
 ghost use Rattle.plan.specs.Plan.{lacks_at};
-ghost use Rattle.absolute_opened.specs.Opened.{leaving, crowds_at, clears_at, in_order, inc_refusals, get_change, ask_change, inc_change};
+ghost use Rattle.absolute_opened.specs.Opened.{leaving, crowds_at, clears_at, inc_refusals, get_change, ask_change, inc_change};
 ghost use Rattle.absolute_test.specs.Test.{evicts};
 
 use absolute_test::{evicts, gone_if, total_if};
 use change::Change;
-use common::{RateLimit, WindowSize};
+use common::{RateLimit, Refusal, WindowSize};
 use edit::{Edit, Then};
 use opened::Slot;
 
@@ -22,62 +22,32 @@ fn leaving(out: bool, x: Slot, then: Then) -> Edit
     ensures { result ≡ leaving out x then }
 {
     if out {
-        return plan::evicting(x, then);
+        plan::evicting(x, then)
+    } else {
+        plan::keeping(x, then)
     }
-    plan::keeping(x, then)
 }
 
 // Whether an increment of the buckets as they are stored would meet 10 or 12.
 fn is_crowded(r: usize, size: u64, reading: u64, count: u64, x: Slot) -> bool
     ensures { result ≡ crowds_at r size reading count x }
 {
-    if plan::passes(count, x.total) {
-        return true;
-    }
-    plan::is_ring_full(r, size, reading, 0, x)
+    plan::passes(count, x.total) || plan::is_ring_full(r, size, reading, 0, x)
 }
 
 // Whether an allowed increment takes the expired buckets out.
+#[tactic(auto, unfolding(crate::specs::Opened::clears_at))]
 pub fn clears(w: &[u64], limit: u64, size: u64, reading: u64, count: u64, x: Slot) -> bool
     requires { Room w.now }
     ensures { result ≡ clears_at (ring_of w.now) size reading count limit x }
 {
     let r = w[layout::RING] as usize;
-    if evicts(limit, x) {
-        return true;
-    }
-    is_crowded(r, size, reading, count, x)
+    evicts(limit, x) || is_crowded(r, size, reading, count, x)
 }
 
-fn both(a: bool, b: bool) -> bool
-    ensures { result ≡ (a && b) }
-{
-    if !a {
-        return false;
-    }
-    b
-}
-
-fn first_refusal(rated: bool, passes: bool, none: bool, crams: bool) -> u64
-    ensures { result ≡ first (in_order rated passes none crams) }
-{
-    if !rated {
-        return 8;
-    }
-    if passes {
-        return 10;
-    }
-    if none {
-        return 11;
-    }
-    if crams {
-        return 12;
-    }
-    0
-}
-
-// The number of the first of an increment's own refusals, or 0: `none` says whether the party has no slot left, `may` whether the key is allowed,
-// `out` whether the expired buckets are out.
+// An increment's own refusals: `none` says whether the party has no slot left, `may` whether the key is allowed, `out` whether the expired
+// buckets are out.
+#[tactic(auto, unfolding(common::specs::Refusals::first, crate::specs::Opened::inc_refusals))]
 pub fn late(
     w: &[u64],
     size: u64,
@@ -88,25 +58,32 @@ pub fn late(
     may: bool,
     out: bool,
     x: Slot,
-) -> u64
+) -> Result<(), Refusal>
     requires { Room w.now }
-    ensures { result ≡ first (inc_refusals (ring_of w.now) size reading count (rate_ok rate.0) may (lacks_at none x) out x) }
+    ensures { result ≡ ruled (first (inc_refusals (ring_of w.now) size reading count (rate_ok rate.0) may (lacks_at none x) out x)) }
 {
     let r = w[layout::RING] as usize;
-    let passes = both(may, plan::passes(count, total_if(out, x)));
-    let crams = both(
-        may,
-        plan::is_ring_full(r, size, reading, gone_if(out, x), x),
-    );
-    first_refusal(rate.is_in_range(), passes, plan::lacks_slot(none, x), crams)
+    if !rate.is_in_range() {
+        return Err(Refusal::BAD_RATE);
+    }
+    if may && plan::passes(count, total_if(out, x)) {
+        return Err(Refusal::TOTAL_TOO_LARGE);
+    }
+    if plan::lacks_slot(none, x) {
+        return Err(Refusal::NO_FREE_SLOT);
+    }
+    if may && plan::is_ring_full(r, size, reading, gone_if(out, x), x) {
+        return Err(Refusal::RING_FULL);
+    }
+    Ok(())
 }
 
 // What `get` changes: expired buckets go.
+#[tactic(auto, unfolding(crate::specs::Opened::get_change))]
 pub fn get_change(x: Slot) -> Change
     ensures { result ≡ get_change x }
 {
-    let series = x.series;
-    if !series {
+    if !x.series {
         return Change::Keep;
     }
     Change::Update(plan::evicting(x, Then::Nothing))
@@ -123,6 +100,7 @@ pub fn ask_change(again: bool, x: Slot) -> Change
 }
 
 // What `inc` changes: a series begins, or counts, or loses to a rejection what the first look finds expired; `looked` is the slot as it leaves it.
+#[tactic(auto, unfolding(crate::specs::Opened::inc_change))]
 pub fn inc_change(
     rate: RateLimit,
     window: WindowSize,
@@ -134,9 +112,8 @@ pub fn inc_change(
 ) -> Change
     ensures { result ≡ inc_change (absolute_word rate.0 window.0) count may out x looked }
 {
-    let series = x.series;
     let then = Then::Increment { count, declined: 0 };
-    if !series {
+    if !x.series {
         let limit = common::absolute_limit(rate, window);
         return Change::Take(plan::opening(limit, then, 0, 0, layout::SERIES));
     }

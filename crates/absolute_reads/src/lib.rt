@@ -8,7 +8,8 @@ ghost use Rattle.absolute_verdicts.specs.Calls as Calls;
 
 use absolute_opened::{ask_change, get_change};
 use absolute_test::{allows, decided, evicts};
-use answers::{RateLimitDecision, TotalAnswer};
+use answers::RateLimitDecision;
+use common::Refusal;
 use parties::Caller;
 use rules::RoomKind;
 use settings::Settings;
@@ -20,7 +21,7 @@ pub fn get(
     reading: u64,
     caller: Caller,
     key: &[u8],
-) -> TotalAnswer
+) -> Result<u64, Refusal>
     ensures { Told (Calls.get settings room.old reading (sent caller key.now)) result room.new }
 {
     let j = judge::judge(
@@ -31,16 +32,12 @@ pub fn get(
         caller,
         key,
         judge::NO_LOOK,
-    );
-    let code = j.code;
-    if code != 0 {
-        return TotalAnswer::Refused(code);
-    }
+    )?;
     let x = j.slot;
     let pass = x.pass;
     let join = settings.join_ticks();
     change::apply(room, x.at, caller, key, join, reading, get_change(x));
-    TotalAnswer::Total(pass.live_total)
+    Ok(pass.live_total)
 }
 
 // Whether a key is allowed, without counting.
@@ -53,7 +50,7 @@ pub fn is_allowed(
 ) -> RateLimitDecision
     ensures { Told (Calls.is_allowed settings room.old reading (sent caller key.now)) result room.new }
 {
-    let j = judge::judge(
+    let judged = judge::judge(
         RoomKind::Absolute,
         settings,
         room,
@@ -62,11 +59,10 @@ pub fn is_allowed(
         key,
         judge::FIRST_LOOK,
     );
-    let code = j.code;
-    if code != 0 {
-        return RateLimitDecision::Refused(code);
-    }
-    let x = j.slot;
+    let x = match judged {
+        Ok(j) => j.slot,
+        Err(r) => return RateLimitDecision::Refused(r.number()),
+    };
     let limit = common::cut_limit(x.limit);
     let answer = decided(settings, reading, allows(limit, x), x);
     let again = evicts(limit, x);

@@ -16,22 +16,14 @@ use settings::Settings;
 pub fn gone_if(out: bool, x: Slot) -> usize
     ensures { result ≡ gone_if out x }
 {
-    let pass = x.pass;
-    if !out {
-        return 0;
-    }
-    pass.expired
+    if out { x.pass.expired } else { 0 }
 }
 
 // The total of those that stay.
 pub fn total_if(out: bool, x: Slot) -> u64
     ensures { result ≡ total_if out x }
 {
-    let pass = x.pass;
-    if !out {
-        return x.total;
-    }
-    pass.live_total
+    if out { x.pass.live_total } else { x.total }
 }
 
 fn is_below(limit: u64, total: u64) -> bool
@@ -50,21 +42,14 @@ pub fn evicts(limit: u64, x: Slot) -> bool
 pub fn allows(limit: u64, x: Slot) -> bool
     ensures { result ≡ allowed_at limit x }
 {
-    let series = x.series;
-    if !series {
-        return true;
-    }
-    is_below(limit, total_if(evicts(limit, x), x))
+    !x.series || is_below(limit, total_if(evicts(limit, x), x))
 }
 
 // Whether the slot is allowed as a first look leaves it; no look is taken where the stored total is below the limit.
 pub fn allows_first(limit: u64, look: u64, reading: u64, x: Slot) -> bool
     ensures { result ≡ allowed_at limit (first_look look reading x) }
 {
-    if is_below(limit, x.total) {
-        return true;
-    }
-    allows(limit, opened::first_look(look, reading, x))
+    is_below(limit, x.total) || allows(limit, opened::first_look(look, reading, x))
 }
 
 // A rejection, with the wait for the oldest bucket that is left and its count; the wait is in milliseconds.
@@ -87,9 +72,8 @@ fn rejected(settings: Settings, reading: u64, x: Slot) -> RateLimitDecision
     }
     RateLimitDecision::Rejected {
         window_size: window,
-        retry_after: ring::less(
-            settings::MILLISECONDS_PER_SECOND * window.0,
-            ring::less(reading, oldest.time) / clock.ticks_per_millisecond(),
+        retry_after: (settings::MILLISECONDS_PER_SECOND * window.0).saturating_sub(
+            reading.saturating_sub(oldest.time) / clock.ticks_per_millisecond(),
         ),
         remaining_after_waiting: oldest.count,
     }

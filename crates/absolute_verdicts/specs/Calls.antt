@@ -1,13 +1,11 @@
 -- The absolute limiter's calls: answer and words after, for every input. Refusals and answers are document 01's rules on what the key holds; the words are told
 -- by the edits of the key's slot. s are the settings, w the room's words, t the reading, key the key with its caller.
 -- Assumes nothing.
-use Rattle.std.specs.Prelude.{List, [], ℕ}
+use Rattle.std.specs.Prelude.{List, [], ℕ, Result, Ok}
 use Rattle.settings.specs.Clock.{join_ticks}
 use Rattle.settings.specs.declared.Settings.{Settings}
 use Rattle.answers.specs.declared.RateLimitDecision.{RateLimitDecision}
 use Rattle.answers.specs.declared.RateLimitDecision.TheVariants as decision
-use Rattle.answers.specs.declared.TotalAnswer.{TotalAnswer}
-use Rattle.answers.specs.declared.TotalAnswer.TheVariants as total
 use Rattle.common.specs.declared.units.RateLimit.{RateLimit}
 use Rattle.ring.specs.Ring.{counts}
 use Rattle.rules.specs.declared.RoomKind.TheVariants.{Absolute}
@@ -21,13 +19,15 @@ use Rattle.judge.specs.Judge.{slot_in, looked_in}
 use Rattle.judge.specs.Verdict.{Verdict, verdict, call}
 use Rattle.plan.specs.Plan.{place_of}
 use Rattle.absolute_opened.specs.Opened.{get_change, ask_change, inc_change}
+use Rattle.common.specs.Refusals.{refuse}
+use Rattle.common.specs.declared.refusal.Refusal.{Refusal}
 
 -- the live total, 0 of an unknown key
-unfoldable pub get : Settings → List ℕ → ℕ → Sent → Verdict TotalAnswer
+unfoldable pub get : Settings → List ℕ → ℕ → Sent → Verdict (Result ℕ Refusal)
 get s w t key =
     let x = slot_in s w t key in
-    call total.Refused Absolute s w t key []
-    (verdict (total.Total (counts (live_of s t (held_in w key)))) (applied w x.at key (join_ticks s) t (get_change x)))
+    call refuse Absolute s w t key []
+    (verdict (Ok (counts (live_of s t (held_in w key)))) (applied w x.at key (join_ticks s) t (get_change x)))
 
 unfoldable pub is_allowed : Settings → List ℕ → ℕ → Sent → Verdict RateLimitDecision
 is_allowed s w t key =

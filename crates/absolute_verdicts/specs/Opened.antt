@@ -1,7 +1,7 @@
 -- The absolute limiter's calls as the code carries them out, on the key's slot as it is opened. They are the calls of `Calls.antt` (`get-opened`, `ask-opened`,
 -- `inc-opened` in `Seen.antt`), and no contract names them.
 -- Assumes nothing.
-use Rattle.std.specs.Prelude.{Bool, List, [], ℕ}
+use Rattle.std.specs.Prelude.{Bool, List, [], ℕ, Result, Ok}
 use Rattle.common.specs.Limits.{absolute_word, cut_word}
 use Rattle.common.specs.Ranges.{rate_ok}
 use Rattle.settings.specs.Settings.{window_in}
@@ -9,8 +9,6 @@ use Rattle.settings.specs.Clock.{ticks_in, look_ticks, join_ticks}
 use Rattle.settings.specs.declared.Settings.{Settings}
 use Rattle.answers.specs.declared.RateLimitDecision.{RateLimitDecision}
 use Rattle.answers.specs.declared.RateLimitDecision.TheVariants as decision
-use Rattle.answers.specs.declared.TotalAnswer.{TotalAnswer}
-use Rattle.answers.specs.declared.TotalAnswer.TheVariants as total
 use Rattle.common.specs.declared.units.RateLimit.{RateLimit}
 use Rattle.rules.specs.declared.RoomKind.TheVariants.{Absolute}
 use Rattle.room.specs.Room.{ring_of}
@@ -24,11 +22,13 @@ use Rattle.judge.specs.Verdict.{Verdict, verdict, call}
 use Rattle.plan.specs.Plan.{place_of, lacks_at}
 use Rattle.absolute_opened.specs.Opened.{clears_at, inc_refusals, get_change, ask_change, inc_change}
 use Rattle.absolute_test.specs.Test.{evicts, allowed_at, decided_at}
+use Rattle.common.specs.Refusals.{refuse}
+use Rattle.common.specs.declared.refusal.Refusal.{Refusal}
 
-unfoldable pub get : Settings → List ℕ → ℕ → Sent → Verdict TotalAnswer
+unfoldable pub get : Settings → List ℕ → ℕ → Sent → Verdict (Result ℕ Refusal)
 get s w t key =
-    call total.Refused Absolute s w t key []
-    (verdict (total.Total (slot_in s w t key).pass.live_total) (applied w (slot_in s w t key).at key (join_ticks s) t (get_change (slot_in s w t key))))
+    call refuse Absolute s w t key []
+    (verdict (Ok (slot_in s w t key).pass.live_total) (applied w (slot_in s w t key).at key (join_ticks s) t (get_change (slot_in s w t key))))
 
 -- ---- of the key's slot x: as a first look leaves it, whether it is allowed, tests again, and the decision
 

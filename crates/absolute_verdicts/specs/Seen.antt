@@ -1,6 +1,6 @@
 -- What the code decides on an opened slot is what the absolute limiter's rules say of what the key holds; so its calls are those of `Calls.antt`.
 -- Assumes nothing.
-use Rattle.std.specs.Prelude.{◌≡◌, Bool, ◌||◌, length, get_or, drop}
+use Rattle.std.specs.Prelude.{◌≡◌, Bool, ◌||◌, length, get_or, drop, Ok}
 use Rattle.std.proofs.Math.Path.{refl, sym, ap, ap₂}
 use Rattle.std.proofs.Common.{◌∙◌, add-zero, arith, length-drop, get_or-drop}
 use Rattle.std.proofs.Math.Bool.{true, false, not, ◌&&◌}
@@ -15,7 +15,6 @@ use Rattle.settings.specs.Clock.{age_in_milliseconds, ticks_in, window_in_millis
 use Rattle.settings.specs.declared.Settings.{Settings}
 use Rattle.answers.specs.declared.RateLimitDecision.{RateLimitDecision}
 use Rattle.answers.specs.declared.RateLimitDecision.TheVariants as decision
-use Rattle.answers.specs.declared.TotalAnswer.TheVariants as total
 use Rattle.common.specs.declared.units.RateLimit.{RateLimit}
 use Rattle.rules.specs.Buckets as rules
 use Rattle.rules.specs.Buckets.{out_if}
@@ -45,6 +44,7 @@ use Rattle.absolute_opened.specs.Opened.{clears_at, in_order, inc_refusals, ask_
 use Rattle.absolute_test.specs.Test.{gone_if, total_if, evicts, allowed_at, rejected_at, decided_at}
 use Rattle.absolute_verdicts.specs.Calls as Calls
 use Rattle.absolute_verdicts.specs.Opened.{may_in, again_in, decided_in, out_in, inc_own, inc_makes, get, is_allowed, inc}
+use Rattle.common.specs.Refusals.{refuse}
 
 or-false : (z : Bool) → z || false ≡ z
 or-false true = refl
@@ -226,8 +226,8 @@ module _ (s : Settings) (w : List ℕ) (t : ℕ) (key : Sent) where
   pub get-opened : get s w t key ≡ Calls.get s w t key
   unfolding get Calls.get
   get-opened =
-      call-alike total.Refused Absolute s w t key [] [] _ _
-      (λ p. record { owns = refl; answers = ap (λ (n : ℕ). total.Total n) (seen Absolute s w t key p).live-is; wordings = refl })
+      call-alike refuse Absolute s w t key [] [] _ _
+      (λ p. record { owns = refl; answers = ap (λ (n : ℕ). Ok n) (seen Absolute s w t key p).live-is; wordings = refl })
 
   pub ask-opened : is_allowed s w t key ≡ Calls.is_allowed s w t key
   unfolding is_allowed Calls.is_allowed

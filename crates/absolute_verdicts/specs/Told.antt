@@ -1,17 +1,17 @@
 -- That what the code gives is the call's verdict: j is what judging gave, u the change that was carried out, v the words after.
 -- Assumes nothing.
-use Rattle.std.specs.Prelude.{◌≡◌, Bool, ℕ, ◌≤◌}
+use Rattle.std.specs.Prelude.{◌≡◌, Bool, ℕ, ◌≤◌, Ok, Err}
 use Rattle.std.proofs.Math.Path.{refl, ap, ap₂}
 use Rattle.std.proofs.Common.{sym, subst, ◌∙◌}
 use Rattle.std.proofs.Math.Bool.{true, false, not}
 use mathlib.Core.List.{List, []}
 use Rattle.common.specs.Limits.{absolute_word, cut_word}
 use Rattle.common.specs.Ranges.{most_window, most_bucket, rate_ok}
-use Rattle.common.specs.Refusals.{first}
+use Rattle.common.specs.Refusals.{first, refuse}
+use Rattle.common.specs.declared.refusal.Refusal.{Refusal}
 use Rattle.settings.specs.Settings.{window_in, bucket_in}
 use Rattle.settings.specs.Clock.{ticks_in, look_ticks, join_ticks}
 use Rattle.settings.specs.declared.Settings.{Settings}
-use Rattle.answers.specs.declared.TotalAnswer.TheVariants as total
 use Rattle.answers.specs.declared.RateLimitDecision.{RateLimitDecision}
 use Rattle.answers.specs.declared.RateLimitDecision.TheVariants as decision
 use Rattle.common.specs.declared.units.RateLimit.{RateLimit}
@@ -26,9 +26,9 @@ use Rattle.opened.specs.declared.Slot.{Slot}
 use Rattle.opened.specs.Slot.{pick_slot}
 use Rattle.opened.specs.Look.{look_at, look-total, look-limit}
 use Rattle.judge.specs.Judge.{early, judged, judged_first, Passed, slot_in, looked_in}
-use Rattle.judge.proofs.Laws.{code_is, none_is, slot_is, passed}
+use Rattle.judge.proofs.Laws.{judged-ok, passed}
 use Rattle.judge.specs.Verdict.{Told, verdict, call}
-use Rattle.judge.proofs.Verdict.{told-as, call-early, call-own, call-done}
+use Rattle.judge.proofs.Verdict.{told-as, call-refused, call-own, call-done}
 use Rattle.plan.specs.Plan.{place_of, lacks_at}
 use Rattle.absolute_test.specs.Test.{evicts, allowed_at, decided_at}
 use Rattle.absolute_opened.specs.Opened.{get_change, ask_change, inc_change, inc_refusals}
@@ -37,143 +37,132 @@ use Rattle.absolute_verdicts.specs.Opened.{look_in, may_in, again_in, decided_in
 use Rattle.absolute_verdicts.specs.Seen.{get-opened, ask-opened, inc-opened}
 use Rattle.absolute_verdicts.specs.Laws.{get-applies, ask-applies, inc-applies, may-unknown}
 
--- judging did not refuse; a first look is not yet taken
-pub record Goes (s : Settings) (w : List ℕ) (t : ℕ) (key : Sent) (j : Judged) : Type 0 where
-  pub is : j ≡ judged Absolute s w t key
-  pub unrefused : j.code ≡ 0
+-- ---- refused by judging
 
-module _ (s : Settings) (w : List ℕ) (t : ℕ) (key : Sent) (j : Judged) where
-  refuses : j ≡ judged Absolute s w t key → j.code ≡ early Absolute s w t key
-  refuses e = ap (λ (y : Judged). y.code) e ∙ code_is Absolute s w t key (slot_in s w t key)
+pub get_refused : (s : Settings) (w : List ℕ) (t : ℕ) (key : Sent) (r : Refusal) → Err r ≡ judged Absolute s w t key → Told (Calls.get s w t key) (Err r) w
+unfolding Calls.get
+get_refused s w t key r e = call-refused refuse Absolute s w t key [] _ false r e
 
-  -- ---- refused by judging
+pub ask-refused : (s : Settings) (w : List ℕ) (t : ℕ) (key : Sent) (r : Refusal) → Err r ≡ judged_first Absolute s w t key →
+    Told (Calls.is_allowed s w t key) (decision.Refused r.0) w
+unfolding Calls.is_allowed
+ask-refused s w t key r e = call-refused decision.Refused Absolute s w t key [] _ true r e
 
-  pub get_refused : j ≡ judged Absolute s w t key → (j.code ≡ 0 → ⊥) → Told (Calls.get s w t key) (total.Refused j.code) w
-  unfolding Calls.get
-  get_refused e z = call-early total.Refused Absolute s w t key [] _ j.code (refuses e) z
+pub inc-refused : (s : Settings) (w : List ℕ) (t : ℕ) (key : Sent) (rate : RateLimit) (c : ℕ) (r : Refusal) → Err r ≡ judged Absolute s w t key →
+    Told (Calls.inc s w t key rate c) (decision.Refused r.0) w
+unfolding Calls.inc
+inc-refused s w t key rate c r e = call-refused decision.Refused Absolute s w t key _ _ false r e
 
-  -- ---- not refused by judging
+-- ---- not refused by judging; a first look is not yet taken
 
-  module _ (g : Goes s w t key j) where
-    goes-early : early Absolute s w t key ≡ 0
-    goes-early = sym (refuses g.is) ∙ g.unrefused
+module _ (s : Settings) (w : List ℕ) (t : ℕ) (key : Sent) (j : Judged) (is : Ok j ≡ judged Absolute s w t key) where
+  goes-early : early Absolute s w t key ≡ 0
+  goes-early = (judged-ok Absolute s w t key false j is).0
 
-    pub goes-passed : Passed Absolute s w t key
-    goes-passed = passed Absolute s w t key goes-early
+  pub goes-passed : Passed Absolute s w t key
+  goes-passed = passed Absolute s w t key goes-early
 
-    goes-slot : j.slot ≡ slot_in s w t key
-    goes-slot = ap (λ (y : Judged). y.slot) g.is ∙ slot_is Absolute s w t key goes-early
+  goes-slot : j.slot ≡ slot_in s w t key
+  goes-slot = (judged-ok Absolute s w t key false j is).1
 
-    goes_left : j.none ≡ none_left w key.caller
-    goes_left = ap (λ (y : Judged). y.none) g.is ∙ none_is Absolute s w t key (slot_in s w t key) goes-early
+  goes_left : j.none ≡ none_left w key.caller
+  goes_left = (judged-ok Absolute s w t key false j is).2
 
-    pub room_fits : Room w
-    room_fits = goes-passed.room
+  pub room_fits : Room w
+  room_fits = goes-passed.room
 
-    pub window-fits : window_in s ≤ most_window
-    window-fits = goes-passed.settings.window-high
+  pub window-fits : window_in s ≤ most_window
+  window-fits = goes-passed.settings.window-high
 
-    pub bucket-fits : bucket_in s ≤ most_bucket
-    bucket-fits = goes-passed.settings.bucket-high
+  pub bucket-fits : bucket_in s ≤ most_bucket
+  bucket-fits = goes-passed.settings.bucket-high
 
-    -- a change made by a rule, at a place given by a rule, of the slot in hand
-    goes-applies : (at : Slot → ℕ) (rule : Slot → Change) (u : Change) → u ≡ rule j.slot →
-        Applies w (at (slot_in s w t key)) (join_ticks s) t (rule (slot_in s w t key)) →
-        Applies w (at j.slot) (join_ticks s) t u
-    goes-applies at rule u e a = rw (e, goes-slot) a
+  -- a change made by a rule, at a place given by a rule, of the slot in hand
+  goes-applies : (at : Slot → ℕ) (rule : Slot → Change) (u : Change) → u ≡ rule j.slot →
+      Applies w (at (slot_in s w t key)) (join_ticks s) t (rule (slot_in s w t key)) →
+      Applies w (at j.slot) (join_ticks s) t u
+  goes-applies at rule u e a = rw (e, goes-slot) a
 
-    goes-done : {A : Type 0} (turned : ℕ → A) (own : Slot → List (ℕ × Bool)) (answer : Slot → A) (at : Slot → ℕ) (rule : Slot → Change) →
-        first (own j.slot) ≡ 0 → (u : Change) → u ≡ rule j.slot → (v : List ℕ) → v ≡ applied w (at j.slot) key (join_ticks s) t u →
-        Told (call turned Absolute s w t key (own (slot_in s w t key))
-        (verdict (answer (slot_in s w t key)) (applied w (at (slot_in s w t key)) key (join_ticks s) t (rule (slot_in s w t key))))) (answer j.slot) v
-    goes-done turned own answer at rule n u e v f =
-        call-done turned Absolute s w t key (own (slot_in s w t key)) _ (answer j.slot) v goes-early (ap (λ (y : Slot). first (own y)) (sym goes-slot) ∙ n)
-        (record {
-          answer = ap answer goes-slot;
-          words = f ∙ ap (applied w (at j.slot) key (join_ticks s) t) e ∙ ap (λ (y : Slot). applied w (at y) key (join_ticks s) t (rule y)) goes-slot;
-        })
+  goes-done : {A : Type 0} (turned : ℕ → A) (own : Slot → List (ℕ × Bool)) (answer : Slot → A) (at : Slot → ℕ) (rule : Slot → Change) →
+      first (own j.slot) ≡ 0 → (u : Change) → u ≡ rule j.slot → (v : List ℕ) → v ≡ applied w (at j.slot) key (join_ticks s) t u →
+      Told (call turned Absolute s w t key (own (slot_in s w t key))
+      (verdict (answer (slot_in s w t key)) (applied w (at (slot_in s w t key)) key (join_ticks s) t (rule (slot_in s w t key))))) (answer j.slot) v
+  goes-done turned own answer at rule n u e v f =
+      call-done turned Absolute s w t key (own (slot_in s w t key)) _ (answer j.slot) v goes-early (ap (λ (y : Slot). first (own y)) (sym goes-slot) ∙ n)
+      (record {
+        answer = ap answer goes-slot;
+        words = f ∙ ap (applied w (at j.slot) key (join_ticks s) t) e ∙ ap (λ (y : Slot). applied w (at y) key (join_ticks s) t (rule y)) goes-slot;
+      })
 
-    pub get-fits : (u : Change) → u ≡ get_change j.slot → Applies w j.slot.at (join_ticks s) t u
-    get-fits u e = goes-applies (λ (y : Slot). y.at) get_change u e (get-applies s w t key goes-passed)
+  pub get-fits : (u : Change) → u ≡ get_change j.slot → Applies w j.slot.at (join_ticks s) t u
+  get-fits u e = goes-applies (λ (y : Slot). y.at) get_change u e (get-applies s w t key goes-passed)
 
-    pub get-done : (u : Change) → u ≡ get_change j.slot → (v : List ℕ) → v ≡ applied w j.slot.at key (join_ticks s) t u →
-        Told (Calls.get s w t key) (total.Total j.slot.pass.live_total) v
-    unfolding get first
-    get-done u e v f =
-        told-as (get-opened s w t key)
-        (goes-done total.Refused (λ (y : Slot). []) (λ (y : Slot). total.Total y.pass.live_total) (λ (y : Slot). y.at) get_change refl u e v f)
+  pub get-done : (u : Change) → u ≡ get_change j.slot → (v : List ℕ) → v ≡ applied w j.slot.at key (join_ticks s) t u →
+      Told (Calls.get s w t key) (Ok j.slot.pass.live_total) v
+  unfolding get first
+  get-done u e v f =
+      told-as (get-opened s w t key)
+      (goes-done refuse (λ (y : Slot). []) (λ (y : Slot). Ok y.pass.live_total) (λ (y : Slot). y.at) get_change refl u e v f)
 
 -- ---- judged as a first look leaves it; again says whether the test was made again
 
-module _ (s : Settings) (w : List ℕ) (t : ℕ) (key : Sent) (j : Judged) (is : j ≡ judged_first Absolute s w t key) where
-  first_code : j.code ≡ early Absolute s w t key
-  first_code = ap (λ (y : Judged). y.code) is ∙ code_is Absolute s w t key (looked_in s w t key)
+module _ (s : Settings) (w : List ℕ) (t : ℕ) (key : Sent) (j : Judged) (is : Ok j ≡ judged_first Absolute s w t key) where
+  first-early : early Absolute s w t key ≡ 0
+  first-early = (judged-ok Absolute s w t key true j is).0
 
-  pub ask-refused : (j.code ≡ 0 → ⊥) → Told (Calls.is_allowed s w t key) (decision.Refused j.code) w
-  unfolding Calls.is_allowed
-  ask-refused z = call-early decision.Refused Absolute s w t key [] _ j.code first_code z
+  first-passed : Passed Absolute s w t key
+  first-passed = passed Absolute s w t key first-early
 
-  module _ (none : j.code ≡ 0) where
-    first-early : early Absolute s w t key ≡ 0
-    first-early = sym first_code ∙ none
+  first_slot : j.slot ≡ looked_in s w t key
+  first_slot = (judged-ok Absolute s w t key true j is).1
 
-    first-passed : Passed Absolute s w t key
-    first-passed = passed Absolute s w t key first-early
+  pub ask-window : window_in s ≤ most_window
+  ask-window = first-passed.settings.window-high
 
-    first_slot : j.slot ≡ looked_in s w t key
-    first_slot = ap (λ (y : Judged). y.slot) is ∙ slot_is Absolute s w t key first-early
+  pub ask-bucket : bucket_in s ≤ most_bucket
+  ask-bucket = first-passed.settings.bucket-high
 
-    pub ask-window : window_in s ≤ most_window
-    ask-window = first-passed.settings.window-high
+  -- it stands where the key's slot does, and its words are the same
+  first-at : j.slot.at ≡ (slot_in s w t key).at
+  first-at = ap (λ (y : Slot). y.at) first_slot ∙ look_at (look_ticks s) t (slot_in s w t key)
 
-    pub ask-bucket : bucket_in s ≤ most_bucket
-    ask-bucket = first-passed.settings.bucket-high
+  first-again : again_in j.slot ≡ again_in (slot_in s w t key)
+  unfolding evicts
+  first-again =
+      ap again_in first_slot ∙
+      ap₂ (λ (limit n : ℕ). not (below (cut_word limit) n)) (look-limit (look_ticks s) t (slot_in s w t key)) (look-total (look_ticks s) t (slot_in s w t key))
 
-    -- it stands where the key's slot does, and its words are the same
-    first-at : j.slot.at ≡ (slot_in s w t key).at
-    first-at = ap (λ (y : Slot). y.at) first_slot ∙ look_at (look_ticks s) t (slot_in s w t key)
+  first-decided : decided_at (ticks_in s) s.window_size t (allowed_at (cut_word j.slot.limit) j.slot) j.slot ≡ decided_in s t (slot_in s w t key)
+  first-decided =
+      ap (λ (y : Slot). decided_at (ticks_in s) s.window_size t (allowed_at (cut_word y.limit) y) y) first_slot ∙
+      ap (λ (limit : ℕ). decided_at (ticks_in s) s.window_size t (allowed_at (cut_word limit) (looked_in s w t key)) (looked_in s w t key))
+      (look-limit (look_ticks s) t (slot_in s w t key))
 
-    first-again : again_in j.slot ≡ again_in (slot_in s w t key)
-    unfolding evicts
-    first-again =
-        ap again_in first_slot ∙
-        ap₂ (λ (limit n : ℕ). not (below (cut_word limit) n)) (look-limit (look_ticks s) t (slot_in s w t key)) (look-total (look_ticks s) t (slot_in s w t key))
+  pub ask-fits : (again : Bool) (u : Change) → u ≡ ask_change again j.slot → Applies w j.slot.at (join_ticks s) t u
+  ask-fits again u e =
+      subst (λ (n : ℕ). Applies w n (join_ticks s) t u) (sym first-at)
+      (subst (Applies w (slot_in s w t key).at (join_ticks s) t) (sym (e ∙ ap (ask_change again) first_slot)) (ask-applies s w t key first-passed again))
 
-    first-decided : decided_at (ticks_in s) s.window_size t (allowed_at (cut_word j.slot.limit) j.slot) j.slot ≡ decided_in s t (slot_in s w t key)
-    first-decided =
-        ap (λ (y : Slot). decided_at (ticks_in s) s.window_size t (allowed_at (cut_word y.limit) y) y) first_slot ∙
-        ap (λ (limit : ℕ). decided_at (ticks_in s) s.window_size t (allowed_at (cut_word limit) (looked_in s w t key)) (looked_in s w t key))
-        (look-limit (look_ticks s) t (slot_in s w t key))
-
-    pub ask-fits : (again : Bool) (u : Change) → u ≡ ask_change again j.slot → Applies w j.slot.at (join_ticks s) t u
-    ask-fits again u e =
-        subst (λ (n : ℕ). Applies w n (join_ticks s) t u) (sym first-at)
-        (subst (Applies w (slot_in s w t key).at (join_ticks s) t) (sym (e ∙ ap (ask_change again) first_slot)) (ask-applies s w t key first-passed again))
-
-    pub ask-done : (again : Bool) → again ≡ again_in j.slot → (u : Change) → u ≡ ask_change again j.slot → (v : List ℕ) →
-        v ≡ applied w j.slot.at key (join_ticks s) t u → (d : RateLimitDecision) →
-        d ≡ decided_at (ticks_in s) s.window_size t (allowed_at (cut_word j.slot.limit) j.slot) j.slot → Told (Calls.is_allowed s w t key) d v
-    unfolding is_allowed first
-    ask-done again g u e v f d q =
-        told-as (ask-opened s w t key)
-        (call-done decision.Refused Absolute s w t key [] _ d v first-early refl
-        (record {
-          answer = q ∙ first-decided;
-          words =
-              f ∙ ap (λ (n : ℕ). applied w n key (join_ticks s) t u) first-at ∙
-              ap (applied w (slot_in s w t key).at key (join_ticks s) t) (e ∙ ap₂ ask_change (g ∙ first-again) first_slot);
-        }))
+  pub ask-done : (again : Bool) → again ≡ again_in j.slot → (u : Change) → u ≡ ask_change again j.slot → (v : List ℕ) →
+      v ≡ applied w j.slot.at key (join_ticks s) t u → (d : RateLimitDecision) →
+      d ≡ decided_at (ticks_in s) s.window_size t (allowed_at (cut_word j.slot.limit) j.slot) j.slot → Told (Calls.is_allowed s w t key) d v
+  unfolding is_allowed first
+  ask-done again g u e v f d q =
+      told-as (ask-opened s w t key)
+      (call-done decision.Refused Absolute s w t key [] _ d v first-early refl
+      (record {
+        answer = q ∙ first-decided;
+        words =
+            f ∙ ap (λ (n : ℕ). applied w n key (join_ticks s) t u) first-at ∙
+            ap (applied w (slot_in s w t key).at key (join_ticks s) t) (e ∙ ap₂ ask_change (g ∙ first-again) first_slot);
+      }))
 
 -- ---- an increment: at is its place, may whether it is allowed, out whether the expired buckets are taken out
 
 module _ (s : Settings) (w : List ℕ) (t : ℕ) (key : Sent) (rate : RateLimit) (c : ℕ) (j : Judged) where
-  pub inc-refused : j ≡ judged Absolute s w t key → (j.code ≡ 0 → ⊥) → Told (Calls.inc s w t key rate c) (decision.Refused j.code) w
-  unfolding Calls.inc
-  inc-refused e z = call-early decision.Refused Absolute s w t key _ _ j.code (refuses s w t key j e) z
-
   -- what the code found, and the number of the refusal
   pub record Finds (at : ℕ) (may out : Bool) (n : ℕ) : Type 0 where
-    pub goes : Goes s w t key j
+    pub goes : Ok j ≡ judged Absolute s w t key
     pub place_is : at ≡ place_of w j.slot
     pub may-is : may ≡ may_in s t j.slot
     pub out-is : out ≡ out_in s w t c j.slot

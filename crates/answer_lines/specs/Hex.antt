@@ -1,8 +1,10 @@
 -- Hex digits are read and shown: a turn of the reading loop and its ends; reading undoes showing.
 -- Assumes nothing.
-use Rattle.std.specs.Prelude.{◌≡◌, refl, Bool, true, false, cond, ◌||◌, List, [], ◌∷◌, ◌++◌, ℕ, zero, suc, ◌+◌, ◌-◌, ◌*◌, ◌/◌, ◌%◌, ◌≤◌, ◌<◌, length, get_or, take, drop, leb, ltb}
-use Rattle.std.proofs.Common.{sym, ap, ◌∙◌, inr, append_assoc, append-nil, mod-lt, add-one, take-append-drop, drop-cons, drop-drop, length-take-le, le-leb, leb-true, lt-ltb, le-ltb}
+use Rattle.std.specs.Prelude.{◌≡◌, refl, Bool, true, false, cond, ◌||◌, List, [], ◌∷◌, ◌++◌, ℕ, zero, suc, ◌+◌, ◌-◌, ◌*◌, ◌/◌, ◌%◌, ◌≤◌, ◌<◌, Option, Some, None, length, get_or, take, drop, leb, ltb}
+use Rattle.std.proofs.Common.{sym, ap, ◌∙◌, inr, append_assoc, append-nil, mod-lt, add-one, take-append-drop, length-drop, drop-cons, drop-drop, length-take-le, le-leb, leb-true, lt-ltb, le-ltb}
 use Rattle.std.proofs.lemmas.Bool.{false≢true, lt-leb}
+use Rattle.std.specs.List.{slice_range}
+use Rattle.std.proofs.lemmas.List.{take_all, get_or-take, get_or-drop}
 use Rattle.std.proofs.Math.Decide.{dec_lt}
 use native.Mathlib.Omega.{arith}
 use Rattle.std.proofs.Math.Seq.{take-append_seam}
@@ -11,8 +13,7 @@ use Rattle.fields.specs.Numbers.{Each, each_append}
 use Rattle.fields.specs.Parts.{run}
 use Rattle.fields.specs.Ranges.{largest}
 use Rattle.fields.specs.Turns.{run_on, run-stop, run_past, run_length}
-use Rattle.fields.specs.declared.Number.TheVariants.{Found, NoNumber}
-use Rattle.lines.specs.ReadLaws.{both}
+use Rattle.lines.specs.ReadLaws.{both, pair_is}
 use Rattle.printing.specs.Answers.{hex_digit, hex_digits, show_hex16}
 use Rattle.printing.specs.HexLaws.{hex_of, hex_from, sixteen_to, hex-show}
 use Rattle.printing.specs.Printing.{hex-length}
@@ -62,41 +63,45 @@ digit-hex d h = go (dec_lt d 10)
         rw (le-ltb d 10 l) (second (within 48 57 (87 + d)) (within 97 102 (87 + d)) (inside 97 102 (87 + d) (omega arith) (omega arith)))
 
 -- the value by the byte's range
-pub value-decimal : (b : ℕ) → 48 ≤ b → b ≤ 57 → b - 48 ≡ hex_value b
+pub value-decimal : (b : ℕ) → 48 ≤ b → b ≤ 57 → Some (b - 48) ≡ hex_value b
 unfolding hex_value is_hex hex_of
 value-decimal b h k = let l : b < 58 = omega arith in rw (inside 48 57 b h k, lt-ltb b 58 l)
 
-pub value-letter : (b : ℕ) → 97 ≤ b → b ≤ 102 → (b - 97) + 10 ≡ hex_value b
+pub value-letter : (b : ℕ) → 97 ≤ b → b ≤ 102 → Some ((b - 97) + 10) ≡ hex_value b
 unfolding hex_value is_hex hex_of
 value-letter b h k =
     let l : 58 ≤ b = omega arith in
     let o : 57 < b = omega arith in
-    rw (outside 48 57 b (inr o), inside 97 102 b h k, le-ltb b 58 l) (omega arith)
+    let e : (b - 97) + 10 ≡ b - 87 = omega arith in
+    rw (outside 48 57 b (inr o), inside 97 102 b h k, le-ltb b 58 l) (ap (λ (n : ℕ). Some n) e)
 
-pub value_none : (b : ℕ) → Outside 48 57 b → Outside 97 102 b → 16 ≡ hex_value b
+pub value_none : (b : ℕ) → Outside 48 57 b → Outside 97 102 b → None ≡ hex_value b
 unfolding hex_value is_hex
 value_none b h k = rw (outside 48 57 b h, outside 97 102 b k)
 
 -- what the code takes for a hex digit is one
-pub value-hex : (b r : ℕ) → r ≡ hex_value b → r ≤ 15 → is_hex b ≡ true
+pub value-hex : (b r : ℕ) → Some r ≡ hex_value b → is_hex b ≡ true
 unfolding hex_value
-value-hex b r e h = go (is_hex b) e
+value-hex b r e = go (is_hex b) e
   where
-    go : (t : Bool) → r ≡ cond t (hex_of b) 16 → t ≡ true
+    go : (t : Bool) → Some r ≡ cond t (Some (hex_of b)) None → t ≡ true
     go true f = refl
-    go false f = absurd (omega (arith, f))
+    go false f = absurd (let z : ◌≡◌ {A = ℕ} 0 1 = cc in omega arith)
 
-pub value_of : (b r : ℕ) → r ≡ hex_value b → r ≤ 15 → r ≡ hex_of b
+pub value_of : (b r : ℕ) → Some r ≡ hex_value b → r ≡ hex_of b
 unfolding hex_value
-value_of b r e h = e ∙ rw (value-hex b r e h)
+value_of b r e = let f : Some r ≡ Some (hex_of b) = e ∙ rw (value-hex b r e) in cc
 
-pub value-bad : (b r : ℕ) → r ≡ hex_value b → 15 < r → is_hex b ≡ false
+pub value-small : (b r : ℕ) → Some r ≡ hex_value b → r < 16
+value-small b r e = omega (arith, value_of b r e, (hex-byte b (value-hex b r e)).small)
+
+pub value-bad : (b : ℕ) → None ≡ hex_value b → is_hex b ≡ false
 unfolding hex_value
-value-bad b r e h = go (is_hex b) refl e
+value-bad b e = go (is_hex b) e
   where
-    go : (t : Bool) → is_hex b ≡ t → r ≡ cond t (hex_of b) 16 → t ≡ false
-    go true q f = absurd (omega (arith, f, (hex-byte b q).small))
-    go false q f = refl
+    go : (t : Bool) → None ≡ cond t (Some (hex_of b)) None → t ≡ false
+    go true f = absurd (let z : ◌≡◌ {A = ℕ} 0 1 = cc in omega arith)
+    go false f = refl
 
 -- ---- the loop
 
@@ -108,8 +113,10 @@ pub record HexTurn (line : List ℕ) (at i j v : ℕ) : Type 0 where
   pub counts : hex_from 0 (take hex_length (drop at line)) ≡ hex_from v (take (hex_length - i) (drop j line))
   pub small : v < sixteen_to i
 
-pub hex-start : (line : List ℕ) (at : ℕ) → HexTurn line at 0 at 0
-hex-start line at = record { place = omega arith; few = omega arith; runs = omega arith; counts = refl; small = omega arith }
+pub hex-start : (line : List ℕ) (at : ℕ) → HexTurn line at 0 (at + 0) 0
+hex-start line at =
+    let e : at + 0 ≡ at = omega arith in
+    record { place = refl; few = omega arith; runs = rw e (omega arith); counts = rw e; small = omega arith }
 
 byte_next : (line : List ℕ) (j : ℕ) → j < length line → drop j line ≡ get_or line j 0 ∷ drop (j + 1) line
 byte_next line j h = rw (add-one, drop-cons line j 0)
@@ -126,10 +133,10 @@ hex-room i v h l =
     omega (arith, m, l)
 
 module _ (line : List ℕ) (at i j v : ℕ) (h : HexTurn line at i j v) where
-  pub hex-turn : (d : ℕ) → i < hex_length → j < length line → d ≡ hex_value (get_or line j 0) → d ≤ 15 → HexTurn line at (i + 1) (j + 1) (v * 16 + d)
-  hex-turn d l m e n =
-      let hex : is_hex (get_or line j 0) ≡ true = value-hex (get_or line j 0) d e n in
-      let is : d ≡ hex_of (get_or line j 0) = value_of (get_or line j 0) d e n in
+  pub hex-turn : (d : ℕ) → i < hex_length → j < length line → Some d ≡ hex_value (get_or line j 0) → HexTurn line at (i + 1) (j + 1) (v * 16 + d)
+  hex-turn d l m e =
+      let hex : is_hex (get_or line j 0) ≡ true = value-hex (get_or line j 0) d e in
+      let is : d ≡ hex_of (get_or line j 0) = value_of (get_or line j 0) d e in
       let k : hex_length - i ≡ suc (hex_length - (i + 1)) = omega arith in
       let more : hex_from v (take (hex_length - i) (drop j line)) ≡ hex_from (v * 16 + d) (take (hex_length - (i + 1)) (drop (j + 1) line)) =
       rw (byte_next line j m, k, is) in
@@ -139,26 +146,40 @@ module _ (line : List ℕ) (at i j v : ℕ) (h : HexTurn line at i j v) where
         few = omega arith;
         runs = omega (arith, h.runs, run_on is_hex line j m hex);
         counts = h.counts ∙ more;
-        small = omega (arith, s, h.small);
+        small = omega (arith, s, h.small, is, (hex-byte (get_or line j 0) hex).small);
       }
 
-  pub hex-done : hex_length ≤ i → hex_at line at ≡ Found v j
+  pub hex-done : hex_length ≤ i → hex_at line at ≡ Some (v, at + hex_length)
   unfolding hex_at
   hex-done l =
       let k : hex_length - i ≡ 0 = omega arith in
       let n : hex_length ≤ run is_hex (drop at line) = omega (arith, h.runs) in
-      let e : at + hex_length ≡ j = omega (arith, h.place, h.few) in
-      rw (le-leb _ _ n, h.counts, k, e)
+      rw (le-leb _ _ n, h.counts, k)
 
-  none : run is_hex (drop at line) < hex_length → hex_at line at ≡ NoNumber
+  none : run is_hex (drop at line) < hex_length → hex_at line at ≡ None
   unfolding hex_at
   none l = rw (lt-leb _ _ l)
 
-  pub hex-past : i < hex_length → length line ≤ j → hex_at line at ≡ NoNumber
+  pub hex-past : i < hex_length → length line ≤ j → hex_at line at ≡ None
   hex-past l m = none (omega (arith, h.runs, run_past is_hex line j m))
 
-  pub hex-bad : (d : ℕ) → i < hex_length → j < length line → d ≡ hex_value (get_or line j 0) → 15 < d → hex_at line at ≡ NoNumber
-  hex-bad d l m e n = none (omega (arith, h.runs, run-stop is_hex line j m (value-bad (get_or line j 0) d e n)))
+  pub hex-bad : i < hex_length → j < length line → None ≡ hex_value (get_or line j 0) → hex_at line at ≡ None
+  hex-bad l m e = none (omega (arith, h.runs, run-stop is_hex line j m (value-bad (get_or line j 0) e)))
+
+-- the digits are lent as a part of the line
+pub digit-in : (line rest digits : List ℕ) (at i : ℕ) → rest ≡ slice_range line at (length line) → digits ≡ slice_range rest 0 hex_length → at ≤ length line →
+    i < hex_length → get_or digits i 0 ≡ get_or line (at + i) 0
+digit-in line rest digits at i e f l h =
+    let k : length (drop at line) ≤ length line - at = omega (arith, length-drop at line) in
+    let r : rest ≡ drop at line = e ∙ take_all (length line - at) (drop at line) k in
+    rw (f, r, get_or-take hex_length (drop at line) i 0 h) (get_or-drop at line i 0)
+
+-- a line that is too short for the digits
+pub hex-short : (line : List ℕ) (at : ℕ) → length line < at + hex_length → hex_at line at ≡ None
+unfolding hex_at
+hex-short line at h =
+    let l : run is_hex (drop at line) < hex_length = omega (arith, run_length is_hex (drop at line), length-drop at line) in
+    rw (lt-leb _ _ l)
 
 -- ---- what is shown is read
 
@@ -172,7 +193,7 @@ unfolding run
 run-least [] rest e = omega arith
 run-least (x ∷ xs) rest e = rw e.0 (omega (arith, run-least xs rest e.1))
 
-pub hex-shown : (line rest : List ℕ) (at w : ℕ) → w ≤ largest → drop at line ≡ show_hex16 w ++ rest → hex_at line at ≡ Found w (at + hex_length)
+pub hex-shown : (line rest : List ℕ) (at w : ℕ) → w ≤ largest → drop at line ≡ show_hex16 w ++ rest → hex_at line at ≡ Some (w, at + hex_length)
 unfolding hex_at
 hex-shown line rest at w h e =
     let l : length (show_hex16 w) ≡ hex_length = hex-length 16 w in
@@ -237,14 +258,13 @@ found line at h =
       past = refl;
     }
 
-pub hex-read : (line : List ℕ) (at w next : ℕ) → hex_at line at ≡ Found w next → HexRead line at w next
+pub hex-read : (line : List ℕ) (at w next : ℕ) → hex_at line at ≡ Some (w, next) → HexRead line at w next
 unfolding hex_at
 hex-read line at w next e = go (leb hex_length (run is_hex (drop at line))) refl e
   where
     go : (t : Bool) → leb hex_length (run is_hex (drop at line)) ≡ t →
-        cond t (Found (hex_from 0 (take hex_length (drop at line))) (at + hex_length)) NoNumber ≡ Found w next → HexRead line at w next
+        cond {A = Option (ℕ × ℕ)} t (Some (hex_from 0 (take hex_length (drop at line)), at + hex_length)) None ≡ Some (w, next) → HexRead line at w next
     go true q f =
-        let v : hex_from 0 (take hex_length (drop at line)) ≡ w = cc in
-        let n : at + hex_length ≡ next = cc in
-        rw (← v, ← n) (found line at (leb-true _ _ q))
+        let r = pair_is (hex_from 0 (take hex_length (drop at line))) w (at + hex_length) next f in
+        rw (r.0, r.1) (found line at (leb-true _ _ q))
     go false q f = absurd (let z : ◌≡◌ {A = ℕ} 0 1 = cc in omega arith)

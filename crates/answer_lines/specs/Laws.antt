@@ -1,12 +1,10 @@
 -- Reading and printing a line undo each other: a line is read exactly where an answer's line, with words of 64 bits, prints as it, and as that one.
 -- Assumes nothing.
-use Rattle.std.specs.Prelude.{◌≡◌, refl, false, List, ◌++◌, ℕ, ◌+◌, ◌≤◌, length, drop}
+use Rattle.std.specs.Prelude.{◌≡◌, refl, false, List, ◌++◌, ℕ, ◌+◌, ◌≤◌, Option, Some, None, length, drop}
 use Rattle.std.proofs.Common.{sym, ap, subst, ◌∙◌, append_assoc, arith, length-append}
 use Rattle.fields.specs.Numbers.{show_number}
 use Rattle.fields.specs.Parts.{begins, text_at, field_at, on_place}
 use Rattle.fields.specs.Ranges.{largest}
-use Rattle.fields.specs.declared.Place.{Place}
-use Rattle.fields.specs.declared.Place.TheVariants.{At, Missing}
 use Rattle.lines.specs.Laws.{Spaced, spaced-stops, show_numbers, NumbersFit, ReadNumbers, numbers-read, numbers-shown}
 use Rattle.lines.specs.ReadLaws.{Field, each_number, each-place, each-numbers, past-part, past-field, text-shown, text-read, field-shown, field-read}
 use Rattle.lines.specs.Reading.{numbers_at}
@@ -16,14 +14,10 @@ use Rattle.printing.specs.Printing.{hex-length}
 use Rattle.printing.specs.declared.Answer.{Answer}
 use Rattle.printing.specs.declared.Answer.TheVariants.{Allowed, Rejected, Yes, No, Value, Held, Refused}
 use Rattle.printing.specs.declared.AnswerLine.{AnswerLine}
-use Rattle.answer_lines.specs.Reading.{hex_length, hex_at, word_if, any_word, word_at, on_word, verdict_at, on_verdict, read_answer}
-use Rattle.answer_lines.specs.Hex.{HexRead, hex-read, hex-shown}
-use Rattle.answer_lines.specs.declared.Word.{Word}
-use Rattle.answer_lines.specs.declared.Word.TheVariants as word
+use Rattle.std.specs.Option.{option_or}
+use Rattle.answer_lines.specs.Reading.{the_verdict, hex_length, hex_at, word_if, any_word, word_at, on_word, verdict_at, on_verdict, read_answer}
 use Rattle.answer_lines.specs.declared.Verdict.{Verdict}
-use Rattle.answer_lines.specs.declared.Verdict.TheVariants as verdict
-use Rattle.answer_lines.specs.declared.Printed.{Printed}
-use Rattle.answer_lines.specs.declared.Printed.TheVariants as printed
+use Rattle.answer_lines.specs.Hex.{HexRead, hex-read, hex-shown}
 
 -- ---- words
 
@@ -36,7 +30,34 @@ word-spaced Value = refl
 word-spaced Held = refl
 word-spaced Refused = refl
 
-any-shown : (line rest : List ℕ) (at : ℕ) (a : Answer) → drop at line ≡ word_text a ++ rest → any_word line at ≡ word.Is a (at + length (word_text a))
+-- the first of the words that stands at `at`, as it is looked for
+abbrev word_found : List ℕ → ℕ → Answer → Option (Answer × ℕ)
+word_found line at a = word_if line at (word_text a) a None
+
+pub any-or : (line : List ℕ) (at : ℕ) →
+    option_or (option_or (option_or (option_or (option_or (option_or (word_found line at Allowed) (word_found line at Rejected)) (word_found line at Yes))
+    (word_found line at No)) (word_found line at Value)) (word_found line at Held)) (word_found line at Refused) ≡ any_word line at
+unfolding any_word word_if
+any-or line at =
+    go (text_at line at (word_text Allowed)) (text_at line at (word_text Rejected)) (text_at line at (word_text Yes)) (text_at line at (word_text No))
+    (text_at line at (word_text Value)) (text_at line at (word_text Held)) (text_at line at (word_text Refused))
+  where
+    one : Option ℕ → Answer → Option (Answer × ℕ) → Option (Answer × ℕ)
+    one m a other = on_place m other (λ next. Some (a, next))
+
+    go : (p q r s t u v : Option ℕ) →
+        option_or (option_or (option_or (option_or (option_or (option_or (one p Allowed None) (one q Rejected None)) (one r Yes None)) (one s No None))
+        (one t Value None)) (one u Held None)) (one v Refused None) ≡
+        one p Allowed (one q Rejected (one r Yes (one s No (one t Value (one u Held (one v Refused None))))))
+    go (Some k) q r s t u v = refl
+    go None (Some k) r s t u v = refl
+    go None None (Some k) s t u v = refl
+    go None None None (Some k) t u v = refl
+    go None None None None (Some k) u v = refl
+    go None None None None None (Some k) v = refl
+    go None None None None None None v = refl
+
+any-shown : (line rest : List ℕ) (at : ℕ) (a : Answer) → drop at line ≡ word_text a ++ rest → any_word line at ≡ Some (a, at + length (word_text a))
 unfolding any_word word_if text_at begins
 any-shown line rest at Allowed e = rw e
 any-shown line rest at Rejected e = rw e
@@ -46,54 +67,54 @@ any-shown line rest at Value e = rw e
 any-shown line rest at Held e = rw e
 any-shown line rest at Refused e = rw e
 
-word-shown : (line rest : List ℕ) (at : ℕ) (a : Answer) → drop at line ≡ answer_text a ++ rest → word_at line at ≡ word.Is a (at + length (answer_text a))
+word-shown : (line rest : List ℕ) (at : ℕ) (a : Answer) → drop at line ≡ answer_text a ++ rest → word_at line at ≡ Some (a, at + length (answer_text a))
 unfolding word_at
 word-shown line rest at a e =
     let named : drop at line ≡ answer_name ++ (word_text a ++ rest) = e ∙ append_assoc answer_name (word_text a) rest in
     let past : drop (at + length answer_name) line ≡ word_text a ++ rest = past-part line answer_name (word_text a ++ rest) at named in
     let long : at + length answer_name + length (word_text a) ≡ at + length (answer_text a) = simp length-append (omega arith) in
-    rw (text-shown line answer_name (word_text a ++ rest) at named) (any-shown line rest (at + length answer_name) a past ∙ ap (word.Is a) long)
+    rw (text-shown line answer_name (word_text a ++ rest) at named) (any-shown line rest (at + length answer_name) a past ∙ ap (λ (n : ℕ). Some (a, n)) long)
 
-abbrev WordRead : List ℕ → ℕ → Word → Type 0
-WordRead line at (word.Is a next) = (next ≡ at + length (word_text a)) × (drop at line ≡ word_text a ++ drop next line)
-WordRead line at word.NoWord = Unit {0}
+abbrev WordRead : List ℕ → ℕ → Option (Answer × ℕ) → Type 0
+WordRead line at (Some p) = (p.1 ≡ at + length (word_text p.0)) × (drop at line ≡ word_text p.0 ++ drop p.1 line)
+WordRead line at None = Unit {0}
 
-word-if : (line : List ℕ) (at : ℕ) (a : Answer) (other : Word) → WordRead line at other → WordRead line at (word_if line at (word_text a) a other)
+word-if : (line : List ℕ) (at : ℕ) (a : Answer) (other : Option (Answer × ℕ)) → WordRead line at other → WordRead line at (word_if line at (word_text a) a other)
 unfolding word_if
 word-if line at a other h = go (text_at line at (word_text a)) refl
   where
-    go : (m : Place) → text_at line at (word_text a) ≡ m → WordRead line at (on_place m other (λ next. word.Is a next))
-    go (At k) q = text-read line (word_text a) at k q
-    go Missing q = h
+    go : (m : Option ℕ) → text_at line at (word_text a) ≡ m → WordRead line at (on_place m other (λ next. Some (a, next)))
+    go (Some k) q = text-read line (word_text a) at k q
+    go None q = h
 
-any-read : (line : List ℕ) (at : ℕ) (a : Answer) (next : ℕ) → any_word line at ≡ word.Is a next →
+any-read : (line : List ℕ) (at : ℕ) (a : Answer) (next : ℕ) → any_word line at ≡ Some (a, next) →
     (next ≡ at + length (word_text a)) × (drop at line ≡ word_text a ++ drop next line)
 unfolding any_word
 any-read line at a next e =
-    subst (λ (m : Word). WordRead line at m) e
+    subst (λ (m : Option (Answer × ℕ)). WordRead line at m) e
     (word-if line at Allowed _ (word-if line at Rejected _ (word-if line at Yes _ (word-if line at No _
-    (word-if line at Value _ (word-if line at Held _ (word-if line at Refused word.NoWord tt)))))))
+    (word-if line at Value _ (word-if line at Held _ (word-if line at Refused None tt)))))))
 
-word_read : (line : List ℕ) (at : ℕ) (a : Answer) (next : ℕ) → word_at line at ≡ word.Is a next → drop at line ≡ answer_text a ++ drop next line
+word_read : (line : List ℕ) (at : ℕ) (a : Answer) (next : ℕ) → word_at line at ≡ Some (a, next) → drop at line ≡ answer_text a ++ drop next line
 unfolding word_at
 word_read line at a next e = go (text_at line at answer_name) refl e
   where
-    go : (m : Place) → text_at line at answer_name ≡ m → on_place m word.NoWord (λ k. any_word line k) ≡ word.Is a next →
+    go : (m : Option ℕ) → text_at line at answer_name ≡ m → on_place m None (λ k. any_word line k) ≡ Some (a, next) →
         drop at line ≡ answer_text a ++ drop next line
-    go (At k) q f =
+    go (Some k) q f =
         (text-read line answer_name at k q).1 ∙ ap (λ (x : List ℕ). answer_name ++ x) (any-read line k a next f).1 ∙
         sym (append_assoc answer_name (word_text a) (drop next line))
-    go Missing q f = absurd (let z : ◌≡◌ {A = ℕ} 0 1 = cc in omega arith)
+    go None q f = absurd (let z : ◌≡◌ {A = ℕ} 0 1 = cc in omega arith)
 
-each_word : {A : Type 0} (P : A → Type 0) (m : Word) (bad : A) (k : Answer → ℕ → A) → P bad → ((a : Answer) (n : ℕ) → m ≡ word.Is a n → P (k a n)) →
+each_word : {A : Type 0} (P : A → Type 0) (m : Option (Answer × ℕ)) (bad : A) (k : Answer → ℕ → A) → P bad → ((a : Answer) (n : ℕ) → m ≡ Some (a, n) → P (k a n)) →
     P (on_word m bad k)
-each_word P (word.Is a n) bad k b f = f a n refl
-each_word P word.NoWord bad k b f = b
+each_word P (Some p) bad k b f = f p.0 p.1 refl
+each_word P None bad k b f = b
 
-each-verdict : {A : Type 0} (P : A → Type 0) (m : Verdict) (bad : A) (k : ℕ → ℕ → Answer → ℕ → ℕ → A) → P bad →
-    ((t code : ℕ) (a : Answer) (factor n : ℕ) → m ≡ verdict.Is t code a factor n → P (k t code a factor n)) → P (on_verdict m bad k)
-each-verdict P (verdict.Is t code a factor n) bad k b f = f t code a factor n refl
-each-verdict P verdict.NoVerdict bad k b f = b
+each-verdict : {A : Type 0} (P : A → Type 0) (m : Option Verdict) (bad : A) (k : ℕ → ℕ → Answer → ℕ → ℕ → A) → P bad →
+    ((t code : ℕ) (a : Answer) (factor n : ℕ) → m ≡ Some (the_verdict t code a factor n) → P (k t code a factor n)) → P (on_verdict m bad k)
+each-verdict P (Some v) bad k b f = f v.t v.code v.answer v.factor v.next refl
+each-verdict P None bad k b f = b
 
 -- ---- the first four fields, with what comes behind them
 
@@ -125,9 +146,9 @@ record ReadVerdict (line : List ℕ) (t code : ℕ) (a : Answer) (factor next : 
   fits : VerdictFits t code factor
   shows : line ≡ verdict_then t code a factor (drop next line)
 
-abbrev VerdictRead : List ℕ → Verdict → Type 0
-VerdictRead line (verdict.Is t code a factor next) = ReadVerdict line t code a factor next
-VerdictRead line verdict.NoVerdict = Unit {0}
+abbrev VerdictRead : List ℕ → Option Verdict → Type 0
+VerdictRead line (Some v) = ReadVerdict line v.t v.code v.answer v.factor v.next
+VerdictRead line None = Unit {0}
 
 verdict-joined : (line : List ℕ) (t code : ℕ) (w : Answer) (factor a b c d next : ℕ) → Field line 0 t_text t a → Field line a code_text code b →
     drop b line ≡ answer_text w ++ drop c line → (d ≡ c + length factor_text) × (drop c line ≡ factor_text ++ drop d line) → HexRead line d factor next → ReadVerdict line t code w factor next
@@ -141,20 +162,20 @@ verdict-joined line t code w factor a b c d next p q r s h = record {
 verdict-found : (line : List ℕ) → VerdictRead line (verdict_at line)
 unfolding verdict_at
 verdict-found line =
-    each_number (VerdictRead line) (field_at line 0 t_text) verdict.NoVerdict _ tt
+    each_number (VerdictRead line) (field_at line 0 t_text) None _ tt
     (λ t a p.
-    each_number (VerdictRead line) (field_at line a code_text) verdict.NoVerdict _ tt
+    each_number (VerdictRead line) (field_at line a code_text) None _ tt
     (λ code b q.
-    each_word (VerdictRead line) (word_at line b) verdict.NoVerdict _ tt
+    each_word (VerdictRead line) (word_at line b) None _ tt
     (λ w c r.
-    each-place (VerdictRead line) (text_at line c factor_text) verdict.NoVerdict _ tt
+    each-place (VerdictRead line) (text_at line c factor_text) None _ tt
     (λ d s.
-    each_number (VerdictRead line) (hex_at line d) verdict.NoVerdict _ tt
+    each_number (VerdictRead line) (hex_at line d) None _ tt
     (λ factor next h.
     verdict-joined line t code w factor a b c d next (field-read line t_text 0 t a p) (field-read line code_text a code b q) (word_read line b w c r)
     (text-read line factor_text c d s) (hex-read line d factor next h))))))
 
-verdict-read : (line : List ℕ) (t code : ℕ) (a : Answer) (factor next : ℕ) → verdict_at line ≡ verdict.Is t code a factor next →
+verdict-read : (line : List ℕ) (t code : ℕ) (a : Answer) (factor next : ℕ) → verdict_at line ≡ Some (the_verdict t code a factor next) →
     ReadVerdict line t code a factor next
 verdict-read line t code a factor next e = subst (VerdictRead line) e (verdict-found line)
 
@@ -164,7 +185,7 @@ past_verdict t code w =
     0 + length t_text + length (show_number t) + length code_text + length (show_number code) + length (answer_text w) + length factor_text + hex_length
 
 record Behind (line : List ℕ) (t code : ℕ) (w : Answer) (factor : ℕ) (rest : List ℕ) : Type 0 where
-  is : verdict_at line ≡ verdict.Is t code w factor (past_verdict t code w)
+  is : verdict_at line ≡ Some (the_verdict t code w factor (past_verdict t code w))
   left : drop (past_verdict t code w) line ≡ rest
 
 verdict-shown : (line : List ℕ) (t code : ℕ) (w : Answer) (factor : ℕ) (rest : List ℕ) → VerdictFits t code factor → line ≡ verdict_then t code w factor rest →
@@ -228,9 +249,9 @@ pub record ReadLine (line : List ℕ) (l : AnswerLine) : Type 0 where
   pub shows : line ≡ show_answer l
 
 -- what is found in a line
-abbrev pub PrintedRead : List ℕ → Printed → Type 0
-PrintedRead line (printed.Answer l) = ReadLine line l
-PrintedRead line printed.Bad = Unit {0}
+abbrev pub PrintedRead : List ℕ → Option AnswerLine → Type 0
+PrintedRead line (Some l) = ReadLine line l
+PrintedRead line None = Unit {0}
 
 module _ (line : List ℕ) (t code : ℕ) (w : Answer) (factor wait left total declined next a : ℕ) where
   abbrev whole : AnswerLine
@@ -248,17 +269,17 @@ module _ (line : List ℕ) (t code : ℕ) (w : Answer) (factor wait left total d
 pub answer-read : (line : List ℕ) → PrintedRead line (read_answer line)
 unfolding read_answer
 answer-read line =
-    each-verdict (PrintedRead line) (verdict_at line) printed.Bad _ tt
+    each-verdict (PrintedRead line) (verdict_at line) None _ tt
     (λ t code w factor next p.
-    each_number (PrintedRead line) (field_at line next wait_text) printed.Bad _ tt
+    each_number (PrintedRead line) (field_at line next wait_text) None _ tt
     (λ wait a q.
-    each-numbers (PrintedRead line) (numbers_at line a left_text total_text declined_text) printed.Bad _ tt
+    each-numbers (PrintedRead line) (numbers_at line a left_text total_text declined_text) None _ tt
     (λ left total declined n.
     answer-joined line t code w factor wait left total declined next a (verdict-read line t code w factor next p) (field-read line wait_text next wait a q)
     (numbers-read line left_text total_text declined_text a left total declined n))))
 
 -- what is printed is read
-pub answer-shown : (line : List ℕ) (l : AnswerLine) → AnswerFits l → line ≡ show_answer l → read_answer line ≡ printed.Answer l
+pub answer-shown : (line : List ℕ) (l : AnswerLine) → AnswerFits l → line ≡ show_answer l → read_answer line ≡ Some l
 unfolding read_answer
 answer-shown line l f e =
     let rest : List ℕ = counts_then l.wait l.left l.total l.declined in

@@ -1,179 +1,111 @@
 // The lines that `desk` and `shots` print, read by the parts of the lines that they take. A line stands here without its newline.
 #![tactic(auto)]
 
-ghost use Rattle.std.specs.Prelude.{◌≡◌};
+ghost use Rattle.std.specs.Prelude.{◌≡◌, None};
 ghost use Rattle.answer_lines.specs.Reading.{hex_value, hex_at, word_if, any_word, word_at, verdict_at, read_answer};
 
-use fields::{Number, Place, field_at, text_at};
-use lines::{Numbers, numbers_at};
+use fields::{field_at, text_at};
+use lines::numbers_at;
 use printing::{Answer, AnswerLine};
 
 // ---- parts
 
-// What a hex digit counts; 16 for any other byte.
-fn hex_value(b: u8) -> u64
+// What a hex digit counts.
+fn hex_value(b: u8) -> Option<u64>
     ensures { result ≡ hex_value b }
 {
     match b {
-        b'0'..=b'9' => (b - b'0') as u64,
-        b'a'..=b'f' => (b - b'a') as u64 + 10,
-        _ => 16,
+        b'0'..=b'9' => Some((b - b'0') as u64),
+        b'a'..=b'f' => Some((b - b'a') as u64 + 10),
+        _ => None,
     }
 }
 
 const HEX_DIGITS: usize = 16;
 
-// The word whose 16 hex digits start at `at`.
-fn hex_at(line: &[u8], at: usize) -> Number
+// The word whose 16 hex digits start at `at`, and the place past them.
+fn hex_at(line: &[u8], at: usize) -> Option<(u64, usize)>
     ensures { result ≡ hex_at line.now at }
 {
+    let digits = line.get(at..)?.get(..HEX_DIGITS)?;
     let mut value: u64 = 0;
-    let mut i = 0;
-    let mut j = at;
-    while i < HEX_DIGITS {
-        if line.len() <= j {
-            return Number::NoNumber;
-        }
-        let d = hex_value(line[j]);
-        if 15 < d {
-            return Number::NoNumber;
-        }
-        value = value * 16 + d;
-        i += 1;
-        j += 1;
+    for &b in digits {
+        value = value * 16 + hex_value(b)?;
     }
-    Number::Found { value, next: j }
+    Some((value, at + HEX_DIGITS))
 }
 
-// An answer's word that was read, and the place past it.
-#[derive(Clone, Copy)]
-pub enum Word {
-    Is(Answer, usize),
-    NoWord,
-}
-
-// The answer whose word is `text`, if that stands at `at`.
-fn word_if(line: &[u8], at: usize, text: &[u8], answer: Answer, other: Word) -> Word
-    ensures { result ≡ word_if line.now at text.now answer other }
+// The answer whose word is `text`, and the place past it, if that stands at `at`.
+#[tactic(auto, unfolding(crate::specs::Reading::word_if))]
+fn word_if(line: &[u8], at: usize, text: &[u8], answer: Answer) -> Option<(Answer, usize)>
+    ensures { result ≡ word_if line.now at text.now answer None }
 {
-    if let Place::At(next) = text_at(line, at, text) {
-        return Word::Is(answer, next);
-    }
-    other
+    Some((answer, text_at(line, at, text)?))
 }
 
 // No word starts as another one does, so that their order does not matter.
-fn any_word(line: &[u8], at: usize) -> Word
+#[tactic(auto, unfolding(crate::specs::Reading::any_word, crate::specs::Reading::word_if))]
+fn any_word(line: &[u8], at: usize) -> Option<(Answer, usize)>
     ensures { result ≡ any_word line.now at }
 {
-    let refused = word_if(line, at, b"refused", Answer::Refused, Word::NoWord);
-    let held = word_if(line, at, b"held", Answer::Held, refused);
-    let value = word_if(line, at, b"value", Answer::Value, held);
-    let no = word_if(line, at, b"no", Answer::No, value);
-    let yes = word_if(line, at, b"yes", Answer::Yes, no);
-    let rejected = word_if(line, at, b"rejected", Answer::Rejected, yes);
-    word_if(line, at, b"allowed", Answer::Allowed, rejected)
+    word_if(line, at, b"allowed", Answer::Allowed)
+        .or(word_if(line, at, b"rejected", Answer::Rejected))
+        .or(word_if(line, at, b"yes", Answer::Yes))
+        .or(word_if(line, at, b"no", Answer::No))
+        .or(word_if(line, at, b"value", Answer::Value))
+        .or(word_if(line, at, b"held", Answer::Held))
+        .or(word_if(line, at, b"refused", Answer::Refused))
 }
 
-fn word_at(line: &[u8], at: usize) -> Word
+#[tactic(auto, unfolding(crate::specs::Reading::word_at))]
+fn word_at(line: &[u8], at: usize) -> Option<(Answer, usize)>
     ensures { result ≡ word_at line.now at }
 {
-    let Place::At(next) = text_at(line, at, b" answer=") else {
-        return Word::NoWord;
-    };
-    any_word(line, next)
+    any_word(line, text_at(line, at, b" answer=")?)
 }
 
 // ---- a line
 
 // The first four fields, and the place past them.
 #[derive(Clone, Copy)]
-pub enum Verdict {
-    Is {
-        t: u64,
-        code: u64,
-        answer: Answer,
-        factor: u64,
-        next: usize,
-    },
-    NoVerdict,
+pub struct Verdict {
+    pub t: u64,
+    pub code: u64,
+    pub answer: Answer,
+    pub factor: u64,
+    pub next: usize,
 }
 
-fn verdict_at(line: &[u8]) -> Verdict
+#[tactic(auto, unfolding(crate::specs::Reading::verdict_at))]
+fn verdict_at(line: &[u8]) -> Option<Verdict>
     ensures { result ≡ verdict_at line.now }
 {
-    let Number::Found { value: t, next: a } = field_at(line, 0, b"t=") else {
-        return Verdict::NoVerdict;
-    };
-    let Number::Found {
-        value: code,
-        next: b,
-    } = field_at(line, a, b" code=")
-    else {
-        return Verdict::NoVerdict;
-    };
-    let Word::Is(answer, c) = word_at(line, b) else {
-        return Verdict::NoVerdict;
-    };
-    let Place::At(d) = text_at(line, c, b" factor=") else {
-        return Verdict::NoVerdict;
-    };
-    let Number::Found {
-        value: factor,
-        next,
-    } = hex_at(line, d)
-    else {
-        return Verdict::NoVerdict;
-    };
-    Verdict::Is {
+    let (t, a) = field_at(line, 0, b"t=")?;
+    let (code, b) = field_at(line, a, b" code=")?;
+    let (answer, c) = word_at(line, b)?;
+    let (factor, next) = hex_at(line, text_at(line, c, b" factor=")?)?;
+    Some(Verdict {
         t,
         code,
         answer,
         factor,
         next,
-    }
+    })
 }
 
 // What is printed as a line, whatever its numbers are.
-#[derive(Clone, Copy)]
-pub enum Printed {
-    Answer(AnswerLine),
-    Bad,
-}
-
-pub fn read_answer(line: &[u8]) -> Printed
+#[tactic(auto, unfolding(crate::specs::Reading::read_answer))]
+pub fn read_answer(line: &[u8]) -> Option<AnswerLine>
     ensures { result ≡ read_answer line.now }
 {
-    let Verdict::Is {
-        t,
-        code,
-        answer,
-        factor,
-        next,
-    } = verdict_at(line)
-    else {
-        return Printed::Bad;
-    };
-    let Number::Found {
-        value: wait,
-        next: a,
-    } = field_at(line, next, b" wait=")
-    else {
-        return Printed::Bad;
-    };
-    let Numbers::Are {
-        first: left,
-        second: total,
-        third: declined,
-    } = numbers_at(line, a, b" left=", b" total=", b" declined=")
-    else {
-        return Printed::Bad;
-    };
-    Printed::Answer(AnswerLine {
-        t,
-        code,
-        answer,
-        factor,
+    let verdict = verdict_at(line)?;
+    let (wait, a) = field_at(line, verdict.next, b" wait=")?;
+    let (left, total, declined) = numbers_at(line, a, b" left=", b" total=", b" declined=")?;
+    Some(AnswerLine {
+        t: verdict.t,
+        code: verdict.code,
+        answer: verdict.answer,
+        factor: verdict.factor,
         wait,
         left,
         total,

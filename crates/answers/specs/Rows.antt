@@ -1,39 +1,20 @@
 -- Document 01's number and values for each case of each answer that is an enum, the units' constructors' too, as a row of five numbers: the refusal's number
 -- or 0, which case it is (0 for a refusal), and up to three values.
 -- A refusal "gives its number with zeros elsewhere". A double stands in a row by its bits, yes by 1. Assumes nothing.
-use Rattle.std.specs.Prelude.{Bool, cond, List, [], ◌∷◌, ℕ, get_or, Float}
+use Rattle.std.specs.Prelude.{Bool, cond, List, [], ◌∷◌, ℕ, get_or, Float, Result, Ok, Err, Option, Some, None}
 use Rattle.std.specs.Float.{binary64}
 use Rattle.std.specs.Float.Ieee.{to_bits}
 use Rattle.answers.specs.declared.RateLimitDecision.{RateLimitDecision}
 use Rattle.answers.specs.declared.RateLimitDecision.TheVariants as decision
-use Rattle.answers.specs.declared.TotalAnswer.{TotalAnswer}
-use Rattle.answers.specs.declared.TotalAnswer.TheVariants as total
-use Rattle.answers.specs.declared.SnapshotAnswer.{SnapshotAnswer}
-use Rattle.answers.specs.declared.SnapshotAnswer.TheVariants as snapshot
-use Rattle.answers.specs.declared.FactorAnswer.{FactorAnswer}
-use Rattle.answers.specs.declared.FactorAnswer.TheVariants as factor
-use Rattle.answers.specs.declared.OldRateAnswer.{OldRateAnswer}
-use Rattle.answers.specs.declared.OldRateAnswer.TheVariants as rate
-use Rattle.answers.specs.declared.DeleteAnswer.{DeleteAnswer}
-use Rattle.answers.specs.declared.DeleteAnswer.TheVariants as delete
-use Rattle.answers.specs.declared.SetAnswer.{SetAnswer}
-use Rattle.answers.specs.declared.SetAnswer.TheVariants as set
-use Rattle.answers.specs.declared.DoneAnswer.{DoneAnswer}
-use Rattle.answers.specs.declared.DoneAnswer.TheVariants as done
-use Rattle.answers.specs.declared.ReadOutAnswer.{ReadOutAnswer}
-use Rattle.answers.specs.declared.ReadOutAnswer.TheVariants as read_out
-use Rattle.answers.specs.declared.RingAnswer.{RingAnswer}
-use Rattle.answers.specs.declared.RingAnswer.TheVariants as ring
-use Rattle.answers.specs.declared.ShotAnswer.{ShotAnswer}
-use Rattle.answers.specs.declared.ShotAnswer.TheVariants as shot
-use Rattle.common.specs.declared.units.WindowSizeAnswer.{WindowSizeAnswer}
-use Rattle.common.specs.declared.units.WindowSizeAnswer.TheVariants as window_size
-use Rattle.common.specs.declared.units.BucketSizeAnswer.{BucketSizeAnswer}
-use Rattle.common.specs.declared.units.BucketSizeAnswer.TheVariants as bucket_size
-use Rattle.common.specs.declared.units.CachePeriodAnswer.{CachePeriodAnswer}
-use Rattle.common.specs.declared.units.CachePeriodAnswer.TheVariants as cache_period
-use Rattle.common.specs.declared.units.RateLimitAnswer.{RateLimitAnswer}
-use Rattle.common.specs.declared.units.RateLimitAnswer.TheVariants as rate_limit
+use Rattle.answers.specs.declared.ShotOutcome.{ShotOutcome}
+use Rattle.answers.specs.declared.ShotOutcome.TheVariants.{Held, Decided}
+use Rattle.answers.specs.declared.ConditionalSetOutcome.{ConditionalSetOutcome}
+use Rattle.answers.specs.declared.SuppressedRateLimitSnapshot.{SuppressedRateLimitSnapshot}
+use Rattle.common.specs.declared.refusal.Refusal.{Refusal}
+use Rattle.common.specs.declared.units.WindowSize.{WindowSize}
+use Rattle.common.specs.declared.units.BucketSize.{BucketSize}
+use Rattle.common.specs.declared.units.SuppressionFactorCachePeriod.{SuppressionFactorCachePeriod}
+use Rattle.common.specs.declared.units.RateLimit.{RateLimit}
 
 abbrev pub row : ℕ → ℕ → ℕ → ℕ → ℕ → List ℕ
 row number case a b c = number ∷ case ∷ a ∷ b ∷ c ∷ []
@@ -58,67 +39,67 @@ decision_row (decision.Rejected window wait left) = row 0 2 window.0 wait left
 decision_row (decision.Suppressed x is) = row 0 3 (bits x) (said is) 0
 decision_row (decision.Refused n) = refused_row n
 
-unfoldable pub total_row : TotalAnswer → List ℕ
-total_row (total.Total n) = row 0 1 n 0 0
-total_row (total.Refused n) = refused_row n
+unfoldable pub total_row : Result ℕ Refusal → List ℕ
+total_row (Ok n) = row 0 1 n 0 0
+total_row (Err r) = refused_row r.0
 
-unfoldable pub snapshot_row : SnapshotAnswer → List ℕ
-snapshot_row (snapshot.Snapshot s) = row 0 1 s.total s.total_declined (bits s.suppression_factor)
-snapshot_row (snapshot.Refused n) = refused_row n
+unfoldable pub snapshot_row : Result SuppressedRateLimitSnapshot Refusal → List ℕ
+snapshot_row (Ok s) = row 0 1 s.total s.total_declined (bits s.suppression_factor)
+snapshot_row (Err r) = refused_row r.0
 
-unfoldable pub factor_row : FactorAnswer → List ℕ
-factor_row (factor.Factor x) = row 0 1 (bits x) 0 0
-factor_row (factor.Refused n) = refused_row n
+unfoldable pub factor_row : Result Float Refusal → List ℕ
+factor_row (Ok x) = row 0 1 (bits x) 0 0
+factor_row (Err r) = refused_row r.0
 
-unfoldable pub old_rate_row : OldRateAnswer → List ℕ
-old_rate_row (rate.Was r) = row 0 1 (bits r.0) 0 0
-old_rate_row rate.Unknown = row 0 2 0 0 0
-old_rate_row (rate.Refused n) = refused_row n
+unfoldable pub old_rate_row : Result (Option RateLimit) Refusal → List ℕ
+old_rate_row (Ok (Some r)) = row 0 1 (bits r.0) 0 0
+old_rate_row (Ok None) = row 0 2 0 0 0
+old_rate_row (Err r) = refused_row r.0
 
-unfoldable pub delete_row : DeleteAnswer → List ℕ
-delete_row (delete.Deleted n) = row 0 1 n 0 0
-delete_row delete.Unknown = row 0 2 0 0 0
-delete_row (delete.Refused n) = refused_row n
+unfoldable pub delete_row : Result (Option ℕ) Refusal → List ℕ
+delete_row (Ok (Some n)) = row 0 1 n 0 0
+delete_row (Ok None) = row 0 2 0 0 0
+delete_row (Err r) = refused_row r.0
 
 -- matched, the total before and the total after
-unfoldable pub set_row : SetAnswer → List ℕ
-set_row (set.Set o) = row 0 1 (said o.matched) o.previous_total o.current_total
-set_row (set.Refused n) = refused_row n
+unfoldable pub set_row : Result ConditionalSetOutcome Refusal → List ℕ
+set_row (Ok o) = row 0 1 (said o.matched) o.previous_total o.current_total
+set_row (Err r) = refused_row r.0
 
-unfoldable pub done_row : DoneAnswer → List ℕ
-done_row done.Done = row 0 1 0 0 0
-done_row (done.Refused n) = refused_row n
+unfoldable pub done_row : Result (Unit {0}) Refusal → List ℕ
+done_row (Ok tt) = row 0 1 0 0 0
+done_row (Err r) = refused_row r.0
 
 -- the ring's bucket count
-unfoldable pub read_out_row : ReadOutAnswer → List ℕ
-read_out_row (read_out.Buckets n) = row 0 1 n 0 0
-read_out_row (read_out.Refused n) = refused_row n
+unfoldable pub read_out_row : Result ℕ Refusal → List ℕ
+read_out_row (Ok n) = row 0 1 n 0 0
+read_out_row (Err r) = refused_row r.0
 
 -- how many buckets
-unfoldable pub ring_row : RingAnswer → List ℕ
-ring_row (ring.Ring n) = row 0 1 n 0 0
-ring_row (ring.Refused n) = refused_row n
+unfoldable pub ring_row : Result ℕ Refusal → List ℕ
+ring_row (Ok n) = row 0 1 n 0 0
+ring_row (Err r) = refused_row r.0
 
 -- a decision's own row, and one case more: held
-unfoldable pub shot_row : ShotAnswer → List ℕ
-shot_row shot.Held = row 0 4 0 0 0
-shot_row (shot.Decided d) = decision_row d
-shot_row (shot.Refused n) = refused_row n
+unfoldable pub shot_row : Result ShotOutcome Refusal → List ℕ
+shot_row (Ok Held) = row 0 4 0 0 0
+shot_row (Ok (Decided d)) = decision_row d
+shot_row (Err r) = refused_row r.0
 
 -- ---- the constructors of units: seconds, milliseconds twice, and a rate per second
 
-unfoldable pub window_size_row : WindowSizeAnswer → List ℕ
-window_size_row (window_size.Made x) = row 0 1 x.0 0 0
-window_size_row (window_size.Refused n) = refused_row n
+unfoldable pub window_size_row : Result WindowSize Refusal → List ℕ
+window_size_row (Ok x) = row 0 1 x.0 0 0
+window_size_row (Err n) = refused_row n.0
 
-unfoldable pub bucket_size_row : BucketSizeAnswer → List ℕ
-bucket_size_row (bucket_size.Made x) = row 0 1 x.0 0 0
-bucket_size_row (bucket_size.Refused n) = refused_row n
+unfoldable pub bucket_size_row : Result BucketSize Refusal → List ℕ
+bucket_size_row (Ok x) = row 0 1 x.0 0 0
+bucket_size_row (Err n) = refused_row n.0
 
-unfoldable pub cache_period_row : CachePeriodAnswer → List ℕ
-cache_period_row (cache_period.Made x) = row 0 1 x.0 0 0
-cache_period_row (cache_period.Refused n) = refused_row n
+unfoldable pub cache_period_row : Result SuppressionFactorCachePeriod Refusal → List ℕ
+cache_period_row (Ok x) = row 0 1 x.0 0 0
+cache_period_row (Err n) = refused_row n.0
 
-unfoldable pub rate_limit_row : RateLimitAnswer → List ℕ
-rate_limit_row (rate_limit.Made x) = row 0 1 (bits x.0) 0 0
-rate_limit_row (rate_limit.Refused n) = refused_row n
+unfoldable pub rate_limit_row : Result RateLimit Refusal → List ℕ
+rate_limit_row (Ok x) = row 0 1 (bits x.0) 0 0
+rate_limit_row (Err n) = refused_row n.0

@@ -1,5 +1,5 @@
-// What the calls answer, and how a set treats a key's buckets. Each answer may be a refusal with its number; `specs/Rows.antt`
-// gives each one's number and values.
+// What the calls answer, and how a set treats a key's buckets. A call answers a `Result` with a `Refusal`; `specs/Rows.antt`
+// gives the number and values of each.
 #![tactic(auto)]
 
 ghost use Rattle.std.specs.Prelude.{◌≡◌};
@@ -35,10 +35,10 @@ pub struct SuppressedRateLimitSnapshot {
     pub suppression_factor: f64,
 }
 
-impl SuppressedRateLimitSnapshot {
-    pub fn default() -> Self
-        ensures { result ≡ no_snapshot }
-    {
+impl Default for SuppressedRateLimitSnapshot {
+    ghost is_default = { λ s. s ≡ no_snapshot };
+
+    fn default() -> Self {
         SuppressedRateLimitSnapshot {
             total: 0,
             total_declined: 0,
@@ -47,7 +47,7 @@ impl SuppressedRateLimitSnapshot {
     }
 }
 
-// An increment, and whether a key is allowed. `retry_after` is in milliseconds.
+// An increment, and whether a key is allowed: its refusal is a case of the decision (docs/DECISIONS.md, forms). `retry_after` is in milliseconds.
 #[derive(Clone, Copy)]
 pub enum RateLimitDecision {
     Allowed,
@@ -63,72 +63,9 @@ pub enum RateLimitDecision {
     Refused(u64),
 }
 
-// A live total.
-#[derive(Clone, Copy)]
-pub enum TotalAnswer {
-    Total(u64),
-    Refused(u64),
-}
-
-#[derive(Clone, Copy)]
-pub enum SnapshotAnswer {
-    Snapshot(SuppressedRateLimitSnapshot),
-    Refused(u64),
-}
-
-#[derive(Clone, Copy)]
-pub enum FactorAnswer {
-    Factor(f64),
-    Refused(u64),
-}
-
-// Setting a rate: the one before, of a known key.
-#[derive(Clone, Copy)]
-pub enum OldRateAnswer {
-    Was(RateLimit),
-    Unknown,
-    Refused(u64),
-}
-
-// A delete: what the key had.
-#[derive(Clone, Copy)]
-pub enum DeleteAnswer {
-    Deleted(u64),
-    Unknown,
-    Refused(u64),
-}
-
-#[derive(Clone, Copy)]
-pub enum SetAnswer {
-    Set(ConditionalSetOutcome),
-    Refused(u64),
-}
-
-// Clear and cleanup.
-#[derive(Clone, Copy)]
-pub enum DoneAnswer {
-    Done,
-    Refused(u64),
-}
-
-// The read-out: how many buckets the key's ring has.
-#[derive(Clone, Copy)]
-pub enum ReadOutAnswer {
-    Buckets(u64),
-    Refused(u64),
-}
-
-// How many buckets a ring must have, for rooms with these settings.
-#[derive(Clone, Copy)]
-pub enum RingAnswer {
-    Ring(u64),
-    Refused(u64),
-}
-
 // A shot by its number: the gateway has it already, or what the limiter decided.
 #[derive(Clone, Copy)]
-pub enum ShotAnswer {
+pub enum ShotOutcome {
     Held,
     Decided(RateLimitDecision),
-    Refused(u64),
 }

@@ -2,10 +2,9 @@
 -- total or a refusal 11. This compares histories with the same cleanups, and the shared rising clock is still assumed." Said of the answers given (`Apart`,
 -- `apart`), of histories of any length, on any keys, refused calls too.
 -- Assumes nothing.
-use Rattle.std.specs.Prelude.{◌≡◌, refl, Bool, true, false, cond, List, [], ◌∷◌, ◌≢◌, ℕ, zero, suc, ◌≤◌, eqb}
+use Rattle.std.specs.Prelude.{◌≡◌, refl, Bool, true, false, cond, List, [], ◌∷◌, ◌≢◌, ℕ, zero, suc, ◌≤◌, eqb, Ok}
 use Rattle.std.proofs.Common.{sym, ap, ap₂, ◌∙◌, arith, ne_eqb}
 use Rattle.answers.specs.Rows.{done_row}
-use Rattle.answers.specs.declared.DoneAnswer.TheVariants as done
 use Rattle.settings.specs.Clock.{ticks_in}
 use Rattle.settings.specs.declared.Settings.{Settings}
 use Rattle.layout.specs.Layout.{first_mark, second_mark}
@@ -30,6 +29,7 @@ use Rattle.apart.proofs.Promised.{kept-after}
 use Rattle.apart.specs.Like.{Fine, Alike, mine}
 use Rattle.apart.proofs.Like.{held-like, number-like, same_row, like-after, like-beside}
 use Rattle.apart.specs.Apart.{picked, words_by, told_by, Rising, AllGive, AllBytes, other_kind, Twin, itself, beside, SameCalls, Apart, told, Beside}
+use Rattle.common.specs.Refusals.{refuse}
 
 -- ---- the proof
 
@@ -107,10 +107,10 @@ both-twin : (k : RoomKind) (s : Settings) (t : ℕ) (w : List ℕ) (who : Caller
 unfolding Provider.decided
 both-twin kind.Absolute s t w who x y c d stale e =
     let n = ap (Provider.lowest (Cleanup.refusal kind.Absolute s w t who)) e in
-    ((λ i. done_row (cond (eqb (n i) 0) done.Done (done.Refused (n i)))), (λ i. cond (eqb (n i) 0) (Uses.cleaned w t (ticks_in s) stale) w))
+    ((λ i. done_row (cond (eqb (n i) 0) (Ok tt) (refuse (n i)))), (λ i. cond (eqb (n i) 0) (Uses.cleaned w t (ticks_in s) stale) w))
 both-twin kind.Suppressed s t w who x y c d stale e =
     let n = ap (λ (m : ℕ). Provider.lowest m (Cleanup.refusal kind.Suppressed s w t who)) e in
-    ((λ i. done_row (cond (eqb (n i) 0) done.Done (done.Refused (n i)))), (λ i. cond (eqb (n i) 0) (Uses.cleaned w t (ticks_in s) stale) w))
+    ((λ i. done_row (cond (eqb (n i) 0) (Ok tt) (refuse (n i)))), (λ i. cond (eqb (n i) 0) (Uses.cleaned w t (ticks_in s) stale) w))
 
 twin-same : (k : RoomKind) (s : Settings) (t : ℕ) (w : List ℕ) (op op' : Op k) → Twin k s t op op' →
     (answer_row k s w t op ≡ answer_row k s w t op') × (after k s w t op ≡ after k s w t op')

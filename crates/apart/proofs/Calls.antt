@@ -1,6 +1,6 @@
 -- Each call with a key leaves of its key what the limiter of one key says (`left_is`), where it is not turned away.
 -- Assumes nothing.
-use Rattle.std.specs.Prelude.{◌≡◌, Bool, true, false, cond, ◌&&◌, ◌||◌, List, [], ◌∷◌, ◌≢◌, ℕ, eqb}
+use Rattle.std.specs.Prelude.{◌≡◌, Bool, true, false, cond, ◌&&◌, ◌||◌, List, [], ◌∷◌, ◌≢◌, ℕ, eqb, Option, Some, None}
 use Rattle.std.proofs.Math.Path.{refl}
 use Rattle.std.proofs.Common.{sym, ap, ap₂, subst, ◌∙◌, eqb-true}
 use Rattle.std.proofs.lemmas.Bool.{false≢true}
@@ -20,8 +20,6 @@ use Rattle.rules.specs.Both.{limit_in, live_of, looked_of, overdue_in}
 use Rattle.rules.specs.Absolute.{allowed, found_for}
 use Rattle.rules.specs.Suppressed as rules
 use Rattle.rules.specs.Sets as sets
-use Rattle.rules.specs.declared.Caching.{Caching}
-use Rattle.rules.specs.declared.Caching.TheVariants.{Left, Cached}
 use Rattle.rules.specs.declared.RoomKind.{RoomKind}
 use Rattle.rules.specs.declared.RoomKind.TheVariants as kind
 use Rattle.keys.specs.declared.Key.{Key}
@@ -66,16 +64,17 @@ use Rattle.steps.specs.Table as Tables
 use Rattle.apart.specs.Holds.{held_for}
 use Rattle.apart.proofs.Holds.{held-short, stands-held, freed-held, read_held}
 use Rattle.apart.specs.One.{plainly, caching, left_by, key_in, Named}
+use Rattle.suppression.specs.declared.CachedFactor.{CachedFactor}
 
 -- what is cached, from the words of the slot
-cached-stands : (k : Caching) (x : Slot) (is : Bool) (limit : ℕ) (ys : List Bucket) (h : Held) → stays_at x ≡ is → (is ≡ true → x.factor ≡ h.factor) →
+cached-stands : (k : Option CachedFactor) (x : Slot) (is : Bool) (limit : ℕ) (ys : List Bucket) (h : Held) → stays_at x ≡ is → (is ≡ true → x.factor ≡ h.factor) →
     (is ≡ true → x.factor_time ≡ h.since) →
     held_by (has_series (use_after k x)) (has_cached (use_after k x)) limit ys (factor_after k x.factor) (time_after k x.factor_time) ≡ caching k is limit ys h
-cached-stands (Cached c) x is limit ys h e f g = refl
-cached-stands Left x true limit ys h e f g =
+cached-stands (Some c) x is limit ys h e f g = refl
+cached-stands None x true limit ys h e f g =
     ap (λ (z : Bool). held_by (has_series (use_left z)) (has_cached (use_left z)) limit ys x.factor x.factor_time) e ∙
     ap₂ (λ (m n : ℕ). held_by true true limit ys m n) (f refl) (g refl)
-cached-stands Left x false limit ys h e f g =
+cached-stands None x false limit ys h e f g =
     ap (λ (z : Bool). held_by (has_series (use_left z)) (has_cached (use_left z)) limit ys x.factor x.factor_time) e
 
 -- a factor that stays is cached
@@ -174,7 +173,7 @@ module _ (s : Settings) (w : List ℕ) (t : ℕ) (key : Sent) where
 
 module _ (s : Settings) (w : List ℕ) (t : ℕ) (key : Sent) where
   -- a slot that is seen as what the key holds, with what is cached of its factor
-  cached-by : (out : Bool) (x : Slot) → Seen (window_ticks s) t out (held_in w key) x → (c : Caching) (limit : ℕ) (ys : List Bucket) →
+  cached-by : (out : Bool) (x : Slot) → Seen (window_ticks s) t out (held_in w key) x → (c : Option CachedFactor) (limit : ℕ) (ys : List Bucket) →
       held_by (has_series (use_after c x)) (has_cached (use_after c x)) limit ys (factor_after c x.factor) (time_after c x.factor_time) ≡
       caching c (rules.stays s t out (held_in w key)) limit ys (held_in w key)
   cached-by out x q c limit ys =

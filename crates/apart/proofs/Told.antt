@@ -1,18 +1,11 @@
 -- Each call's row of answers, of the number that its table gives and of what its key holds alone (`told-row`); and that a call that is turned away leaves every
 -- word (`turned-words`).
 -- Assumes nothing.
-use Rattle.std.specs.Prelude.{◌≡◌, refl, Bool, true, false, cond, List, ◌≢◌, ℕ, eqb}
+use Rattle.std.specs.Prelude.{◌≡◌, refl, Bool, true, false, cond, List, ◌≢◌, ℕ, eqb, Ok}
 use Rattle.std.proofs.Common.{sym, ap, ◌∙◌, ne_eqb}
 use Rattle.answers.specs.Rows.{decision_row, total_row, snapshot_row, factor_row, old_rate_row, delete_row, set_row, done_row, refused_row}
-use Rattle.answers.specs.declared.DoneAnswer.TheVariants as done
-use Rattle.answers.specs.declared.DeleteAnswer.TheVariants as deleted
-use Rattle.answers.specs.declared.FactorAnswer.TheVariants as factor
-use Rattle.answers.specs.declared.OldRateAnswer.TheVariants as old_rate
 use Rattle.answers.specs.declared.RateLimitDecision.TheVariants as decision
-use Rattle.answers.specs.declared.SetAnswer.TheVariants as set_answer
-use Rattle.answers.specs.declared.SnapshotAnswer.TheVariants as snapshot_answer
-use Rattle.answers.specs.declared.TotalAnswer.TheVariants as total
-use Rattle.common.specs.Refusals.{first}
+use Rattle.common.specs.Refusals.{first, refuse}
 use Rattle.settings.specs.declared.Settings.{Settings}
 use Rattle.ring.specs.Ring.{counts}
 use Rattle.rules.specs.Both.{live_of, overdue_in}
@@ -45,13 +38,13 @@ by_number row turned n x e = go (eqb n 0)
     go true = refl
     go false = e
 
-both-row : (n m : ℕ) → n ≡ m → done_row (cond (eqb n 0) done.Done (done.Refused n)) ≡ cond (eqb m 0) (done_row done.Done) (refused_row m)
+both-row : (n m : ℕ) → n ≡ m → done_row (cond (eqb n 0) (Ok tt) (refuse n)) ≡ cond (eqb m 0) (done_row (Ok tt)) (refused_row m)
 unfolding done_row
-both-row n m e = by_number done_row done.Refused n done.Done refl ∙ ap (λ (j : ℕ). cond (eqb j 0) (done_row done.Done) (refused_row j)) e
+both-row n m e = by_number done_row refuse n (Ok tt) refl ∙ ap (λ (j : ℕ). cond (eqb j 0) (done_row (Ok tt)) (refused_row j)) e
 
 each_row : (k : RoomKind) (s : Settings) (w : List ℕ) (t : ℕ) (who : Caller) (other : List ℕ) (whose : Caller) (stale : ℕ) →
     answer_row k s w t (cleanup_both who other whose stale) ≡
-    cond (eqb (first (table_of k s w t (cleanup_both who other whose stale))) 0) (done_row done.Done)
+    cond (eqb (first (table_of k s w t (cleanup_both who other whose stale))) 0) (done_row (Ok tt))
     (refused_row (first (table_of k s w t (cleanup_both who other whose stale))))
 unfolding Provider.decided
 each_row kind.Absolute s w t who other whose stale = both-row _ _ (both-by-table s w other t who whose)
@@ -68,33 +61,33 @@ told-row k s w t (is_allowed key) =
     by_number decision_row decision.Refused (first (table_of k s w t (is_allowed key)))
     (absolute.decided s t (held_in w key)) refl
 told-row k s w t (get key) =
-    by_number total_row total.Refused (first (table_of k s w t (get key)))
-    (total.Total (counts (live_of s t (held_in w key)))) refl
+    by_number total_row refuse (first (table_of k s w t (get key)))
+    (Ok (counts (live_of s t (held_in w key)))) refl
 told-row k s w t (draws key rate c draw) =
     by_number decision_row decision.Refused (first (table_of k s w t (draws key rate c draw)))
     (suppressed.outcome s t (suppressed.limit_for s rate (held_in w key)) c draw (held_in w key)).decision refl
 told-row k s w t (snapshot key) =
-    by_number snapshot_row snapshot_answer.Refused (first (table_of k s w t (snapshot key)))
-    (snapshot_answer.Snapshot (suppressed.snapshot_of s t (held_in w key) (suppressed.asking s t true (held_in w key)).factor)) refl
+    by_number snapshot_row refuse (first (table_of k s w t (snapshot key)))
+    (Ok (suppressed.snapshot_of s t (held_in w key) (suppressed.asking s t true (held_in w key)).factor)) refl
 told-row k s w t (get_factor key) =
-    by_number factor_row factor.Refused (first (table_of k s w t (get_factor key)))
-    (factor.Factor (suppressed.asking s t (overdue_in s t (held_in w key)) (held_in w key)).factor) refl
+    by_number factor_row refuse (first (table_of k s w t (get_factor key)))
+    (Ok (suppressed.asking s t (overdue_in s t (held_in w key)) (held_in w key)).factor) refl
 told-row k s w t (set_rate key rate) =
-    by_number old_rate_row old_rate.Refused (first (table_of k s w t (set_rate key rate)))
-    (sets.old_rate k s (held_in w key)) refl
+    by_number old_rate_row refuse (first (table_of k s w t (set_rate key rate)))
+    (Ok (sets.old_rate k s (held_in w key))) refl
 told-row k s w t (set key rate comparator count mode) =
-    by_number set_row set_answer.Refused (first (table_of k s w t (set key rate comparator count mode)))
-    (set_answer.Set (sets.outcome s t (sets.still_for k s t rate comparator count mode (held_in w key)) comparator count (held_in w key))) refl
+    by_number set_row refuse (first (table_of k s w t (set key rate comparator count mode)))
+    (Ok (sets.outcome s t (sets.still_for k s t rate comparator count mode (held_in w key)) comparator count (held_in w key))) refl
 told-row k s w t (delete key) =
-    by_number delete_row deleted.Refused (first (table_of k s w t (delete key)))
-    (sets.deleted s t (held_in w key)) refl
+    by_number delete_row refuse (first (table_of k s w t (delete key)))
+    (Ok (sets.deleted s t (held_in w key))) refl
 told-row k s w t (cleanup who stale) =
-    by_number done_row done.Refused (first (table_of k s w t (cleanup who stale)))
-    (done.Done) refl
+    by_number done_row refuse (first (table_of k s w t (cleanup who stale)))
+    (Ok tt) refl
 told-row k s w t (cleanup_both who other whose stale) = each_row k s w t who other whose stale
 told-row k s w t (clear who) =
-    by_number done_row done.Refused (first (table_of k s w t (clear who)))
-    (done.Done) refl
+    by_number done_row refuse (first (table_of k s w t (clear who)))
+    (Ok tt) refl
 
 each-words : (k : RoomKind) (s : Settings) (w : List ℕ) (t : ℕ) (who : Caller) (other : List ℕ) (whose : Caller) (stale : ℕ) →
     first (table_of k s w t (cleanup_both who other whose stale)) ≢ 0 → after k s w t (cleanup_both who other whose stale) ≡ w

@@ -1,7 +1,7 @@
 -- A limiter of one key: what a call that is not turned away leaves of what its key holds, told of that alone. h is what the key held, r the ring, t the
 -- reading.
 -- Assumes nothing.
-use Rattle.std.specs.Prelude.{◌≡◌, Bool, true, false, cond, ◌&&◌, List, [], ◌∷◌, ℕ, eqb}
+use Rattle.std.specs.Prelude.{◌≡◌, Bool, true, false, cond, ◌&&◌, List, [], ◌∷◌, ℕ, eqb, Option, Some, None}
 use Rattle.settings.specs.Clock.{ticks_in, window_ticks, join_ticks}
 use Rattle.settings.specs.declared.Settings.{Settings}
 use Rattle.answers.specs.declared.HistoryUpdateMode.{HistoryUpdateMode}
@@ -16,8 +16,6 @@ use Rattle.rules.specs.Absolute.{whole_limit, tested, allowed, found_for}
 use Rattle.rules.specs.Suppressed.{asking, usable, limit_for, outcome, admits, declined_by, stays}
 use Rattle.rules.specs.Sets.{reset_to, still_for}
 use Rattle.rules.specs.Stale.{series_stays, factor_stays}
-use Rattle.rules.specs.declared.Caching.{Caching}
-use Rattle.rules.specs.declared.Caching.TheVariants.{Left, Cached}
 use Rattle.parties.specs.Parties.{Sent}
 use Rattle.rules.specs.declared.RoomKind.{RoomKind}
 use Rattle.rules.specs.declared.RoomKind.TheVariants.{Absolute}
@@ -25,18 +23,19 @@ use Rattle.judge.specs.Held.{held_by}
 use Rattle.suppressed_edits.specs.Edits.{factor_after, time_after}
 use Rattle.steps.specs.Ops.{Op, inc, is_allowed, get, draws, snapshot, get_factor, set_rate, set, delete, cleanup, cleanup_both, clear}
 use Rattle.steps.specs.Ops.{Touch, slot_of, stale_by, whole, touches}
+use Rattle.suppression.specs.declared.CachedFactor.{CachedFactor}
 
 -- a series, and no cached factor
 abbrev pub plainly : ℕ → List Bucket → Held
 plainly limit xs = held_by true false limit xs 0 0
 
 -- whether a factor is cached afterwards; is says whether the one before stays
-abbrev pub cached_by : Caching → Bool → Bool
-cached_by Left is = is
-cached_by (Cached k) is = true
+abbrev pub cached_by : Option CachedFactor → Bool → Bool
+cached_by None is = is
+cached_by (Some k) is = true
 
 -- a series with what is cached then
-abbrev pub caching : Caching → Bool → ℕ → List Bucket → Held → Held
+abbrev pub caching : Option CachedFactor → Bool → ℕ → List Bucket → Held → Held
 caching k is limit xs h = held_by true (cached_by k is) limit xs (factor_after k h.factor) (time_after k h.since)
 
 -- the absolute increment

@@ -1,10 +1,10 @@
 -- A call with a key, decided on the key's slot: its own refusals and what it does are functions of that slot. What the judging function answered is turned
 -- into what the call is told.
 -- Assumes nothing.
-use Rattle.std.specs.Prelude.{◌≡◌, refl, Bool, true, false, ◌||◌, List, ℕ, ◌<◌, ltb}
+use Rattle.std.specs.Prelude.{◌≡◌, refl, Bool, true, false, ◌||◌, List, ℕ, ◌<◌, ltb, Result, Ok, Err}
 use Rattle.std.proofs.Common.{sym, ap, subst, ◌∙◌, ltb-true, ltb-false}
 use Rattle.std.proofs.lemmas.Bool.{false≢true}
-use Rattle.common.specs.Refusals.{first}
+use Rattle.common.specs.Refusals.{first, refuse}
 use Rattle.settings.specs.Clock.{join_ticks}
 use Rattle.settings.specs.declared.Settings.{Settings}
 use Rattle.room.specs.Room.{slots_of}
@@ -17,7 +17,8 @@ use Rattle.opened.specs.declared.Slot.{Slot}
 use Rattle.opened.specs.Sound.{addressed}
 use Rattle.judge.specs.Judge.{early, judged, Passed, slot_in}
 use Rattle.opened.specs.Slot.{has_slot}
-use Rattle.judge.proofs.Laws.{code_is, none_is, slot_is, passed}
+use Rattle.judge.proofs.Laws.{judged-ok, judged-err, passed}
+use Rattle.common.specs.declared.refusal.Refusal.{Refusal}
 use Rattle.judge.specs.Verdict.{Verdict, Told, call}
 use Rattle.judge.proofs.Verdict.{call-early, call-own, call-done}
 use Rattle.plan.specs.Known.{Found, Known, found, none, at-as, series-known}
@@ -26,40 +27,45 @@ use Rattle.plan.specs.Known.{Found, Known, found, none, at-as, series-known}
 abbrev pub calls : {A : Type 0} → (ℕ → A) → RoomKind → Settings → List ℕ → ℕ → Sent → (Slot → List (ℕ × Bool)) → (Slot → Verdict A) → Verdict A
 calls turned kind s w t key own does = call turned kind s w t key (own (slot_in s w t key)) (does (slot_in s w t key))
 
-module _ (kind : RoomKind) (s : Settings) (w : List ℕ) (t : ℕ) (key : Sent) (j : Judged) (e : j ≡ judged kind s w t key) where
-  judged-code : j.code ≡ early kind s w t key
-  judged-code = ap (λ (y : Judged). y.code) e ∙ code_is kind s w t key (slot_in s w t key)
+-- ---- not refused early
 
-  -- where it is not refused early
-  pub judged-passed : j.code ≡ 0 → Passed kind s w t key
-  judged-passed h = passed kind s w t key (sym judged-code ∙ h)
+module _ (kind : RoomKind) (s : Settings) (w : List ℕ) (t : ℕ) (key : Sent) (j : Judged) (e : Ok j ≡ judged kind s w t key) where
+  judged-none-early : early kind s w t key ≡ 0
+  judged-none-early = (judged-ok kind s w t key false j e).0
 
-  pub judged-slot : j.code ≡ 0 → j.slot ≡ slot_in s w t key
-  judged-slot h = ap (λ (y : Judged). y.slot) e ∙ slot_is kind s w t key (sym judged-code ∙ h)
+  pub judged-passed : Passed kind s w t key
+  judged-passed = passed kind s w t key judged-none-early
 
-  pub judged-none : j.code ≡ 0 → j.none ≡ none_left w key.caller
-  judged-none h = ap (λ (y : Judged). y.none) e ∙ none_is kind s w t key (slot_in s w t key) (sym judged-code ∙ h)
+  pub judged-slot : j.slot ≡ slot_in s w t key
+  judged-slot = (judged-ok kind s w t key false j e).1
+
+  pub judged-none : j.none ≡ none_left w key.caller
+  judged-none = (judged-ok kind s w t key false j e).2
 
   -- a change that applies at the key's slot
-  pub judged-applies : (change : Slot → Change) → j.code ≡ 0 → Applies w (slot_in s w t key).at (join_ticks s) t (change (slot_in s w t key)) →
+  pub judged-applies : (change : Slot → Change) → Applies w (slot_in s w t key).at (join_ticks s) t (change (slot_in s w t key)) →
       Applies w j.slot.at (join_ticks s) t (change j.slot)
-  judged-applies change h a = subst (λ (x : Slot). Applies w x.at (join_ticks s) t (change x)) (sym (judged-slot h)) a
+  judged-applies change a = subst (λ (x : Slot). Applies w x.at (join_ticks s) t (change x)) (sym judged-slot) a
 
   module _ {A : Type 0} (turned : ℕ → A) (own : Slot → List (ℕ × Bool)) (does : Slot → Verdict A) where
-    pub judged-early : (j.code ≡ 0 → ⊥) → Told (calls turned kind s w t key own does) (turned j.code) w
-    judged-early z = call-early turned kind s w t key (own (slot_in s w t key)) (does (slot_in s w t key)) j.code judged-code z
+    pub judged-own : (n : ℕ) → n ≡ first (own j.slot) → (n ≡ 0 → ⊥) → Told (calls turned kind s w t key own does) (turned n) w
+    judged-own n f z =
+        call-own turned kind s w t key (own (slot_in s w t key)) (does (slot_in s w t key)) n judged-none-early
+        (f ∙ ap (λ (x : Slot). first (own x)) judged-slot) z
 
-    pub judged-own : (n : ℕ) → j.code ≡ 0 → n ≡ first (own j.slot) → (n ≡ 0 → ⊥) → Told (calls turned kind s w t key own does) (turned n) w
-    judged-own n h f z =
-        call-own turned kind s w t key (own (slot_in s w t key)) (does (slot_in s w t key)) n (sym judged-code ∙ h)
-        (f ∙ ap (λ (x : Slot). first (own x)) (judged-slot h)) z
+    pub judged-done : (r : A) (x : List ℕ) → first (own j.slot) ≡ 0 → Told (does j.slot) r x → Told (calls turned kind s w t key own does) r x
+    judged-done r x f o =
+        call-done turned kind s w t key (own (slot_in s w t key)) (does (slot_in s w t key)) r x judged-none-early
+        (ap (λ (y : Slot). first (own y)) (sym judged-slot) ∙ f) (subst (λ (y : Slot). Told (does y) r x) judged-slot o)
 
-    pub judged-done : (r : A) (x : List ℕ) → j.code ≡ 0 → first (own j.slot) ≡ 0 → Told (does j.slot) r x →
-        Told (calls turned kind s w t key own does) r x
-    judged-done r x h f o =
-        let q = judged-slot h in
-        call-done turned kind s w t key (own (slot_in s w t key)) (does (slot_in s w t key)) r x (sym judged-code ∙ h)
-        (ap (λ (y : Slot). first (own y)) (sym q) ∙ f) (subst (λ (y : Slot). Told (does y) r x) q o)
+-- refused early
+module _ {A : Type 0} (kind : RoomKind) (s : Settings) (w : List ℕ) (t : ℕ) (key : Sent) (own : Slot → List (ℕ × Bool))
+    (does : Slot → Verdict (Result A Refusal)) where
+  pub judged-early : (r : Refusal) → Err r ≡ judged kind s w t key → Told (calls refuse kind s w t key own does) (Err r) w
+  judged-early r e =
+      let o = judged-err kind s w t key false r e in
+      subst (λ (q : Refusal). Told (calls refuse kind s w t key own does) (Err q) w) (sym o.1)
+      (call-early refuse kind s w t key (own (slot_in s w t key)) (does (slot_in s w t key)) (early kind s w t key) refl o.0)
 
 -- ---- the key's slot is there, where it holds anything
 

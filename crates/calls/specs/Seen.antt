@@ -1,6 +1,6 @@
 -- What the code decides on an opened slot is what the rules say of what the key holds; so delete, setting a rate and a set are those that the contracts name.
 -- Assumes nothing.
-use Rattle.std.specs.Prelude.{◌≡◌, Bool, ◌&&◌, ◌||◌, ltb}
+use Rattle.std.specs.Prelude.{◌≡◌, Bool, ◌&&◌, ◌||◌, ltb, Result, Ok, Err, Option, Some, None}
 use Rattle.std.proofs.Math.Path.{refl, ap, ap₂}
 use Rattle.std.proofs.Common.{sym, ◌∙◌, arith, ne_eqb, le-ltb}
 use Rattle.std.proofs.Math.Bool.{true, false, not, cond}
@@ -19,10 +19,6 @@ use Rattle.common.specs.declared.units.RateLimit.{RateLimit}
 use Rattle.common.specs.declared.comparator.RateLimitComparator.{RateLimitComparator}
 use Rattle.answers.specs.declared.ConditionalSetOutcome.{ConditionalSetOutcome}
 use Rattle.answers.specs.declared.HistoryUpdateMode.{HistoryUpdateMode}
-use Rattle.answers.specs.declared.DeleteAnswer.TheVariants as answer
-use Rattle.answers.specs.declared.OldRateAnswer.{OldRateAnswer}
-use Rattle.answers.specs.declared.OldRateAnswer.TheVariants as old
-use Rattle.answers.specs.declared.SetAnswer.TheVariants as sets
 use Rattle.rules.specs.Buckets.{ahead, gone, live}
 use Rattle.ring.specs.declared.Bucket.{Bucket}
 use Rattle.ring.specs.Ring.{sum_of, counts}
@@ -43,6 +39,8 @@ use Rattle.calls.specs.Delete as Delete
 use Rattle.calls.specs.Rate as Rate
 use Rattle.calls.specs.Set as Set
 use Rattle.calls.specs.Opened.{delete_at, rate_at, set_at}
+use Rattle.common.specs.Refusals.{refuse}
+use Rattle.common.specs.declared.refusal.Refusal.{Refusal}
 
 -- ---- of a slot x that is seen as h
 
@@ -50,22 +48,22 @@ module _ (s : Settings) (t : ℕ) (h : Held) (x : Slot) (o : Seen (window_ticks 
   deleted-is : deleted_at x ≡ rules.deleted s t h
   unfolding deleted_at rules.deleted
   deleted-is =
-      ap₂ (λ (y z : Bool). cond y (answer.Deleted (x.pass.live_total - x.pass.live_declined)) (cond z (answer.Deleted 0) answer.Unknown))
+      ap₂ (λ (y z : Bool). cond y (Some (x.pass.live_total - x.pass.live_declined)) (cond z (Some 0) None))
       o.series-is o.cached-is ∙
-      ap₂ (λ (m n : ℕ). cond h.known (answer.Deleted (m - n)) (cond h.cached (answer.Deleted 0) answer.Unknown)) o.live-is o.declined-is
+      ap₂ (λ (m n : ℕ). cond h.known (Some (m - n)) (cond h.cached (Some 0) None)) o.live-is o.declined-is
 
   old-is : (kind : RoomKind) → old_rate_at kind s x ≡ rules.old_rate kind s h
   unfolding old_rate_at rules.old_rate
   old-is kind = go h.known refl
     where
-      was : ℕ → OldRateAnswer
-      was n = old.Was (record { 0 = rate_back (window_in s) (divisor kind (factor_in s)) n })
+      was : ℕ → Option RateLimit
+      was n = Some (record { 0 = rate_back (window_in s) (divisor kind (factor_in s)) n })
 
-      go : (z : Bool) → h.known ≡ z → cond x.series (was x.limit) old.Unknown ≡ cond h.known (was h.limit) old.Unknown
+      go : (z : Bool) → h.known ≡ z → cond x.series (was x.limit) None ≡ cond h.known (was h.limit) None
       go true e =
-          ap (λ (y : Bool). cond y (was x.limit) old.Unknown) (o.series-is ∙ e) ∙ ap was (o.limit_is e) ∙
-          sym (ap (λ (y : Bool). cond y (was h.limit) old.Unknown) e)
-      go false e = ap (λ (y : Bool). cond y (was x.limit) old.Unknown) (o.series-is ∙ e) ∙ sym (ap (λ (y : Bool). cond y (was h.limit) old.Unknown) e)
+          ap (λ (y : Bool). cond y (was x.limit) None) (o.series-is ∙ e) ∙ ap was (o.limit_is e) ∙
+          sym (ap (λ (y : Bool). cond y (was h.limit) None) e)
+      go false e = ap (λ (y : Bool). cond y (was x.limit) None) (o.series-is ∙ e) ∙ sym (ap (λ (y : Bool). cond y (was h.limit) None) e)
 
   -- a count above 0 is no unknown key's, so its limit is not asked for
   module _ (limit count : ℕ) (mode : HistoryUpdateMode) where
@@ -113,18 +111,18 @@ module _ (kind : RoomKind) (s : Settings) (w : List ℕ) (t : ℕ) (key : Sent) 
   pub delete-opened : delete_at kind s w t key ≡ Delete.delete kind s w t key
   unfolding Delete.delete
   delete-opened =
-      call-alike answer.Refused kind s w t key [] [] _ _ (λ p. record { owns = refl; answers = deleted-is s t h x (seen kind s w t key p); wordings = refl })
+      call-alike refuse kind s w t key [] [] _ _ (λ p. record { owns = refl; answers = ap Ok (deleted-is s t h x (seen kind s w t key p)); wordings = refl })
 
   pub rate-opened : (rate : RateLimit) → rate_at kind s w t key rate ≡ Rate.set_rate_limit kind s w t key rate
   unfolding Rate.set_rate_limit
   rate-opened rate =
-      call-alike old.Refused kind s w t key _ _ _ _ (λ p. record { owns = refl; answers = old-is s t h x (seen kind s w t key p) kind; wordings = refl })
+      call-alike refuse kind s w t key _ _ _ _ (λ p. record { owns = refl; answers = ap Ok (old-is s t h x (seen kind s w t key p) kind); wordings = refl })
 
   pub set-opened : (rate : RateLimit) (comparator : RateLimitComparator) (count : ℕ) (mode : HistoryUpdateMode) →
       set_at kind s w t key rate comparator count mode ≡ Set.set kind s w t key rate comparator count mode
   unfolding Set.set set_own
   set-opened rate comparator count mode =
-      call-alike sets.Refused kind s w t key _ _ _ _
+      call-alike refuse kind s w t key _ _ _ _
       (λ p.
       let o = seen kind s w t key p in
       let limit = limit_in kind s rate in
@@ -133,7 +131,7 @@ module _ (kind : RoomKind) (s : Settings) (w : List ℕ) (t : ℕ) (key : Sent) 
       record {
         owns = ap₂ (λ (y z : Bool). set_own rate count (not y && z)) i (lacks-is (window_ticks s) t true h x o (none_left w key.caller));
         answers =
-            ap (λ (z : Bool). sets.Set (outcome_at x z comparator count)) i ∙
-            ap (λ (c : ConditionalSetOutcome). sets.Set c) (outcome-is s t h x o still comparator count);
+            ap (λ (z : Bool). Ok (outcome_at x z comparator count)) i ∙
+            ap (λ (c : ConditionalSetOutcome). Ok c) (outcome-is s t h x o still comparator count);
         wordings = ap (λ (z : Bool). applied w (place_of w x) key (join_ticks s) t (setting x z limit count mode)) i;
       })

@@ -1,18 +1,18 @@
 -- What the code of a set works out on the way is what `set` says.
 -- Assumes nothing.
-use Rattle.std.specs.Prelude.{◌≡◌, Bool, ◌&&◌, List, ℕ}
+use Rattle.std.specs.Prelude.{◌≡◌, Bool, ◌&&◌, List, ℕ, Ok, Err}
+use Rattle.common.specs.declared.refusal.Refusal.{Refusal}
 use Rattle.std.proofs.Math.Path.{sym, ap, subst}
 use Rattle.std.proofs.Common.{ap₂, ◌∙◌, arith, ltb-false}
 use Rattle.std.proofs.Math.Bool.{not}
 use Rattle.parties.specs.Parties.{Sent, none_left}
-use Rattle.common.specs.Refusals.{first, all-false}
+use Rattle.common.specs.Refusals.{first, all-false, refuse}
 use Rattle.settings.specs.Clock.{join_ticks}
 use Rattle.settings.specs.declared.Settings.{Settings}
 use Rattle.common.specs.declared.units.RateLimit.{RateLimit}
 use Rattle.common.specs.declared.comparator.RateLimitComparator.{RateLimitComparator}
 use Rattle.answers.specs.declared.HistoryUpdateMode.{HistoryUpdateMode}
 use Rattle.answers.specs.declared.ConditionalSetOutcome.{ConditionalSetOutcome}
-use Rattle.answers.specs.declared.SetAnswer.TheVariants.{Set, Refused}
 use Rattle.layout.specs.Layout.{most_total}
 use Rattle.rules.specs.declared.RoomKind.{RoomKind}
 use Rattle.rules.specs.Both.{limit_in}
@@ -42,34 +42,34 @@ pub record Worked (kind : RoomKind) (s : Settings) (w : List ℕ) (rate : RateLi
 
 module _ (kind : RoomKind) (s : Settings) (w : List ℕ) (t : ℕ) (key : Sent) (rate : RateLimit) (comparator : RateLimitComparator) (count : ℕ)
     (mode : HistoryUpdateMode)
-    (j : Judged) (e : j ≡ judged kind s w t key) (h : j.code ≡ 0)
+    (j : Judged) (e : Ok j ≡ judged kind s w t key)
     (limit : ℕ) (still : Bool) (place : ℕ) (none : Bool) (k : Worked kind s w rate comparator count mode j.none j.slot limit still place none) where
   still-as : still ≡ idle_at j.slot (limit_in kind s rate) comparator count mode
   still-as = k.still-is ∙ ap (λ (l : ℕ). idle_at j.slot l comparator count mode) k.limit_is
 
   none-as : none ≡ (not (idle_at j.slot (limit_in kind s rate) comparator count mode) && lacks_at (none_left w key.caller) j.slot)
-  none-as = k.none_is ∙ ap₂ (λ (b full : Bool). not b && lacks_at full j.slot) still-as (judged-none kind s w t key j e h)
+  none-as = k.none_is ∙ ap₂ (λ (b full : Bool). not b && lacks_at full j.slot) still-as (judged-none kind s w t key j e)
 
   own-as : first (set_own rate count none) ≡ first (set_own_of kind s (none_left w key.caller) rate comparator count mode j.slot)
   own-as = ap (λ (b : Bool). first (set_own rate count b)) none-as
 
-  pub set-refused : (n : ℕ) → n ≡ first (set_own rate count none) → (n ≡ 0 → ⊥) → Told (set.set kind s w t key rate comparator count mode) (Refused n) w
+  pub set-refused : (n : ℕ) → n ≡ first (set_own rate count none) → (n ≡ 0 → ⊥) → Told (set.set kind s w t key rate comparator count mode) (refuse n) w
   set-refused n f z =
       told-as (set-opened kind s w t key rate comparator count mode)
-      (judged-own kind s w t key j e Refused (set_own_of kind s (none_left w key.caller) rate comparator count mode)
-      (sets kind s w t key rate comparator count mode) n h (f ∙ own-as) z)
+      (judged-own kind s w t key j e refuse (set_own_of kind s (none_left w key.caller) rate comparator count mode)
+      (sets kind s w t key rate comparator count mode) n (f ∙ own-as) z)
 
   module _ (f : first (set_own rate count none) ≡ 0) (change : Change) (g : change ≡ setting j.slot still limit count mode) where
     pub set-carried : Applies w place (join_ticks s) t change
     unfolding set_own
     set-carried =
         let a = all-false (set_own rate count none) (omega arith) f in
-        let q = judged-slot kind s w t key j e h in
-        let o = judged-passed kind s w t key j e h in
+        let q = judged-slot kind s w t key j e in
+        let o = judged-passed kind s w t key j e in
         let r : Applies w (place_of w (slot_in s w t key)) (join_ticks s) t (setting (slot_in s w t key) still limit count mode) =
         set-applies kind s w t key o still limit count comparator mode (k.still-is ∙ ap (λ (x : Slot). idle_at x limit comparator count mode) q)
         (ltb-false most_total count a.1.0)
-        (ap₂ (λ (full : Bool) (x : Slot). not still && lacks_at full x) (sym (judged-none kind s w t key j e h)) (sym q) ∙ sym k.none_is ∙ a.1.1.0) in
+        (ap₂ (λ (full : Bool) (x : Slot). not still && lacks_at full x) (sym (judged-none kind s w t key j e)) (sym q) ∙ sym k.none_is ∙ a.1.1.0) in
         let r2 : Applies w (place_of w j.slot) (join_ticks s) t (setting j.slot still limit count mode) =
         subst (λ (x : Slot). Applies w (place_of w x) (join_ticks s) t (setting x still limit count mode)) (sym q) r in
         let r3 : Applies w place (join_ticks s) t (setting j.slot still limit count mode) =
@@ -81,14 +81,14 @@ module _ (kind : RoomKind) (s : Settings) (w : List ℕ) (t : ℕ) (key : Sent) 
         ap (λ (l : ℕ). setting j.slot (idle_at j.slot (limit_in kind s rate) comparator count mode) l count mode) k.limit_is
 
     pub set-done : (r : ConditionalSetOutcome) (x : List ℕ) → r ≡ outcome_at j.slot still comparator count → x ≡ applied w place key (join_ticks s) t change →
-        Told (set.set kind s w t key rate comparator count mode) (Set r) x
+        Told (set.set kind s w t key rate comparator count mode) (Ok r) x
     set-done r x a b =
         told-as (set-opened kind s w t key rate comparator count mode)
-        (judged-done kind s w t key j e Refused (set_own_of kind s (none_left w key.caller) rate comparator count mode)
-        (sets kind s w t key rate comparator count mode) (Set r) x h
+        (judged-done kind s w t key j e refuse (set_own_of kind s (none_left w key.caller) rate comparator count mode)
+        (sets kind s w t key rate comparator count mode) (Ok r) x
         (sym own-as ∙ f)
         (record {
-          answer = ap Set (a ∙ ap (λ (b : Bool). outcome_at j.slot b comparator count) still-as);
+          answer = ap Ok (a ∙ ap (λ (b : Bool). outcome_at j.slot b comparator count) still-as);
           words = b ∙ ap (λ (at : ℕ). applied w at key (join_ticks s) t change) k.place_is ∙
               ap (applied w (place_of w j.slot) key (join_ticks s) t) change-as;
         }))

@@ -7,13 +7,13 @@ ghost use Rattle.calls.specs.Delete.{delete};
 ghost use Rattle.calls.specs.Rate.{set_rate_limit};
 ghost use Rattle.calls.specs.Set.{set};
 
-use answers::{DeleteAnswer, HistoryUpdateMode, OldRateAnswer, SetAnswer};
-use common::{RateLimit, RateLimitComparator};
+use answers::{ConditionalSetOutcome, HistoryUpdateMode};
+use common::{RateLimit, RateLimitComparator, Refusal};
 use parties::Caller;
 use rules::RoomKind;
-use sets_opened::{idle, lacks_unless, outcome, set_refusal, setting};
+use sets_opened::{check_set, idle, lacks_unless, outcome, setting};
 use settings::Settings;
-use shared_opened::{deleted, deleting, limit_of, limiting, old_rate, rate_refusal};
+use shared_opened::{check_rate, deleted, deleting, limit_of, limiting, old_rate};
 
 pub fn delete(
     kind: RoomKind,
@@ -22,18 +22,14 @@ pub fn delete(
     reading: u64,
     caller: Caller,
     key: &[u8],
-) -> DeleteAnswer
+) -> Result<Option<u64>, Refusal>
     ensures { Told (delete kind settings room.old reading (sent caller key.now)) result room.new }
 {
-    let j = judge::judge(kind, settings, room, reading, caller, key, judge::NO_LOOK);
-    let code = j.code;
-    if code != 0 {
-        return DeleteAnswer::Refused(code);
-    }
+    let j = judge::judge(kind, settings, room, reading, caller, key, judge::NO_LOOK)?;
     let x = j.slot;
     let join = settings.join_ticks();
     change::apply(room, x.at, caller, key, join, reading, deleting(x));
-    deleted(x)
+    Ok(deleted(x))
 }
 
 pub fn set_rate_limit(
@@ -44,18 +40,11 @@ pub fn set_rate_limit(
     caller: Caller,
     key: &[u8],
     rate: RateLimit,
-) -> OldRateAnswer
+) -> Result<Option<RateLimit>, Refusal>
     ensures { Told (set_rate_limit kind settings room.old reading (sent caller key.now) rate) result room.new }
 {
-    let j = judge::judge(kind, settings, room, reading, caller, key, judge::NO_LOOK);
-    let code = j.code;
-    if code != 0 {
-        return OldRateAnswer::Refused(code);
-    }
-    let own = rate_refusal(rate);
-    if own != 0 {
-        return OldRateAnswer::Refused(own);
-    }
+    let j = judge::judge(kind, settings, room, reading, caller, key, judge::NO_LOOK)?;
+    check_rate(rate)?;
     let x = j.slot;
     let change = limiting(x, limit_of(kind, settings, rate));
     change::apply(
@@ -67,7 +56,7 @@ pub fn set_rate_limit(
         reading,
         change,
     );
-    old_rate(kind, settings, x)
+    Ok(old_rate(kind, settings, x))
 }
 
 pub fn set(
@@ -81,25 +70,18 @@ pub fn set(
     comparator: RateLimitComparator,
     count: u64,
     mode: HistoryUpdateMode,
-) -> SetAnswer
+) -> Result<ConditionalSetOutcome, Refusal>
     ensures { Told (set kind settings room.old reading (sent caller key.now) rate comparator count mode) result room.new }
 {
-    let j = judge::judge(kind, settings, room, reading, caller, key, judge::NO_LOOK);
-    let code = j.code;
-    if code != 0 {
-        return SetAnswer::Refused(code);
-    }
+    let j = judge::judge(kind, settings, room, reading, caller, key, judge::NO_LOOK)?;
     let x = j.slot;
     let limit = limit_of(kind, settings, rate);
     let still = idle(x, limit, comparator, count, mode);
     let at = plan::place(room, x);
     let none = lacks_unless(still, plan::lacks_slot(j.none, x));
-    let own = set_refusal(rate, count, none);
-    if own != 0 {
-        return SetAnswer::Refused(own);
-    }
+    check_set(rate, count, none)?;
     let change = setting(x, still, limit, count, mode);
     let join = settings.join_ticks();
     change::apply(room, at, caller, key, join, reading, change);
-    SetAnswer::Set(outcome(x, still, comparator, count))
+    Ok(outcome(x, still, comparator, count))
 }

@@ -1,11 +1,9 @@
 -- Cleanup: its refusals, and with the words that `stale` says its verdict. t is the reading, stale the stale time.
 -- Assumes nothing.
-use Rattle.std.specs.Prelude.{Bool, not, ◌&&◌, ◌||◌, List, ◌∷◌, ◌++◌, ℕ, ltb}
-use Rattle.common.specs.Refusals.{first}
+use Rattle.std.specs.Prelude.{Bool, not, ◌&&◌, ◌||◌, List, ◌∷◌, ◌++◌, ℕ, ltb, Result, Ok}
+use Rattle.common.specs.Refusals.{first, refuse}
 use Rattle.settings.specs.Settings.{faults}
 use Rattle.settings.specs.Clock.{ticks_in}
-use Rattle.answers.specs.declared.DoneAnswer.{DoneAnswer}
-use Rattle.answers.specs.declared.DoneAnswer.TheVariants.{Done, Refused}
 use Rattle.settings.specs.declared.Settings.{Settings}
 use Rattle.room.specs.Room.{slots_of, last_of, free, sized}
 use Rattle.parties.specs.declared.Caller.{Caller}
@@ -15,6 +13,7 @@ use Rattle.opened.specs.Sound.{sound_slot}
 use Rattle.judge.specs.Verdict.{Verdict, verdict, unless_refused}
 use Rattle.base.specs.Every.{every}
 use Rattle.stale.specs.Uses.{cleaned}
+use Rattle.common.specs.declared.refusal.Refusal.{Refusal}
 
 -- ---- refusals: 1 to 4 of the settings, then 5, 6, 15 and 16
 
@@ -34,5 +33,5 @@ misfits kind s w t c = (5, not (sized w && (ours w && all_pass kind s w))) ∷ (
 abbrev pub refusal : RoomKind → Settings → List ℕ → ℕ → Caller → ℕ
 refusal kind s w t c = first (faults s ++ misfits kind s w t c)
 
-unfoldable pub cleanup : RoomKind → Settings → List ℕ → ℕ → Caller → ℕ → Verdict DoneAnswer
-cleanup kind s w t c stale = unless_refused Refused (refusal kind s w t c) w (verdict Done (cleaned w t (ticks_in s) stale))
+unfoldable pub cleanup : RoomKind → Settings → List ℕ → ℕ → Caller → ℕ → Verdict (Result (Unit {0}) Refusal)
+cleanup kind s w t c stale = unless_refused refuse (refusal kind s w t c) w (verdict (Ok tt) (cleaned w t (ticks_in s) stale))

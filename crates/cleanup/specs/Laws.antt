@@ -1,15 +1,14 @@
 -- What the code has tested, turned into what the definitions say; and what is known of a cleanup that is not refused.
 -- Assumes nothing.
-use Rattle.std.specs.Prelude.{◌≡◌, refl, Bool, true, false, not, ◌&&◌, ◌||◌, List, ◌≢◌, ℕ, ◌≤◌, ◌<◌, eqb}
+use Rattle.std.specs.Prelude.{◌≡◌, refl, Bool, true, false, not, ◌&&◌, ◌||◌, List, ◌≢◌, ℕ, ◌≤◌, ◌<◌, eqb, Ok}
 use Rattle.std.proofs.Math.Path.{sym}
 use Rattle.std.proofs.Common.{ap, ◌∙◌, arith}
 use Rattle.std.proofs.lemmas.Bool.{false≢true}
 use borrow.Author.Tests.{eqb-true, eqb-false, lt-ltb, le-ltb, ltb-false, not-false}
 use Rattle.base.specs.Decides.{other-true, and-true, not_so}
-use Rattle.common.specs.Refusals.{first, Positive, first_found, first-none, all-false}
+use Rattle.common.specs.Refusals.{first, Positive, first_found, first-none, all-false, refuse}
 use Rattle.settings.specs.Settings.{faults, Proper, proper, unrefused}
 use Rattle.settings.specs.Clock.{ticks_in, window_ticks}
-use Rattle.answers.specs.declared.DoneAnswer.TheVariants.{Done, Refused}
 use Rattle.settings.specs.declared.Settings.{Settings}
 use Rattle.ring.specs.Ring.{Shape}
 use Rattle.ring.specs.Sound.{sound_buckets, sound-true}
@@ -169,10 +168,10 @@ passed-ready kind s w t c p = record {
 -- ---- the answer and the words
 
 module _ (kind : RoomKind) (s : Settings) (w : List ℕ) (t : ℕ) (c : Caller) (stale : ℕ) where
-  pub cleanup-refused : (n : ℕ) → n ≡ refusal kind s w t c → n ≢ 0 → Told (cleanup kind s w t c stale) (Refused n) w
+  pub cleanup-refused : (n : ℕ) → n ≡ refusal kind s w t c → n ≢ 0 → Told (cleanup kind s w t c stale) (refuse n) w
   unfolding cleanup
-  cleanup-refused n e z = rw (sym e) (told-turned Refused n w (verdict Done (cleaned w t (ticks_in s) stale)) z)
+  cleanup-refused n e z = rw (sym e) (told-turned refuse n w (verdict (Ok tt) (cleaned w t (ticks_in s) stale)) z)
 
-  pub cleanup-done : (v : List ℕ) → refusal kind s w t c ≡ 0 → v ≡ cleaned w t (ticks_in s) stale → Told (cleanup kind s w t c stale) Done v
+  pub cleanup-done : (v : List ℕ) → refusal kind s w t c ≡ 0 → v ≡ cleaned w t (ticks_in s) stale → Told (cleanup kind s w t c stale) (Ok tt) v
   unfolding cleanup
-  cleanup-done v e f = told-done Refused (refusal kind s w t c) w (verdict Done (cleaned w t (ticks_in s) stale)) Done v e (record { answer = refl; words = f })
+  cleanup-done v e f = told-done refuse (refusal kind s w t c) w (verdict (Ok tt) (cleaned w t (ticks_in s) stale)) (Ok tt) v e (record { answer = refl; words = f })

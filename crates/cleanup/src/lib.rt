@@ -5,10 +5,11 @@
 ghost use Rattle.std.specs.Prelude.{◌≡◌, ◌+◌, ◌<◌, ◌≤◌, true};
 ghost use Rattle.settings.specs.Settings.{window_in, Proper};
 ghost use Rattle.room.specs.Room.{Room, slots_of};
+ghost use Rattle.common.specs.Refusals.{ruled};
 ghost use Rattle.judge.specs.Verdict.{Told};
 ghost use Rattle.cleanup.specs.Cleanup.{slot_passes, all_pass, refusal, cleanup};
 
-use answers::DoneAnswer;
+use common::Refusal;
 use parties::Caller;
 use rules::RoomKind;
 use settings::Settings;
@@ -34,44 +35,51 @@ fn all_pass(kind: RoomKind, settings: Settings, w: &[u64], reading: u64) -> bool
     ensures { result ≡ all_pass kind settings w.now }
 {
     let n = w[layout::SLOTS] as usize;
-    let mut i = 0;
-    while i < n {
+    for i in 0..n {
         if !slot_passes(kind, settings, w, i, reading) {
             return false;
         }
-        i += 1;
     }
     true
 }
 
-// Refusals 5, 6, 15 and 16, of a room whose lengths are right.
-fn judge_room(kind: RoomKind, settings: Settings, w: &[u64], reading: u64, caller: Caller) -> u64
+// Turned away with refusal 5, 6, 15 or 16, of a room whose lengths are right.
+fn judge_room(
+    kind: RoomKind,
+    settings: Settings,
+    w: &[u64],
+    reading: u64,
+    caller: Caller,
+) -> Result<(), Refusal>
     requires { Room w.now × Proper settings }
-    ensures { result ≡ refusal kind settings w.now reading caller }
+    ensures { result ≡ ruled (refusal kind settings w.now reading caller) }
 {
     let held = parties::census(w);
     if !held.ours {
-        return 5;
+        return Err(Refusal::BAD_ROOM);
     }
     if !all_pass(kind, settings, w, reading) {
-        return 5;
+        return Err(Refusal::BAD_ROOM);
     }
     if reading < w[layout::LAST] {
-        return 6;
+        return Err(Refusal::CLOCK_WENT_BACK);
     }
-    parties::refusal(w, caller, held)
+    parties::check(w, caller, held)
 }
 
-// The lowest refusal of a cleanup, or 0.
-pub fn judge_all(kind: RoomKind, settings: Settings, w: &[u64], reading: u64, caller: Caller) -> u64
-    ensures { result ≡ refusal kind settings w.now reading caller }
+// Turned away with the lowest refusal of a cleanup.
+pub fn judge_all(
+    kind: RoomKind,
+    settings: Settings,
+    w: &[u64],
+    reading: u64,
+    caller: Caller,
+) -> Result<(), Refusal>
+    ensures { result ≡ ruled (refusal kind settings w.now reading caller) }
 {
-    let n = settings.refusal();
-    if n != 0 {
-        return n;
-    }
+    settings.check()?;
     if !room::sized(w) {
-        return 5;
+        return Err(Refusal::BAD_ROOM);
     }
     judge_room(kind, settings, w, reading, caller)
 }
@@ -83,14 +91,11 @@ pub fn cleanup(
     reading: u64,
     caller: Caller,
     stale: u64,
-) -> DoneAnswer
+) -> Result<(), Refusal>
     ensures { Told (cleanup kind settings room.old reading caller stale) result room.new }
 {
-    let code = judge_all(kind, settings, room, reading, caller);
-    if code != 0 {
-        return DoneAnswer::Refused(code);
-    }
+    judge_all(kind, settings, room, reading, caller)?;
     let clock = settings.clock_mode;
     stale::clean(room, reading, clock.ticks_per_millisecond(), stale);
-    DoneAnswer::Done
+    Ok(())
 }

@@ -1,15 +1,13 @@
 -- Clear: every slot of the caller's party is freed. It judges settings, lengths, whose the slots are, the reading and the caller alone.
 -- Assumes nothing.
-use Rattle.std.specs.Prelude.{◌≡◌, refl, Bool, true, false, not, ◌&&◌, List, ◌∷◌, ◌++◌, ℕ, ◌≤◌, ◌<◌, ltb, eqb}
+use Rattle.std.specs.Prelude.{◌≡◌, refl, Bool, true, false, not, ◌&&◌, List, ◌∷◌, ◌++◌, ℕ, ◌≤◌, ◌<◌, ltb, eqb, Result, Ok, Err}
 use Rattle.std.proofs.Math.Path.{sym}
 use Rattle.std.proofs.Common.{subst, ◌∙◌, arith}
 use borrow.Author.Tests.{lt-ltb, le-ltb, eqb-true, eqb-false, ltb-false, not-false}
 use Rattle.base.specs.Decides.{and-true}
-use Rattle.common.specs.Refusals.{first, first_found, first-none, all-false}
+use Rattle.common.specs.Refusals.{first, first_found, first-none, all-false, refuse}
 use Rattle.settings.specs.Settings.{faults}
 use Rattle.settings.specs.declared.Settings.{Settings}
-use Rattle.answers.specs.declared.DoneAnswer.{DoneAnswer}
-use Rattle.answers.specs.declared.DoneAnswer.TheVariants.{Done, Refused}
 use Rattle.room.specs.Room.{Room, sized, last_of, with_reading, cleared}
 use Rattle.room.specs.Laws.{room-sized, sized-room}
 use Rattle.parties.specs.declared.Caller.{Caller}
@@ -17,6 +15,7 @@ use Rattle.parties.specs.Parties.{mark_of, is_party, ours, turns}
 use Rattle.judge.proofs.Laws.{faults-positive}
 use Rattle.judge.specs.Verdict.{Verdict, verdict, unless_refused, Told}
 use Rattle.judge.proofs.Verdict.{told-turned, told-done}
+use Rattle.common.specs.declared.refusal.Refusal.{Refusal}
 
 -- "clear judges lengths only"; 5 is given, "by clear too, where a slot in use is neither party's"; 6: "the reading is below the last of a call not refused"
 unfoldable pub unclear : List ℕ → ℕ → Caller → List (ℕ × Bool)
@@ -26,8 +25,8 @@ abbrev pub clear_refusal : Settings → List ℕ → ℕ → Caller → ℕ
 clear_refusal s w t c = first (faults s ++ unclear w t c)
 
 -- "Clear removes the caller's keys only": its party's slots are free then, and no other word changes but the last reading
-abbrev pub clear : Settings → List ℕ → ℕ → Caller → Verdict DoneAnswer
-clear s w t c = unless_refused Refused (clear_refusal s w t c) w (verdict Done (with_reading (cleared w (mark_of c.party)) t))
+abbrev pub clear : Settings → List ℕ → ℕ → Caller → Verdict (Result (Unit {0}) Refusal)
+clear s w t c = unless_refused refuse (clear_refusal s w t c) w (verdict (Ok tt) (with_reading (cleared w (mark_of c.party)) t))
 
 -- ---- its number
 
@@ -80,11 +79,11 @@ module _ (s : Settings) (w : List ℕ) (t : ℕ) (c : Caller) where
   clear_room e = (clear-passed e).room
 
   -- ---- what it is told
-  pub clear-refused : (n : ℕ) → n ≡ clear_refusal s w t c → (n ≡ 0 → ⊥) → Told (clear s w t c) (Refused n) w
+  pub clear-refused : (n : ℕ) → n ≡ clear_refusal s w t c → (n ≡ 0 → ⊥) → Told (clear s w t c) (refuse n) w
   clear-refused n e z =
-      subst (λ (m : ℕ). Told (unless_refused Refused m w (verdict Done (with_reading (cleared w (mark_of c.party)) t))) (Refused n) w) e
-      (told-turned Refused n w (verdict Done (with_reading (cleared w (mark_of c.party)) t)) z)
+      subst (λ (m : ℕ). Told (unless_refused refuse m w (verdict (Ok tt) (with_reading (cleared w (mark_of c.party)) t))) (refuse n) w) e
+      (told-turned refuse n w (verdict (Ok tt) (with_reading (cleared w (mark_of c.party)) t)) z)
 
-  pub clear-done : (x : List ℕ) → clear_refusal s w t c ≡ 0 → x ≡ with_reading (cleared w (mark_of c.party)) t → Told (clear s w t c) Done x
+  pub clear-done : (x : List ℕ) → clear_refusal s w t c ≡ 0 → x ≡ with_reading (cleared w (mark_of c.party)) t → Told (clear s w t c) (Ok tt) x
   clear-done x e p =
-      told-done Refused (clear_refusal s w t c) w (verdict Done (with_reading (cleared w (mark_of c.party)) t)) Done x e (record { answer = refl; words = p })
+      told-done refuse (clear_refusal s w t c) w (verdict (Ok tt) (with_reading (cleared w (mark_of c.party)) t)) (Ok tt) x e (record { answer = refl; words = p })

@@ -47,15 +47,6 @@ some a b h = omega arith
 one-pos : (d : ℤ) → 0 < 1 * 1 * down d
 one-pos d = mul-pos (mul-pos (up_pos (pos 0)) (up_pos (pos 0))) (down_pos d)
 
-pub over_minus_one : (x : Float) → T (le one x) → T (lt (fin true 1 (pos 0)) x)
-unfolding le lt
-over_minus_one nan h = absurd h
-over_minus_one (inf true) h = absurd h
-over_minus_one (inf false) h = tt
-over_minus_one (fin true n d) h =
-    absurd (pos-ne (1 * 1 * down d) (one-pos d) (eqb→eq (1 * 1 * down d) 0 (and_r (1 * 1 * down d == n * up d * 1) (1 * 1 * down d == 0) h)))
-over_minus_one (fin false n d) h = lt→ltb 0 (1 * 1 * down d + n * up d * 1) (some (1 * 1 * down d) (n * up d * 1) (one-pos d))
-
 -- ---- below 1
 not-le : (a b : ℕ) → (nat_lt a b || (a == b && true)) ≡ false → b < a
 not-le a b e = go (nat_lt b a) (ltb→lt b a) (nltb→le b a)
@@ -99,3 +90,12 @@ cut-large (inf false) p h = refl
 cut-large (fin true n d) p h =
     absurd (pos-ne (1 * 1 * down d) (one-pos d) (eqb→eq (1 * 1 * down d) 0 (and_r (1 * 1 * down d == n * up d * 1) (1 * 1 * down d == 0) p)))
 cut-large (fin false n d) p h = full (n * up d / down d) (over n d (not-lt (n * up d * 1) (1 * 2 ^ 64 * down d) h))
+
+pub over_minus_one : (x : Float) → T (le one x) → T (lt (fin true 1 (pos 0)) x)
+unfolding le lt
+over_minus_one nan h = absurd h
+over_minus_one (inf true) h = absurd h
+over_minus_one (inf false) h = tt
+over_minus_one (fin true n d) h =
+    absurd (pos-ne (1 * 1 * down d) (one-pos d) (eqb→eq (1 * 1 * down d) 0 (and_r (1 * 1 * down d == n * up d * 1) (1 * 1 * down d == 0) h)))
+over_minus_one (fin false n d) h = lt→ltb 0 (1 * 1 * down d + n * up d * 1) (some (1 * 1 * down d) (n * up d * 1) (one-pos d))

@@ -1,6 +1,7 @@
 -- Refusals: a list of numbers with their conditions, of which a call gives the first that holds.
 -- Assumes nothing.
-use Rattle.std.specs.Prelude.{◌≡◌, ℕ, ◌<◌, Bool, true, false, cond, List, [], ◌∷◌, ◌++◌, ◌≢◌, refl}
+use Rattle.std.specs.Prelude.{◌≡◌, ℕ, ◌<◌, Bool, true, false, cond, List, [], ◌∷◌, ◌++◌, ◌≢◌, refl, Result, Ok, Err, eqb}
+use Rattle.common.specs.declared.refusal.Refusal.{Refusal}
 use Rattle.std.proofs.Common.{sym, ◌∙◌, arith}
 use Rattle.std.proofs.Math.Decide.{ℕ_discrete}
 
@@ -8,6 +9,22 @@ use Rattle.std.proofs.Math.Decide.{ℕ_discrete}
 unfoldable pub first : List (ℕ × Bool) → ℕ
 first [] = 0
 first (x ∷ xs) = cond x.1 x.0 (first xs)
+
+-- the refusal of a number
+abbrev pub refusal : ℕ → Refusal
+refusal n = record { 0 = n }
+
+-- the answer of a call that is refused with n
+abbrev pub refuse : {A : Type 0} → ℕ → Result A Refusal
+refuse n = Err (refusal n)
+
+-- v, unless n turns away: 0 does not
+abbrev pub unless : {A : Type 0} → ℕ → A → Result A Refusal
+unless n v = cond (eqb n 0) (Ok v) (refuse n)
+
+-- what a number comes to: with 0 the call goes on
+abbrev pub ruled : ℕ → Result (Unit {0}) Refusal
+ruled n = unless n tt
 
 -- every number is above 0
 abbrev pub Positive : List (ℕ × Bool) → Type 0

@@ -3,13 +3,14 @@
 
 mod comparator;
 mod limits;
+mod refusal;
 mod units;
 mod words;
 
 pub use comparator::RateLimitComparator;
 pub use limits::{absolute_limit, cut, cut_limit, hard_limit, is_limit, soft_limit};
+pub use refusal::Refusal;
 pub use units::{
-    BucketSize, BucketSizeAnswer, CachePeriodAnswer, RateLimit, RateLimitAnswer,
-    SuppressionFactorCachePeriod, WindowSize, WindowSizeAnswer, is_real_from,
+    BucketSize, Period, RateLimit, SuppressionFactorCachePeriod, WindowSize, is_real_from,
 };
 pub use words::{double_of, word_of};

@@ -6,22 +6,11 @@ ghost use Rattle.common.specs.Limits.{absolute_word, hard_word, cut_word, soft_w
 use crate::units::{RateLimit, WindowSize};
 use crate::words::{double_of, word_of};
 
-// The largest double.
-const MOST: f64 = 1.7976931348623157e308;
-
 // Rust's `x as u64`: the fraction is dropped, a NaN and a negative give 0, and 2^64 and more gives 2^64 - 1.
 pub fn cut(x: f64) -> u64
     ensures { result ≡ Ieee.to_unsigned 64 x }
 {
-    if x >= 1.0 {
-        if x < 18446744073709551616.0 {
-            std::num::truncating_f64_to_u64(x)
-        } else {
-            18446744073709551615
-        }
-    } else {
-        0
-    }
+    std::num::saturating_f64_to_u64(x)
 }
 
 // rate * W
@@ -65,11 +54,8 @@ impl RateLimit {
         ensures { result.0 ≡ rate_back window.0 factor limit }
     {
         let x = double_of(limit);
-        if x == MOST {
-            return RateLimit(MOST);
-        }
-        if x == 1.0 / 0.0 {
-            return RateLimit(MOST);
+        if x == f64::MAX || x == f64::INFINITY {
+            return RateLimit::max();
         }
         RateLimit(x / std::num::nearest_u64_to_f64(window.0) / factor)
     }

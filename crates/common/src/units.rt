@@ -1,11 +1,15 @@
 // Units of time and rate, as tuple structs: a window in seconds, a bucket and a cache period in milliseconds, a rate
 // per second. A constructor refuses what lies outside the range of its unit.
-ghost use Rattle.std.specs.Prelude.{◌≡◌, ◌<◌, ◌&&◌};
+ghost use Rattle.std.specs.Prelude.{◌≡◌, ℕ, ◌*◌, ◌<◌, ◌≤◌, ◌&&◌, Result};
 ghost use Rattle.std.specs.Float.Ieee as Ieee;
-ghost use Rattle.common.specs.Ranges.{within, most, window_ok, bucket_ok, cache_ok, rate_ok};
-ghost use Rattle.common.specs.Units.{second, minute, hour, day, week, month, ms};
-ghost use Rattle.common.specs.Units.{period_of, window_of, bucket_of, cache_of, rate_from, rate_of};
+ghost use Rattle.std.proofs.Common.{rules};
+ghost use Rattle.common.specs.Ranges.{within, most, most_window, most_bucket, most_cache, rate_ok};
+ghost use Rattle.common.specs.Units.{second, minute, hour, day, week, month};
+ghost use Rattle.common.specs.Units.{period_of, unit_of, window_of, bucket_of, cache_of, window_is, bucket_is, cache_is, rate_from, rate_of};
 ghost use Rattle.common.specs.Units.{milliseconds_of, in_periods, per_period, default_window, default_bucket, default_cache};
+ghost use Rattle.common.specs.declared.refusal.Refusal.{Refusal};
+
+use crate::refusal::Refusal;
 
 const MILLISECONDS_PER_SECOND: u64 = 1_000;
 
@@ -22,30 +26,8 @@ const WEEK: u64 = 604_800;
 
 const MONTH: u64 = 2_592_000;
 
-// The same in milliseconds.
-const MS_SECOND: u64 = MILLISECONDS_PER_SECOND * SECOND;
-
-const MS_MINUTE: u64 = MILLISECONDS_PER_SECOND * MINUTE;
-
-const MS_HOUR: u64 = MILLISECONDS_PER_SECOND * HOUR;
-
-const MS_DAY: u64 = MILLISECONDS_PER_SECOND * DAY;
-
-const MS_WEEK: u64 = MILLISECONDS_PER_SECOND * WEEK;
-
-const MS_MONTH: u64 = MILLISECONDS_PER_SECOND * MONTH;
-
-// The ends of the ranges.
-const MOST_WINDOW: u64 = 33_554_432;
-
-const MOST_BUCKET: u64 = 4_294_967_296;
-
-const MOST_CACHE: u64 = 4_294_967_296;
-
-// 2^-900, and the largest finite double.
+// 2^-900
 const LEAST_RATE: f64 = 1.1830521861667747e-271;
-
-const MOST_REAL: f64 = 1.7976931348623157e308;
 
 const DEFAULT_WINDOW: u64 = 30;
 
@@ -53,112 +35,159 @@ const DEFAULT_BUCKET: u64 = 100;
 
 const DEFAULT_CACHE: u64 = 100;
 
-// What a number of periods comes to, in the unit's own seconds or milliseconds.
-#[derive(Clone, Copy)]
-pub enum Period {
-    Within(u64),
-    Outside,
-}
-
-// The shared fact of every period constructor, over the multiplier.
-fn checked_duration(value: u64, multiplier: u64, most: u64) -> Period
-    requires { 0 < multiplier }
-    ensures { result ≡ period_of most multiplier value }
-{
-    if value == 0 {
-        return Period::Outside;
-    }
-    if value > most / multiplier {
-        return Period::Outside;
-    }
-    Period::Within(value * multiplier)
-}
-
 fn is_within(value: u64, most: u64) -> bool
     ensures { result ≡ within 1 most value }
 {
-    if value < 1 {
-        return false;
-    }
-    value <= most
+    (1..=most).contains(&value)
 }
 
 // Whether a double is finite and at least `least`: false for a NaN.
 pub fn is_real_from(least: f64, x: f64) -> bool
     ensures { result ≡ (Ieee.le least x && Ieee.le x most) }
 {
-    if x >= least { x <= MOST_REAL } else { false }
+    x >= least && x <= f64::MAX
+}
+
+// A length of time in parts of its own: how many of them a second has, how many a length has at most, and the refusal of any other number of them.
+pub trait Period: Copy {
+    ghost SECOND: { ℕ };
+
+    ghost MOST: { ℕ };
+
+    ghost REFUSAL: { Refusal };
+
+    ghost of: { ℕ → Self };
+
+    ghost parts: { Self → ℕ };
+
+    ghost made: { ℕ → ℕ → Result Self Refusal };
+
+    const SECOND: u64;
+
+    const MOST: u64;
+
+    const REFUSAL: Refusal;
+
+    fn of(number: u64) -> Self
+        ensures { result ≡ of number };
+
+    fn parts(self) -> u64
+        ensures { result ≡ parts self };
+
+    ghost some: { 0 < SECOND };
+
+    ghost few: { SECOND ≤ 1000 };
+
+    ghost made_is: { (m v : ℕ) → made m v ≡ unit_of of REFUSAL MOST m v };
+
+    final fn is_in_range(self) -> bool
+        ensures { result ≡ within 1 MOST (parts self) }
+    {
+        is_within(self.parts(), Self::MOST)
+    }
+
+    final fn seconds(value: u64) -> Result<Self, Refusal>
+        ensures { result ≡ made (SECOND * second) value }
+    {
+        periods(value, Self::SECOND * SECOND)
+    }
+
+    final fn minutes(value: u64) -> Result<Self, Refusal>
+        ensures { result ≡ made (SECOND * minute) value }
+    {
+        periods(value, Self::SECOND * MINUTE)
+    }
+
+    final fn hours(value: u64) -> Result<Self, Refusal>
+        ensures { result ≡ made (SECOND * hour) value }
+    {
+        periods(value, Self::SECOND * HOUR)
+    }
+
+    final fn days(value: u64) -> Result<Self, Refusal>
+        ensures { result ≡ made (SECOND * day) value }
+    {
+        periods(value, Self::SECOND * DAY)
+    }
+
+    final fn weeks(value: u64) -> Result<Self, Refusal>
+        ensures { result ≡ made (SECOND * week) value }
+    {
+        periods(value, Self::SECOND * WEEK)
+    }
+
+    final fn months(value: u64) -> Result<Self, Refusal>
+        ensures { result ≡ made (SECOND * month) value }
+    {
+        periods(value, Self::SECOND * MONTH)
+    }
+}
+
+// The shared fact of every period constructor, over the multiplier.
+fn checked_duration(value: u64, multiplier: u64, most: u64) -> Option<u64>
+    requires { 0 < multiplier }
+    ensures { result ≡ period_of most multiplier value }
+{
+    let number = value.checked_mul(multiplier)?;
+    is_within(number, most).then_some(number)
+}
+
+// So many periods of so many parts each.
+fn periods<P: Period>(value: u64, multiplier: u64) -> Result<P, Refusal>
+    requires { 0 < multiplier }
+    ensures { result ≡ P.made multiplier value }
+{
+    let number = checked_duration(value, multiplier, P::MOST).ok_or(P::REFUSAL)?;
+    Ok(P::of(number))
 }
 
 // A sliding window, in seconds.
-#[derive(Clone, Copy)]
+#[derive(Clone, Copy, Debug, PartialEq, Eq, Hash)]
 pub struct WindowSize(pub u64);
 
-#[derive(Clone, Copy)]
-pub enum WindowSizeAnswer {
-    Made(WindowSize),
-    Refused(u64),
+impl Default for WindowSize {
+    ghost is_default = { λ x. x ≡ record { 0 = default_window } };
+
+    fn default() -> Self {
+        WindowSize(DEFAULT_WINDOW)
+    }
+}
+
+impl Period for WindowSize {
+    ghost SECOND = { 1 };
+
+    ghost MOST = { most_window };
+
+    ghost REFUSAL = { record { 0 = 1 } };
+
+    ghost of = { λ n. record { 0 = n } };
+
+    ghost parts = { λ x. x.0 };
+
+    ghost made = { window_of };
+
+    const SECOND: u64 = 1;
+
+    const MOST: u64 = 33_554_432;
+
+    const REFUSAL: Refusal = Refusal::BAD_WINDOW;
+
+    fn of(number: u64) -> Self {
+        WindowSize(number)
+    }
+
+    fn parts(self) -> u64 {
+        self.0
+    }
+
+    ghost some = { Prim.search rules };
+
+    ghost few = { Prim.search rules };
+
+    ghost made_is = { window_is };
 }
 
 impl WindowSize {
-    pub fn default() -> Self
-        ensures { result ≡ record { 0 = default_window } }
-    {
-        WindowSize(DEFAULT_WINDOW)
-    }
-
-    pub fn is_in_range(self) -> bool
-        ensures { result ≡ window_ok self.0 }
-    {
-        is_within(self.0, MOST_WINDOW)
-    }
-
-    fn from_seconds(value: u64, multiplier: u64) -> WindowSizeAnswer
-        requires { 0 < multiplier }
-        ensures { result ≡ window_of multiplier value }
-    {
-        match checked_duration(value, multiplier, MOST_WINDOW) {
-            Period::Within(seconds) => WindowSizeAnswer::Made(WindowSize(seconds)),
-            Period::Outside => WindowSizeAnswer::Refused(1),
-        }
-    }
-
-    pub fn seconds(value: u64) -> WindowSizeAnswer
-        ensures { result ≡ window_of second value }
-    {
-        WindowSize::from_seconds(value, SECOND)
-    }
-
-    pub fn minutes(value: u64) -> WindowSizeAnswer
-        ensures { result ≡ window_of minute value }
-    {
-        WindowSize::from_seconds(value, MINUTE)
-    }
-
-    pub fn hours(value: u64) -> WindowSizeAnswer
-        ensures { result ≡ window_of hour value }
-    {
-        WindowSize::from_seconds(value, HOUR)
-    }
-
-    pub fn days(value: u64) -> WindowSizeAnswer
-        ensures { result ≡ window_of day value }
-    {
-        WindowSize::from_seconds(value, DAY)
-    }
-
-    pub fn weeks(value: u64) -> WindowSizeAnswer
-        ensures { result ≡ window_of week value }
-    {
-        WindowSize::from_seconds(value, WEEK)
-    }
-
-    pub fn months(value: u64) -> WindowSizeAnswer
-        ensures { result ≡ window_of month value }
-    {
-        WindowSize::from_seconds(value, MONTH)
-    }
-
     pub fn as_seconds(self) -> u64
         ensures { result ≡ self.0 }
     {
@@ -169,11 +198,7 @@ impl WindowSize {
     pub fn as_milliseconds(self) -> u64
         ensures { result ≡ milliseconds_of self.0 }
     {
-        let seconds = self.0;
-        if seconds > 18446744073709551615 / MILLISECONDS_PER_SECOND {
-            return 18446744073709551615;
-        }
-        seconds * MILLISECONDS_PER_SECOND
+        self.0.saturating_mul(MILLISECONDS_PER_SECOND)
     }
 
     fn as_period(self, period: u64) -> f64
@@ -214,78 +239,56 @@ impl WindowSize {
 }
 
 // How long increments join one bucket, in milliseconds.
-#[derive(Clone, Copy)]
+#[derive(Clone, Copy, Debug, PartialEq, Eq, Hash)]
 pub struct BucketSize(pub u64);
 
-#[derive(Clone, Copy)]
-pub enum BucketSizeAnswer {
-    Made(BucketSize),
-    Refused(u64),
+impl Default for BucketSize {
+    ghost is_default = { λ x. x ≡ record { 0 = default_bucket } };
+
+    fn default() -> Self {
+        BucketSize(DEFAULT_BUCKET)
+    }
+}
+
+impl Period for BucketSize {
+    ghost SECOND = { 1000 };
+
+    ghost MOST = { most_bucket };
+
+    ghost REFUSAL = { record { 0 = 2 } };
+
+    ghost of = { λ n. record { 0 = n } };
+
+    ghost parts = { λ x. x.0 };
+
+    ghost made = { bucket_of };
+
+    const SECOND: u64 = MILLISECONDS_PER_SECOND;
+
+    const MOST: u64 = 4_294_967_296;
+
+    const REFUSAL: Refusal = Refusal::BAD_BUCKET;
+
+    fn of(number: u64) -> Self {
+        BucketSize(number)
+    }
+
+    fn parts(self) -> u64 {
+        self.0
+    }
+
+    ghost some = { Prim.search rules };
+
+    ghost few = { Prim.search rules };
+
+    ghost made_is = { bucket_is };
 }
 
 impl BucketSize {
-    pub fn default() -> Self
-        ensures { result ≡ record { 0 = default_bucket } }
-    {
-        BucketSize(DEFAULT_BUCKET)
-    }
-
-    pub fn is_in_range(self) -> bool
-        ensures { result ≡ bucket_ok self.0 }
-    {
-        is_within(self.0, MOST_BUCKET)
-    }
-
-    fn from_milliseconds(value: u64, multiplier: u64) -> BucketSizeAnswer
-        requires { 0 < multiplier }
-        ensures { result ≡ bucket_of multiplier value }
-    {
-        match checked_duration(value, multiplier, MOST_BUCKET) {
-            Period::Within(milliseconds) => BucketSizeAnswer::Made(BucketSize(milliseconds)),
-            Period::Outside => BucketSizeAnswer::Refused(2),
-        }
-    }
-
-    pub fn milliseconds(value: u64) -> BucketSizeAnswer
+    pub fn milliseconds(value: u64) -> Result<Self, Refusal>
         ensures { result ≡ bucket_of 1 value }
     {
-        BucketSize::from_milliseconds(value, 1)
-    }
-
-    pub fn seconds(value: u64) -> BucketSizeAnswer
-        ensures { result ≡ bucket_of (ms second) value }
-    {
-        BucketSize::from_milliseconds(value, MS_SECOND)
-    }
-
-    pub fn minutes(value: u64) -> BucketSizeAnswer
-        ensures { result ≡ bucket_of (ms minute) value }
-    {
-        BucketSize::from_milliseconds(value, MS_MINUTE)
-    }
-
-    pub fn hours(value: u64) -> BucketSizeAnswer
-        ensures { result ≡ bucket_of (ms hour) value }
-    {
-        BucketSize::from_milliseconds(value, MS_HOUR)
-    }
-
-    pub fn days(value: u64) -> BucketSizeAnswer
-        ensures { result ≡ bucket_of (ms day) value }
-    {
-        BucketSize::from_milliseconds(value, MS_DAY)
-    }
-
-    pub fn weeks(value: u64) -> BucketSizeAnswer
-        ensures { result ≡ bucket_of (ms week) value }
-    {
-        BucketSize::from_milliseconds(value, MS_WEEK)
-    }
-
-    pub fn months(value: u64) -> BucketSizeAnswer
-        ensures { result ≡ bucket_of (ms month) value }
-    {
-        BucketSize::from_milliseconds(value, MS_MONTH)
+        periods(value, 1)
     }
 
     pub fn as_milliseconds(self) -> u64
@@ -296,80 +299,56 @@ impl BucketSize {
 }
 
 // How long a suppression factor is kept, in milliseconds.
-#[derive(Clone, Copy)]
+#[derive(Clone, Copy, Debug, PartialEq, Eq, Hash)]
 pub struct SuppressionFactorCachePeriod(pub u64);
 
-#[derive(Clone, Copy)]
-pub enum CachePeriodAnswer {
-    Made(SuppressionFactorCachePeriod),
-    Refused(u64),
+impl Default for SuppressionFactorCachePeriod {
+    ghost is_default = { λ x. x ≡ record { 0 = default_cache } };
+
+    fn default() -> Self {
+        SuppressionFactorCachePeriod(DEFAULT_CACHE)
+    }
+}
+
+impl Period for SuppressionFactorCachePeriod {
+    ghost SECOND = { 1000 };
+
+    ghost MOST = { most_cache };
+
+    ghost REFUSAL = { record { 0 = 3 } };
+
+    ghost of = { λ n. record { 0 = n } };
+
+    ghost parts = { λ x. x.0 };
+
+    ghost made = { cache_of };
+
+    const SECOND: u64 = MILLISECONDS_PER_SECOND;
+
+    const MOST: u64 = 4_294_967_296;
+
+    const REFUSAL: Refusal = Refusal::BAD_CACHE;
+
+    fn of(number: u64) -> Self {
+        SuppressionFactorCachePeriod(number)
+    }
+
+    fn parts(self) -> u64 {
+        self.0
+    }
+
+    ghost some = { Prim.search rules };
+
+    ghost few = { Prim.search rules };
+
+    ghost made_is = { cache_is };
 }
 
 impl SuppressionFactorCachePeriod {
-    pub fn default() -> Self
-        ensures { result ≡ record { 0 = default_cache } }
-    {
-        SuppressionFactorCachePeriod(DEFAULT_CACHE)
-    }
-
-    pub fn is_in_range(self) -> bool
-        ensures { result ≡ cache_ok self.0 }
-    {
-        is_within(self.0, MOST_CACHE)
-    }
-
-    fn from_milliseconds(value: u64, multiplier: u64) -> CachePeriodAnswer
-        requires { 0 < multiplier }
-        ensures { result ≡ cache_of multiplier value }
-    {
-        match checked_duration(value, multiplier, MOST_CACHE) {
-            Period::Within(milliseconds) => CachePeriodAnswer::Made(SuppressionFactorCachePeriod(
-                milliseconds,
-            )),
-            Period::Outside => CachePeriodAnswer::Refused(3),
-        }
-    }
-
-    pub fn milliseconds(value: u64) -> CachePeriodAnswer
+    pub fn milliseconds(value: u64) -> Result<Self, Refusal>
         ensures { result ≡ cache_of 1 value }
     {
-        SuppressionFactorCachePeriod::from_milliseconds(value, 1)
-    }
-
-    pub fn seconds(value: u64) -> CachePeriodAnswer
-        ensures { result ≡ cache_of (ms second) value }
-    {
-        SuppressionFactorCachePeriod::from_milliseconds(value, MS_SECOND)
-    }
-
-    pub fn minutes(value: u64) -> CachePeriodAnswer
-        ensures { result ≡ cache_of (ms minute) value }
-    {
-        SuppressionFactorCachePeriod::from_milliseconds(value, MS_MINUTE)
-    }
-
-    pub fn hours(value: u64) -> CachePeriodAnswer
-        ensures { result ≡ cache_of (ms hour) value }
-    {
-        SuppressionFactorCachePeriod::from_milliseconds(value, MS_HOUR)
-    }
-
-    pub fn days(value: u64) -> CachePeriodAnswer
-        ensures { result ≡ cache_of (ms day) value }
-    {
-        SuppressionFactorCachePeriod::from_milliseconds(value, MS_DAY)
-    }
-
-    pub fn weeks(value: u64) -> CachePeriodAnswer
-        ensures { result ≡ cache_of (ms week) value }
-    {
-        SuppressionFactorCachePeriod::from_milliseconds(value, MS_WEEK)
-    }
-
-    pub fn months(value: u64) -> CachePeriodAnswer
-        ensures { result ≡ cache_of (ms month) value }
-    {
-        SuppressionFactorCachePeriod::from_milliseconds(value, MS_MONTH)
+        periods(value, 1)
     }
 
     pub fn as_milliseconds(self) -> u64
@@ -380,20 +359,14 @@ impl SuppressionFactorCachePeriod {
 }
 
 // A rate, per second.
-#[derive(Clone, Copy)]
+#[derive(Clone, Copy, Debug, PartialEq)]
 pub struct RateLimit(pub f64);
-
-#[derive(Clone, Copy)]
-pub enum RateLimitAnswer {
-    Made(RateLimit),
-    Refused(u64),
-}
 
 impl RateLimit {
     pub fn max() -> Self
         ensures { result ≡ record { 0 = most } }
     {
-        RateLimit(MOST_REAL)
+        RateLimit(f64::MAX)
     }
 
     pub fn is_in_range(self) -> bool
@@ -402,48 +375,47 @@ impl RateLimit {
         is_real_from(LEAST_RATE, self.0)
     }
 
-    pub fn per_second(value: f64) -> RateLimitAnswer
+    pub fn per_second(value: f64) -> Result<Self, Refusal>
         ensures { result ≡ rate_from value }
     {
         let rate = RateLimit(value);
-        if rate.is_in_range() {
-            RateLimitAnswer::Made(rate)
-        } else {
-            RateLimitAnswer::Refused(8)
+        if !rate.is_in_range() {
+            return Err(Refusal::BAD_RATE);
         }
+        Ok(rate)
     }
 
-    fn from_period(value: f64, period: u64) -> RateLimitAnswer
+    fn from_period(value: f64, period: u64) -> Result<Self, Refusal>
         ensures { result ≡ rate_of period value }
     {
         RateLimit::per_second(value / std::num::nearest_u64_to_f64(period))
     }
 
-    pub fn per_minute(value: f64) -> RateLimitAnswer
+    pub fn per_minute(value: f64) -> Result<Self, Refusal>
         ensures { result ≡ rate_of minute value }
     {
         RateLimit::from_period(value, MINUTE)
     }
 
-    pub fn per_hour(value: f64) -> RateLimitAnswer
+    pub fn per_hour(value: f64) -> Result<Self, Refusal>
         ensures { result ≡ rate_of hour value }
     {
         RateLimit::from_period(value, HOUR)
     }
 
-    pub fn per_day(value: f64) -> RateLimitAnswer
+    pub fn per_day(value: f64) -> Result<Self, Refusal>
         ensures { result ≡ rate_of day value }
     {
         RateLimit::from_period(value, DAY)
     }
 
-    pub fn per_week(value: f64) -> RateLimitAnswer
+    pub fn per_week(value: f64) -> Result<Self, Refusal>
         ensures { result ≡ rate_of week value }
     {
         RateLimit::from_period(value, WEEK)
     }
 
-    pub fn per_month(value: f64) -> RateLimitAnswer
+    pub fn per_month(value: f64) -> Result<Self, Refusal>
         ensures { result ≡ rate_of month value }
     {
         RateLimit::from_period(value, MONTH)

@@ -1,6 +1,6 @@
 -- An increment of the key itself keeps what holds of it: the count joins the live buckets, and the log what is admitted.
 -- Assumes nothing.
-use Rattle.std.specs.Prelude.{◌≡◌, refl, Bool, true, false, ℕ, ◌+◌, ◌-◌, ◌≤◌, drop}
+use Rattle.std.specs.Prelude.{◌≡◌, refl, Bool, true, false, ℕ, ◌+◌, ◌-◌, ◌≤◌, drop, Option}
 use Rattle.std.proofs.Common.{sym, ap₂, ◌∙◌, true≢false}
 use Rattle.std.proofs.Math.Path.{ap, subst}
 use Rattle.std.proofs.Math.Bool.{cond}
@@ -39,7 +39,6 @@ use Rattle.plan.specs.Plan.{evicting, opening, place_of}
 use Rattle.rules.specs.Both.{limit_in, overdue, overdue_in, looked_of}
 use Rattle.rules.proofs.Ages.{looked-oldest}
 use Rattle.calls.specs.Applies.{known-has}
-use Rattle.rules.specs.declared.Caching.{Caching}
 use Rattle.rules.specs.declared.Outcome.{Outcome}
 use Rattle.rules.specs.Held.{Held}
 use Rattle.rules.specs.Suppressed.{limit_for, forecast, outcome, inc_turns}
@@ -63,6 +62,7 @@ use Rattle.demand3.proofs.Keys.{key-held}
 use Rattle.demand3.proofs.Decided.{admits-refused, number-refused, declines, admits-hard, allows-soft}
 use Rattle.demand3.specs.Kept.{GoodAt, Kept}
 use Rattle.demand3.proofs.Owned.{after-series, edit-kept, limit-known, good-known, left_is, left-fine, left-sums, good_left, good-bare}
+use Rattle.suppression.specs.declared.CachedFactor.{CachedFactor}
 
 -- ---- what a first look leaves was admitted at ages that it takes for the window at most
 
@@ -123,7 +123,7 @@ module _ (s : Settings) (le : join_ticks s ≤ window_ticks s) (limit : ℕ) (ke
     (a : Kept s (key_for key) limit w log) where
   -- ---- the key itself: `yes` says whether c is admitted
 
-  module _ (p : Passed kind.Suppressed s w t key) (c d : ℕ) (yes : Bool) (q : d ≡ cond yes 0 c) (v : List ℕ) (k : Caching) where
+  module _ (p : Passed kind.Suppressed s w t key) (c d : ℕ) (yes : Bool) (q : d ≡ cond yes 0 c) (v : List ℕ) (k : Option CachedFactor) where
     abbrev known : Slot
     known = looked_in s w t key
 

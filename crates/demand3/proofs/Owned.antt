@@ -1,7 +1,7 @@
 -- The key's own calls but `inc` keep what holds of it, where they change neither its limit nor its counts: they evict, store the same limit again, cache a
 -- factor, or let a lone one go.
 -- Assumes nothing.
-use Rattle.std.specs.Prelude.{◌≡◌, Bool, ◌||◌, cond, ◌≢◌, ℕ, ◌-◌, ◌≤◌, eqb, drop}
+use Rattle.std.specs.Prelude.{◌≡◌, Bool, ◌||◌, cond, ◌≢◌, ℕ, ◌-◌, ◌≤◌, eqb, drop, Option, Some, None}
 use Rattle.std.proofs.Math.Path.{refl, sym, ap, subst}
 use Rattle.std.proofs.Common.{ap₂, ◌∙◌, true≢false}
 use Rattle.std.proofs.Math.Bool.{true, false}
@@ -13,11 +13,6 @@ use Rattle.settings.specs.declared.Settings.{Settings}
 use Rattle.common.specs.declared.units.RateLimit.{RateLimit}
 use Rattle.common.specs.declared.comparator.RateLimitComparator.{RateLimitComparator}
 use Rattle.answers.specs.declared.HistoryUpdateMode.{HistoryUpdateMode}
-use Rattle.answers.specs.declared.DeleteAnswer.TheVariants as deleted
-use Rattle.answers.specs.declared.FactorAnswer.TheVariants as factored
-use Rattle.answers.specs.declared.OldRateAnswer.TheVariants as rated
-use Rattle.answers.specs.declared.SetAnswer.TheVariants as answered
-use Rattle.answers.specs.declared.SnapshotAnswer.TheVariants as gotten
 use Rattle.sweep.specs.Measured.{evicted-live}
 use Rattle.rules.specs.Buckets.{recent}
 use Rattle.ring.specs.declared.Bucket.{Bucket}
@@ -55,8 +50,6 @@ use Rattle.calls.specs.Delete.{delete}
 use Rattle.calls.specs.Rate.{set_rate_limit}
 use Rattle.calls.specs.Set.{set}
 use Rattle.calls.specs.Applies.{rate-applies, known-has}
-use Rattle.rules.specs.declared.Caching.{Caching}
-use Rattle.rules.specs.declared.Caching.TheVariants.{Left, Cached}
 use Rattle.suppressed_verdicts.specs.Calls.{get, get_factor}
 use Rattle.suppressed_edits.specs.Edits.{use_left, use_after, recached, get_change, lone_edit, lone_change, factor_change}
 use Rattle.factor_opened.specs.Opened.{stays_at}
@@ -74,6 +67,8 @@ use Rattle.demand3.specs.History.{IsKey}
 use Rattle.demand3.proofs.Keys.{key-held}
 use Rattle.demand3.specs.Kept.{GoodAt, Kept, kept_same, kept-own}
 use Rattle.demand3.proofs.Steps.{keep-kept}
+use Rattle.common.specs.Refusals.{refuse}
+use Rattle.suppression.specs.declared.CachedFactor.{CachedFactor}
 
 -- ---- uses
 
@@ -81,9 +76,9 @@ left-series : (z : Bool) → has_series (use_left z) ≡ true
 left-series true = refl
 left-series false = refl
 
-pub after-series : (k : Caching) (x : Slot) → has_series (use_after k x) ≡ true
-after-series Left x = left-series (stays_at x)
-after-series (Cached k) x = refl
+pub after-series : (k : Option CachedFactor) (x : Slot) → has_series (use_after k x) ≡ true
+after-series None x = left-series (stays_at x)
+after-series (Some k) x = refl
 
 forgotten-series : (u : ℕ) → has_series u ≡ true → has_series (forgotten u) ≡ true
 forgotten-series u e = go (eqb u 3)
@@ -175,7 +170,7 @@ module _ (s : Settings) (le : join_ticks s ≤ window_ticks s) (limit : ℕ) whe
 
     -- ---- get, and get_suppression_factor
 
-    evict-kept : (v : List ℕ) (k : Caching) → x.series ≡ true → Own w v x.at (join_ticks s) t (key_for key) (recached x k (evicting x then.Nothing)) →
+    evict-kept : (v : List ℕ) (k : Option CachedFactor) → x.series ≡ true → Own w v x.at (join_ticks s) t (key_for key) (recached x k (evicting x then.Nothing)) →
         Kept s (key_for key) limit v log
     unfolding recached edited_view acted_view started_view
     evict-kept v k e o =
@@ -183,7 +178,7 @@ module _ (s : Settings) (le : join_ticks s ≤ window_ticks s) (limit : ℕ) whe
         (λ h. record { limit_is = limit-known e; good = good_left e })
         (λ h. absurd (true≢false (sym (after-series k x) ∙ h)))
 
-    change-kept : (k : Caching) → Applies w x.at (join_ticks s) t (get_change x k) →
+    change-kept : (k : Option CachedFactor) → Applies w x.at (join_ticks s) t (get_change x k) →
         Kept s (key_for key) limit (applied w x.at key (join_ticks s) t (get_change x k)) log
     unfolding get_change
     change-kept k o = go x.series refl o
@@ -195,16 +190,16 @@ module _ (s : Settings) (le : join_ticks s ≤ window_ticks s) (limit : ℕ) whe
             evict-kept _ k e (own-either w x.at key (join_ticks s) t a.distinct c true q (owns-here (known-has x e)))
         go false e q = keep-kept s le limit key is w t log a x.at key q p.later
 
-    lone-kept : (k : Caching) → x.series ≡ false → Applies w (place_of w x) (join_ticks s) t (lone_change x.cached k t) →
+    lone-kept : (k : Option CachedFactor) → x.series ≡ false → Applies w (place_of w x) (join_ticks s) t (lone_change x.cached k t) →
         Placed w (place_of w x) (key_for key) (lone_change x.cached k t) →
         Kept s (key_for key) limit (applied w (place_of w x) key (join_ticks s) t (lone_change x.cached k t)) log
-    lone-kept Left e o q = keep-kept s le limit key is w t log a (place_of w x) key o p.later
-    lone-kept (Cached k) e o q =
+    lone-kept None e o q = keep-kept s le limit key is w t log a (place_of w x) key o p.later
+    lone-kept (Some k) e o q =
         edit-kept (key_for key) (key-held key is) w _ (place_of w x) (lone_edit t) t log
         (own-either w (place_of w x) key (join_ticks s) t a.distinct (lone_edit t) x.cached o q)
         (λ h. absurd (false≢true h)) (λ h. good-bare e)
 
-    factor-kept : (k : Caching) → Applies w (place_of w x) (join_ticks s) t (factor_change x k t) → Placed w (place_of w x) (key_for key) (factor_change x k t) →
+    factor-kept : (k : Option CachedFactor) → Applies w (place_of w x) (join_ticks s) t (factor_change x k t) → Placed w (place_of w x) (key_for key) (factor_change x k t) →
         Kept s (key_for key) limit (applied w (place_of w x) key (join_ticks s) t (factor_change x k t)) log
     unfolding factor_change
     factor-kept k o q = go x.series refl o q
@@ -273,7 +268,7 @@ module _ (s : Settings) (le : join_ticks s ≤ window_ticks s) (limit : ℕ) whe
     unfolding get
     get-own =
         let k = asking s t true (held_in w key) in
-        call-either gotten.Refused kind.Suppressed s w t key [] _ (λ v. Kept s (key_for key) limit v.words log) (λ m z. a)
+        call-either refuse kind.Suppressed s w t key [] _ (λ v. Kept s (key_for key) limit v.words log) (λ m z. a)
         (λ e f. let d = snapshot-does s w t key e in
         change-kept key is w t log a d.passed true (slot_in s w t key) (opens-slot s w t key d.passed) k.caching d.applies)
 
@@ -282,7 +277,7 @@ module _ (s : Settings) (le : join_ticks s ≤ window_ticks s) (limit : ℕ) whe
     factor-own =
         let x = looked_in s w t key in
         let k = asking s t (overdue_in s t (held_in w key)) (held_in w key) in
-        call-either factored.Refused kind.Suppressed s w t key (factor_turns (none_left w key.caller) (held_in w key)) _
+        call-either refuse kind.Suppressed s w t key (factor_turns (none_left w key.caller) (held_in w key)) _
         (λ v. Kept s (key_for key) limit v.words log) (λ m z. a)
         (λ e f.
         let d = factor-does s w t key is.bytes e f in
@@ -294,7 +289,7 @@ module _ (s : Settings) (le : join_ticks s ≤ window_ticks s) (limit : ℕ) whe
     unfolding set_rate_limit
     rate-own rate q =
         let l = limit_in kind.Suppressed s rate in
-        call-either rated.Refused kind.Suppressed s w t key (rate_turns rate) _ (λ v. Kept s (key_for key) limit v.words log) (λ m z. a)
+        call-either refuse kind.Suppressed s w t key (rate_turns rate) _ (λ v. Kept s (key_for key) limit v.words log) (λ m z. a)
         (λ e f.
         let p = passed kind.Suppressed s w t key e in
         limiting-kept key is w t log a p l (λ h. q (sym (seen kind.Suppressed s w t key p).series-is ∙ h)) (rate-applies kind.Suppressed s w t key l p))
@@ -305,7 +300,7 @@ module _ (s : Settings) (le : join_ticks s ≤ window_ticks s) (limit : ℕ) whe
     unfolding set setting
     set_own rate comparator count mode q =
         let x = slot_in s w t key in
-        call-either answered.Refused kind.Suppressed s w t key
+        call-either refuse kind.Suppressed s w t key
         (set_turns kind.Suppressed s (none_left w key.caller) t rate comparator count mode (held_in w key)) _
         (λ v. Kept s (key_for key) limit v.words log) (λ m z. a)
         (λ e f.
@@ -318,7 +313,7 @@ module _ (s : Settings) (le : join_ticks s ≤ window_ticks s) (limit : ℕ) whe
     pub delete-own : (held_in w key).known ≡ false → Kept s (key_for key) limit (delete kind.Suppressed s w t key).words log
     unfolding delete
     delete-own q =
-        call-either deleted.Refused kind.Suppressed s w t key [] _ (λ v. Kept s (key_for key) limit v.words log) (λ m z. a)
+        call-either refuse kind.Suppressed s w t key [] _ (λ v. Kept s (key_for key) limit v.words log) (λ m z. a)
         (λ e f.
         let p = passed kind.Suppressed s w t key e in
         deleting-kept key is w t log a p ((seen kind.Suppressed s w t key p).series-is ∙ q))

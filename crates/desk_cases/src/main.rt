@@ -14,38 +14,45 @@ fn run(rt: &HostRuntime, name: &str) -> io::Result<()> {
     Ok(())
 }
 
+const INPUTS: [&str; 33] = [
+    "empty",
+    "only-a-newline",
+    "settings-alone",
+    "settings-without-newline",
+    "settings-bad",
+    "settings-1",
+    "settings-2",
+    "settings-3",
+    "settings-4",
+    "largest-settings",
+    "bad-lines",
+    "long-lines",
+    "many-lines",
+    "two-rooms",
+    "five-keys",
+    "full-ring",
+    "thirty-seconds",
+    "refusals",
+    "after-an-empty-call",
+    "no-last-newline",
+    "lesson-1",
+    "lesson-2",
+    "lesson-3",
+    "lesson-3-hundred",
+    "lesson-1-question-1",
+    "lesson-1-question-2",
+    "lesson-1-question-3",
+    "lesson-2-question-1",
+    "lesson-2-question-2",
+    "lesson-2-question-3",
+    "lesson-3-question-1",
+    "lesson-3-question-2",
+    "lesson-3-question-3",
+];
+
 fn main(rt: HostRuntime) -> io::Result<()> {
-    run(&rt, "empty")?;
-    run(&rt, "only-a-newline")?;
-    run(&rt, "settings-alone")?;
-    run(&rt, "settings-without-newline")?;
-    run(&rt, "settings-bad")?;
-    run(&rt, "settings-1")?;
-    run(&rt, "settings-2")?;
-    run(&rt, "settings-3")?;
-    run(&rt, "settings-4")?;
-    run(&rt, "largest-settings")?;
-    run(&rt, "bad-lines")?;
-    run(&rt, "long-lines")?;
-    run(&rt, "many-lines")?;
-    run(&rt, "two-rooms")?;
-    run(&rt, "five-keys")?;
-    run(&rt, "full-ring")?;
-    run(&rt, "thirty-seconds")?;
-    run(&rt, "refusals")?;
-    run(&rt, "after-an-empty-call")?;
-    run(&rt, "no-last-newline")?;
-    run(&rt, "lesson-1")?;
-    run(&rt, "lesson-2")?;
-    run(&rt, "lesson-3")?;
-    run(&rt, "lesson-3-hundred")?;
-    run(&rt, "lesson-1-question-1")?;
-    run(&rt, "lesson-1-question-2")?;
-    run(&rt, "lesson-1-question-3")?;
-    run(&rt, "lesson-2-question-1")?;
-    run(&rt, "lesson-2-question-2")?;
-    run(&rt, "lesson-2-question-3")?;
-    run(&rt, "lesson-3-question-1")?;
-    run(&rt, "lesson-3-question-2")?;
-    run(&rt, "lesson-3-question-3")
+    for name in &INPUTS {
+        run(&rt, name)?;
+    }
+    Ok(())
 }

@@ -1,8 +1,9 @@
 -- What the functions on bytes leave, each as one record; `promises` says that two results which meet it are equal.
 -- Assumes nothing.
-use Rattle.std.specs.Prelude.{◌≡◌, Bool, true, cond, ◌&&◌, List, ℕ, length, take, set, eqb}
+use Rattle.std.specs.Prelude.{◌≡◌, Bool, true, cond, ◌&&◌, List, ℕ, length, take, set, eqb, Result}
+use Rattle.common.specs.declared.refusal.Refusal.{Refusal}
 use Rattle.printing.specs.Printing.{Put}
-use Rattle.room.specs.Room.{fits, empty}
+use Rattle.room.specs.Room.{fits, empty, if_fits}
 use Rattle.table.specs.Table.{most_controllers, table_words, empty_table}
 use Rattle.desk_turn.specs.declared.Program.{Program}
 use Rattle.desk_turn.specs.declared.Program.TheVariants as program
@@ -58,11 +59,11 @@ pub record Fitting (g : Program) (a b : List ℕ) : Type 0 where
   pub first : fits_first g a ≡ true
   pub second : fits_second g b ≡ true
 
-pub record FirstMade (g : Program) (w : List ℕ) (x : Bool) (v : List ℕ) : Type 0 where
-  pub answer : x ≡ fits_first g w
+pub record FirstMade (g : Program) (w : List ℕ) (x : Result (Unit {0}) Refusal) (v : List ℕ) : Type 0 where
+  pub answer : x ≡ if_fits (fits_first g w)
   pub words : v ≡ cond (fits_first g w) (new_first g) w
 
-pub record BothMade (g : Program) (a b : List ℕ) (x : Bool) (a' b' : List ℕ) : Type 0 where
-  pub answer : x ≡ (fits_first g a && fits_second g b)
+pub record BothMade (g : Program) (a b : List ℕ) (x : Result (Unit {0}) Refusal) (a' b' : List ℕ) : Type 0 where
+  pub answer : x ≡ if_fits (fits_first g a && fits_second g b)
   pub first : a' ≡ cond (fits_first g a) (new_first g) a
   pub second : b' ≡ cond (fits_second g b) (new_second g) b

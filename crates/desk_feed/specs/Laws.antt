@@ -1,6 +1,6 @@
 -- What the code knows at each return, joined to the definitions; and that a block's bytes go in one after the other.
 -- Assumes nothing.
-use Rattle.std.specs.Prelude.{◌≡◌, Bool, true, false, cond, ◌&&◌, ℕ, suc, ◌+◌, ◌≤◌, ◌<◌, min, length, get_or, take, drop, set, ltb}
+use Rattle.std.specs.Prelude.{◌≡◌, Bool, true, false, cond, ◌&&◌, ℕ, suc, ◌+◌, ◌≤◌, ◌<◌, min, length, get_or, take, drop, set, ltb, Result, Ok, Err}
 use Rattle.std.proofs.Math.Path.{refl, ap}
 use Rattle.std.proofs.Common.{sym, ◌∙◌, arith, length-append, drop_of_length-le, length-take-le, take_all, take-suc, drop-cons, lt-ltb, le-ltb}
 use mathlib.Core.List.{List, [], ◌∷◌, ◌++◌, append_assoc, append-nil}
@@ -8,7 +8,8 @@ use Rattle.std.proofs.Math.Numerals.{add-one}
 use Rattle.std.proofs.Math.Decide.{dec_lt}
 use Rattle.std.proofs.Math.Seq.{set_out}
 use Rattle.printing.specs.Printing.{Put, put-none, put-append}
-use Rattle.room.specs.Room.{Made}
+use Rattle.common.specs.declared.refusal.Refusal.{Refusal}
+use Rattle.room.specs.Room.{if_fits, Made}
 use Rattle.desk_turn.specs.declared.Program.{Program}
 use Rattle.desk_feed.specs.declared.Desk.{Desk}
 use Rattle.desk_turn.specs.declared.Phase.{Phase}
@@ -17,7 +18,7 @@ use Rattle.desk_feed.specs.declared.Progress.{Progress}
 use Rattle.desk_turn.specs.declared.Turn.{Turn}
 use Rattle.desk_feed.specs.Feed.{Whole, whole, After, after_line, rested, keeping, byte, and_then, feed, takes}
 use Rattle.desk_turn.specs.Lines.{roomy, Effect}
-use Rattle.desk_feed.specs.Clauses.{Kept, Gone, Feeding, slots_of, ring_length, fits_first, FirstMade, BothMade}
+use Rattle.desk_feed.specs.Clauses.{Kept, Gone, Feeding, slots_of, ring_length, fits_first, fits_second, Fitting, FirstMade, BothMade}
 use Rattle.desk_turn.specs.Taking.{Took}
 
 -- ---- bytes
@@ -55,10 +56,27 @@ pub byte-gone : (w : Whole) (b : ℕ) (r : Desk) (h new : List ℕ) (at : ℕ) �
     Gone (record { whole = keeping w b; prints = [] }) new at (record { desk = r; next = at }) w.first w.second h new
 byte-gone w b r h new at k = record { after = whole-path k.desk refl refl k.hold; put = put-none new at }
 
-pub both-made : (g : Program) (a b : List ℕ) (x y z : Bool) (a' b' : List ℕ) → FirstMade g a x a' → Made (slots_of g) ring_length b y b' → z ≡ (x && y) →
-    BothMade g a b z a' b'
-both-made g a b x y z a' b' p q e =
-    record { answer = e ∙ ap (λ (t : Bool). t && y) p.answer ∙ ap (λ (t : Bool). fits_first g a && t) q.answer; first = p.words; second = q.words }
+-- the first refusal of two makings
+abbrev pub both_done : Result (Unit {0}) Refusal → Result (Unit {0}) Refusal → Result (Unit {0}) Refusal
+both_done (Ok x) y = y
+both_done (Err r) y = Err r
+
+both-fit : (p q : Bool) → both_done (if_fits p) (if_fits q) ≡ if_fits (p && q)
+both-fit true q = refl
+both-fit false q = refl
+
+pub both-made : (g : Program) (a b : List ℕ) (x y z : Result (Unit {0}) Refusal) (a' b' : List ℕ) → FirstMade g a x a' →
+    Made (slots_of g) ring_length b y b' → z ≡ both_done x y → BothMade g a b z a' b'
+both-made g a b x y z a' b' p q e = record {
+  answer = e ∙ ap (λ (t : Result (Unit {0}) Refusal). both_done t y) p.answer ∙ ap (both_done (if_fits (fits_first g a))) q.answer ∙
+      both-fit (fits_first g a) (fits_second g b);
+  first = p.words;
+  second = q.words;
+}
+
+-- lent words that fit are made
+pub fitting-made : (g : Program) (a b : List ℕ) (x : Result (Unit {0}) Refusal) (a' b' : List ℕ) → Fitting g a b → BothMade g a b x a' b' → x ≡ Ok tt
+fitting-made g a b x a' b' f m = m.answer ∙ rw (f.first, f.second)
 
 -- ---- a block
 

@@ -2,12 +2,13 @@
 // reads and writes.
 #![tactic(auto)]
 
-ghost use Rattle.std.specs.Prelude.{◌≡◌, ◌+◌, ◌≤◌, min, length, take};
+ghost use Rattle.std.specs.Prelude.{◌≡◌, ◌+◌, ◌≤◌, length, take};
 ghost use Rattle.desk_feed.specs.Feed.{fresh, rested, whole, byte, is_over, finishing, has_ended};
 ghost use Rattle.desk_turn.specs.Lines.{roomy, turn};
 ghost use Rattle.desk_feed.specs.Clauses.{Gone, Kept, Feeding, slots_of, FirstMade, BothMade};
 ghost use Rattle.desk_turn.specs.Taking.{Took};
 
+use common::Refusal;
 use desk_turn::{Phase, Program, Turn, take_line};
 
 // Room enough for a line with its newline.
@@ -55,7 +56,7 @@ fn slots(program: Program) -> u64
     }
 }
 
-fn make_first(program: Program, w: &mut [u64]) -> bool
+fn make_first(program: Program, w: &mut [u64]) -> Result<(), Refusal>
     ensures { FirstMade program w.old result w.new }
 {
     match program {
@@ -65,21 +66,12 @@ fn make_first(program: Program, w: &mut [u64]) -> bool
 }
 
 // Makes the program's two memories in lent words, or leaves words that do not fit.
-pub fn make_memories(program: Program, first: &mut [u64], second: &mut [u64]) -> bool
+pub fn make_memories(program: Program, first: &mut [u64], second: &mut [u64]) -> Result<(), Refusal>
     ensures { BothMade program first.old second.old result first.new second.new }
 {
-    let one = make_first(program, first);
-    let other = room::make(second, slots(program), RING);
-    if !one {
-        return false;
-    }
-    other
-}
-
-fn least(a: usize, b: usize) -> usize
-    ensures { result ≡ min a b }
-{
-    if a < b { a } else { b }
+    let made = room::make(second, slots(program), RING);
+    make_first(program, first)?;
+    made
 }
 
 // The line that is held is whole.
@@ -95,24 +87,21 @@ fn end_line(
     ensures { Took (turn desk.phase first.old second.old (take desk.held hold.now))
         out.old at result first.new second.new out.new }
 {
-    let phase = desk.phase;
-    let n = least(desk.held, hold.len());
-    take_line(phase, first, second, &hold[..n], out, at)
+    let n = desk.held.min(hold.len());
+    take_line(desk.phase, first, second, &hold[..n], out, at)
 }
 
 // A byte of a line is kept while there is room: a line that fills it is bad, whatever follows.
 fn keep(desk: Desk, hold: &mut [u8], b: u8) -> Desk
     ensures { Kept desk hold.old b result hold.new }
 {
-    let phase = desk.phase;
-    let held = desk.held;
-    if hold.len() <= held {
+    if hold.len() <= desk.held {
         return desk;
     }
-    hold[held] = b;
+    hold[desk.held] = b;
     Desk {
-        phase,
-        held: held + 1,
+        phase: desk.phase,
+        held: desk.held + 1,
     }
 }
 
@@ -137,9 +126,8 @@ fn feed_byte(
 {
     if b == desk_turn::NEWLINE {
         let turn = end_line(desk, first, second, hold, out, at);
-        let phase = turn.phase;
         return Fed {
-            desk: rested(phase),
+            desk: rested(turn.phase),
             next: turn.next,
         };
     }
@@ -170,44 +158,34 @@ pub fn feed(
         first.new second.new hold.new out.new }
 {
     let mut state = desk;
-    let mut taken = 0;
     let mut put = 0;
-    while taken < block.len() {
-        if out.len() < LONGEST_LINE {
+    for (taken, &b) in block.iter().enumerate() {
+        if out.len() < LONGEST_LINE || out.len() - LONGEST_LINE < put {
             return Progress {
                 desk: state,
                 taken,
                 put,
             };
         }
-        if out.len() - LONGEST_LINE < put {
-            return Progress {
-                desk: state,
-                taken,
-                put,
-            };
-        }
-        let fed = feed_byte(state, first, second, hold, block[taken], out, put);
+        let fed = feed_byte(state, first, second, hold, b, out, put);
         state = fed.desk;
         put = fed.next;
-        taken += 1;
     }
     Progress {
         desk: state,
-        taken,
+        taken: block.len(),
         put,
     }
 }
 
 // Whether nothing follows: no line is held that the end of the input ends.
+#[tactic(auto, unfolding(crate::specs::Feed::is_over))]
 fn is_over(desk: Desk) -> bool
     ensures { result ≡ is_over desk }
 {
-    let phase = desk.phase;
-    let held = desk.held;
-    match phase {
+    match desk.phase {
         Phase::Waiting(_) => false,
-        Phase::Open(_, _) => held == 0,
+        Phase::Open(_, _) => desk.held == 0,
         Phase::Ended => true,
     }
 }
@@ -223,24 +201,19 @@ pub fn finish(
     ensures { Took (finishing (length out.old) (whole desk first.old second.old hold.now))
         out.old 0 result first.new second.new out.new }
 {
-    let phase = desk.phase;
-    if out.len() < LONGEST_LINE {
-        return Turn { phase, next: 0 };
-    }
-    if is_over(desk) {
-        return Turn { phase, next: 0 };
+    if out.len() < LONGEST_LINE || is_over(desk) {
+        return Turn {
+            phase: desk.phase,
+            next: 0,
+        };
     }
     end_line(desk, first, second, hold, out, 0)
 }
 
 // Whether the desk reads no more.
+#[tactic(auto, unfolding(crate::specs::Feed::has_ended))]
 pub fn has_ended(desk: Desk) -> bool
     ensures { result ≡ has_ended desk }
 {
-    let phase = desk.phase;
-    match phase {
-        Phase::Waiting(_) => false,
-        Phase::Open(_, _) => false,
-        Phase::Ended => true,
-    }
+    matches!(desk.phase, Phase::Ended)
 }

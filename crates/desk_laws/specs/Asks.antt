@@ -1,14 +1,14 @@
 -- What a line of `desk` asks of its two rooms, as a call of the limiters, whose answer's number is the code that is printed; and which codes a program prints:
 -- those of its calls, of a bad line, of settings outside their ranges.
 -- Assumes nothing.
-use Rattle.std.specs.Prelude.{◌≡◌, Bool, cond, List, [], ◌∷◌, ◌≢◌, ◌⊎◌, ℕ, zero, suc, ◌<◌, eqb}
+use Rattle.std.specs.Prelude.{◌≡◌, Bool, cond, List, [], ◌∷◌, ◌≢◌, ◌⊎◌, ℕ, zero, suc, ◌<◌, eqb, Option, Some, None, Ok, Err}
 use Rattle.std.proofs.Common.{sym, ap, ◌∙◌, inl, inr, arith}
 use Rattle.std.proofs.Math.Bool.{true, false}
 use Rattle.std.proofs.lemmas.Bool.{false≢true}
 use Rattle.std.proofs.Math.Decide.{dec_lt}
 use Rattle.fields.specs.Bytes.{counted, counts, class-bad}
 use Rattle.fields.specs.Numbers.{Each}
-use Rattle.common.specs.Refusals.{first}
+use Rattle.common.specs.Refusals.{first, refusal}
 use Rattle.settings.specs.Settings.{faults}
 use Rattle.settings.specs.declared.Settings.{Settings}
 use Rattle.frame.specs.Keys.{Bytes}
@@ -19,11 +19,9 @@ use Rattle.lines.specs.Reading.{read_settings}
 use Rattle.lines.specs.declared.Op as line_op
 use Rattle.lines.specs.declared.Op.TheVariants.{AbsoluteInc, AbsoluteGet, SuppressedInc, SuppressedGet}
 use Rattle.lines.specs.declared.SettingsLine.{SettingsLine}
-use Rattle.lines.specs.declared.SettingsLine.TheVariants as settings
 use Rattle.told.specs.Told.{bad_line}
 use Rattle.desk_lines.specs.Lines.{alone, per_minute}
 use Rattle.desk_step.specs.Desk.{call_of, absolute_inc, absolute_get, suppressed_inc, suppressed_get, settings_of, open_with, opening_in, opening_of}
-use Rattle.desk_step.specs.declared.Opening.TheVariants as opening
 use Rattle.desk_turn.specs.declared.Program.{Program}
 use Rattle.desk_turn.specs.declared.Phase.{Phase}
 use Rattle.desk_turn.specs.declared.Phase.TheVariants.{Waiting, Open, Ended}
@@ -91,7 +89,7 @@ module _ (n : ℕ) (bad : bad_line ≢ n) (faulty : (s : Settings) → first (fa
   unfolding open_with
   opened s = go (eqb (first (faults s)) 0)
     where
-      go : (b : Bool) → Without n (prints_in (cond b (opening.Open s) (opening.Refused (first (faults s)))))
+      go : (b : Bool) → Without n (prints_in (cond b (Ok s) (Err (refusal (first (faults s))))))
       go true = no_line n
       go false = one_line n _ (faulty s)
 
@@ -100,9 +98,9 @@ module _ (n : ℕ) (bad : bad_line ≢ n) (faulty : (s : Settings) → first (fa
   unfolding opening_of
   opening-line line = go (read_settings line)
     where
-      go : (c : SettingsLine) → Without n (prints_in (opening_in c))
-      go settings.Bad = one_line n _ bad
-      go (settings.Settings window bucket factor cache) = opened (settings_of window bucket factor cache)
+      go : (c : Option SettingsLine) → Without n (prints_in (opening_in c))
+      go None = one_line n _ bad
+      go (Some l) = opened (settings_of l.window l.bucket l.factor l.cache)
 
   -- where no call of such a stand has it
   pub turn-line : (P : Stand) → ((g : Program) (s : Settings) (a b line : List ℕ) → P (Open g s) a b → (stepped_by g s a b line).answer.code ≢ n) →

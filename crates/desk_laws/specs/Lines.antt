@@ -1,6 +1,6 @@
 -- What `desk` and `shots` print is lines, each the text of an answer; which codes these have, and that the bytes tell it.
 -- Assumes nothing.
-use Rattle.std.specs.Prelude.{◌≡◌, refl, false, List, [], ◌∷◌, ◌++◌, ◌≢◌, ℕ, length, take, drop}
+use Rattle.std.specs.Prelude.{◌≡◌, refl, false, List, [], ◌∷◌, ◌++◌, ◌≢◌, ℕ, length, take, drop, Result, Ok, Err}
 use Rattle.std.proofs.Common.{sym, ap, ap₂, ◌∙◌, append_assoc, append-nil}
 use Rattle.std.proofs.Math.Seq.{take-append_seam, drop-append_seam}
 use Rattle.fields.specs.Bytes.{counts}
@@ -14,12 +14,6 @@ use Rattle.answer_lines.specs.Laws.{word-spaced}
 use Rattle.answers.specs.Rows.{decision_row, total_row, snapshot_row, shot_row, number_of}
 use Rattle.answers.specs.declared.RateLimitDecision.{RateLimitDecision}
 use Rattle.answers.specs.declared.RateLimitDecision.TheVariants as decision
-use Rattle.answers.specs.declared.ShotAnswer.{ShotAnswer}
-use Rattle.answers.specs.declared.ShotAnswer.TheVariants as shot
-use Rattle.answers.specs.declared.SnapshotAnswer.{SnapshotAnswer}
-use Rattle.answers.specs.declared.SnapshotAnswer.TheVariants as snapshot
-use Rattle.answers.specs.declared.TotalAnswer.{TotalAnswer}
-use Rattle.answers.specs.declared.TotalAnswer.TheVariants as total
 use Rattle.printing.specs.declared.AnswerLine.{AnswerLine}
 use Rattle.told.specs.Told.{decided, live, snapped, line_of}
 use Rattle.told.specs.declared.Stored.{Stored}
@@ -28,6 +22,10 @@ use Rattle.desk_turn.specs.Lines.{newline, shown}
 use Rattle.desk_turn.specs.Lines as Turn
 use Rattle.desk_turn.specs.declared.Phase.{Phase}
 use Rattle.desk_laws.specs.Whole.{turns}
+use Rattle.common.specs.declared.refusal.Refusal.{Refusal}
+use Rattle.answers.specs.declared.ShotOutcome.{ShotOutcome}
+use Rattle.answers.specs.declared.ShotOutcome.TheVariants.{Held, Decided}
+use Rattle.answers.specs.declared.SuppressedRateLimitSnapshot.{SuppressedRateLimitSnapshot}
 
 -- the bytes of lines, one after the other
 abbrev pub texts : List AnswerLine → List ℕ
@@ -54,21 +52,21 @@ decision-code t (decision.Rejected window wait left) x = refl
 decision-code t (decision.Suppressed factor admitted) x = refl
 decision-code t (decision.Refused n) x = refl
 
-pub shot-code : (t : ℕ) (d : ShotAnswer) (x : Stored) → (shot_line t d x).code ≡ number_of (shot_row d)
+pub shot-code : (t : ℕ) (d : Result ShotOutcome Refusal) (x : Stored) → (shot_line t d x).code ≡ number_of (shot_row d)
 unfolding shot_line shot_row
-shot-code t shot.Held x = refl
-shot-code t (shot.Decided d) x = decision-code t d x
-shot-code t (shot.Refused n) x = refl
+shot-code t (Ok Held) x = refl
+shot-code t (Ok (Decided d)) x = decision-code t d x
+shot-code t (Err n) x = refl
 
-pub total-code : (t : ℕ) (d : TotalAnswer) → (total_line t d).code ≡ number_of (total_row d)
+pub total-code : (t : ℕ) (d : Result ℕ Refusal) → (total_line t d).code ≡ number_of (total_row d)
 unfolding total_line line_of live total_row
-total-code t (total.Total n) = refl
-total-code t (total.Refused n) = refl
+total-code t (Ok n) = refl
+total-code t (Err n) = refl
 
-pub snapshot-code : (t : ℕ) (d : SnapshotAnswer) (x : Stored) → (snapshot_line t d x).code ≡ number_of (snapshot_row d)
+pub snapshot-code : (t : ℕ) (d : Result SuppressedRateLimitSnapshot Refusal) (x : Stored) → (snapshot_line t d x).code ≡ number_of (snapshot_row d)
 unfolding snapshot_line line_of snapped snapshot_row
-snapshot-code t (snapshot.Snapshot y) x = refl
-snapshot-code t (snapshot.Refused n) x = refl
+snapshot-code t (Ok y) x = refl
+snapshot-code t (Err n) x = refl
 
 -- ---- what is printed tells the code: no answer with another code has the bytes of a line
 

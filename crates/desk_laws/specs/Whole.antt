@@ -1,12 +1,14 @@
 -- What `desk` or `shots` prints for a whole input: its lines are cut at newlines, "the last newline may be missing", and each line's turn follows the one
 -- before. Feeding the bytes, in blocks cut anywhere, and finishing prints just that, however long a line is.
 -- Assumes nothing.
-use Rattle.std.specs.Prelude.{◌≡◌, refl, Bool, true, false, not, ◌&&◌, cond, List, [], ◌∷◌, ◌++◌, ℕ, ◌+◌, ◌≤◌, ◌<◌, min, length, take, set, ltb, eqb}
+use Rattle.std.specs.Prelude.{◌≡◌, refl, Bool, true, false, not, ◌&&◌, cond, List, [], ◌∷◌, ◌++◌, ℕ, ◌+◌, ◌≤◌, ◌<◌, min, length, take, set, ltb, eqb, Option, Some, None, Result, Ok, Err}
 use Rattle.std.proofs.Common.{sym, ap, ◌∙◌, append_assoc, append-nil, add-one, arith, length-append, length-set, length-take-le, take_all, take-suc-set, lt-ltb, le-ltb, eq-eqb, ne_eqb}
 use Rattle.std.proofs.lemmas.Bool.{false≢true}
 use Rattle.std.proofs.Math.Decide.{dec_lt}
 use Rattle.std.proofs.Math.Seq.{take-nil, set_out}
 use Rattle.std.proofs.lemmas.List.{take-append-le}
+use Rattle.common.specs.Refusals.{refusal}
+use Rattle.common.specs.declared.refusal.Refusal.{Refusal}
 use Rattle.settings.specs.declared.Settings.{Settings}
 use Rattle.fields.specs.Bytes.{counts, digit-range}
 use Rattle.fields.specs.Numbers.{Each, show_number, each_append, show-digits, show-short}
@@ -16,21 +18,16 @@ use Rattle.lines.specs.Laws.{key_in, CallRead, SettingsRead, call-read, settings
 use Rattle.lines.specs.Reading.{read_call, read_settings}
 use Rattle.fields.specs.Parts.{begins, text_at, field_at}
 use Rattle.lines.specs.declared.CallLine.{CallLine}
-use Rattle.lines.specs.declared.CallLine.TheVariants as call
 use Rattle.lines.specs.declared.Op.{Op}
 use Rattle.lines.specs.declared.Op.TheVariants.{AbsoluteInc, AbsoluteGet, SuppressedInc, SuppressedGet}
 use Rattle.lines.specs.declared.SettingsLine.{SettingsLine}
-use Rattle.lines.specs.declared.SettingsLine.TheVariants as settings
 use Rattle.shot_lines.specs.Reading.{read_shot}
 use Rattle.shot_lines.specs.Laws.{shot-bad}
-use Rattle.shot_lines.specs.declared.ShotLine.TheVariants as shot
 use Rattle.desk_lines.specs.Step.{bad_step}
 use Rattle.desk_step.specs.Desk as Calls
 use Rattle.desk_step.specs.Desk.{opening_of}
 use Rattle.shots_step.specs.Shots as Shot
 use Rattle.told.specs.Told.{bad_line, refused_line}
-use Rattle.desk_step.specs.declared.Opening.{Opening}
-use Rattle.desk_step.specs.declared.Opening.TheVariants as opening
 use Rattle.desk_turn.specs.declared.Program.{Program}
 use Rattle.desk_turn.specs.declared.Program.TheVariants.{Desk, Shots}
 use Rattle.desk_turn.specs.declared.Phase.{Phase}
@@ -92,24 +89,24 @@ settings-short window bucket factor cache f =
       show-short cache f.caches,
     ))
 
-pub call-bad : (line : List ℕ) → longest_read < length line → read_call line ≡ call.Bad
+pub call-bad : (line : List ℕ) → longest_read < length line → read_call line ≡ None
 call-bad line h = go (read_call line) (call-read line)
   where
-    go : (c : CallLine) → CallRead line c → c ≡ call.Bad
-    go call.Bad p = refl
-    go (call.Call t op start end rate n draw) p =
+    go : (c : Option CallLine) → CallRead line c → c ≡ None
+    go None p = refl
+    go (Some l) p =
         let e = ap length p.shows in
-        let k = call-short t op (key_in line start end) rate n draw p.fits in
+        let k = call-short l.t l.op (key_in line l.start l.end) l.rate l.n l.draw p.fits in
         absurd (omega (arith, e, k))
 
-pub settings-bad : (line : List ℕ) → longest_read < length line → read_settings line ≡ settings.Bad
+pub settings-bad : (line : List ℕ) → longest_read < length line → read_settings line ≡ None
 settings-bad line h = go (read_settings line) (settings-read line)
   where
-    go : (c : SettingsLine) → SettingsRead line c → c ≡ settings.Bad
-    go settings.Bad p = refl
-    go (settings.Settings window bucket factor cache) p =
+    go : (c : Option SettingsLine) → SettingsRead line c → c ≡ None
+    go None p = refl
+    go (Some l) p =
         let e = ap length p.shows in
-        let k = settings-short window bucket factor cache p.fits in
+        let k = settings-short l.window l.bucket l.factor l.cache p.fits in
         absurd (omega (arith, e, k))
 
 long-bad : (g : Program) (s : Settings) (a b line : List ℕ) → longest_read < length line → stepped_by g s a b line ≡ bad_step a b
@@ -189,9 +186,9 @@ Settled (Waiting g) = ⊥
 Settled (Open g s) = Unit {0}
 Settled Ended = Unit {0}
 
-settled-in : (g : Program) (o : Opening) → Settled (phase_in g o)
-settled-in g (opening.Open s) = tt
-settled-in g (opening.Refused n) = tt
+settled-in : (g : Program) (o : Result Settings Refusal) → Settled (phase_in g o)
+settled-in g (Ok s) = tt
+settled-in g (Err e) = tt
 
 settled-turn : (p : Phase) (a b l : List ℕ) → Settled (turn p a b l).phase
 unfolding turn
@@ -383,8 +380,8 @@ settings-first window bucket factor cache rest =
 
 -- a line that the program cannot read
 abbrev pub Unread : Program → List ℕ → Type 0
-Unread Desk line = read_call line ≡ call.Bad
-Unread Shots line = read_shot line ≡ shot.Bad
+Unread Desk line = read_call line ≡ None
+Unread Shots line = read_shot line ≡ None
 
 -- it gets its line with 14, and changes nothing
 pub bad-line : (g : Program) (s : Settings) (a b line : List ℕ) → Unread g line →
@@ -394,7 +391,7 @@ bad-line Desk s a b line e = rw e
 bad-line Shots s a b line e = rw e
 
 -- a missing settings line is a bad one: nothing read prints one line
-pub missing-settings : opening_of [] ≡ opening.Refused bad_line
+pub missing-settings : opening_of [] ≡ Err (refusal bad_line)
 unfolding opening_of read_settings field_at text_at begins
 missing-settings = refl
 

@@ -1,15 +1,11 @@
 -- What `desk` and `shots` print of an answer, in 01's words: these are the definitions to hold beside the page.
 -- t is the reading, x what is stored after the call. One party calls, and is promised every slot.
 -- Assumes nothing.
-use Rattle.std.specs.Prelude.{ℕ, Bool, true, false, ◌&&◌, List, nat_lt}
+use Rattle.std.specs.Prelude.{ℕ, Bool, true, false, ◌&&◌, List, nat_lt, Result, Ok, Err}
 use Rattle.std.specs.Float.{binary64}
 use Rattle.std.specs.Float.Ieee.{div}
 use Rattle.common.specs.Units.{minute, real}
 use Rattle.answers.specs.declared.RateLimitDecision.{RateLimitDecision}
-use Rattle.answers.specs.declared.ShotAnswer.{ShotAnswer}
-use Rattle.answers.specs.declared.ShotAnswer.TheVariants as shot
-use Rattle.answers.specs.declared.SnapshotAnswer.{SnapshotAnswer}
-use Rattle.answers.specs.declared.TotalAnswer.{TotalAnswer}
 use Rattle.common.specs.declared.units.RateLimit.{RateLimit}
 use Rattle.ring.specs.Ring.{total_of, declined_of}
 use Rattle.layout.specs.Layout.{first_mark}
@@ -22,6 +18,10 @@ use Rattle.printing.specs.declared.AnswerLine.{AnswerLine}
 use Rattle.told.specs.Told.{no_stored, said, refused_line, decided, live, snapped, line_of}
 use Rattle.told.specs.declared.Stored.{Stored}
 use Rattle.told.specs.declared.Told.{Told}
+use Rattle.common.specs.declared.refusal.Refusal.{Refusal}
+use Rattle.answers.specs.declared.ShotOutcome.{ShotOutcome}
+use Rattle.answers.specs.declared.ShotOutcome.TheVariants.{Held, Decided}
+use Rattle.answers.specs.declared.SuppressedRateLimitSnapshot.{SuppressedRateLimitSnapshot}
 
 -- the one party, promised every slot of room w
 abbrev pub alone : List ℕ → Caller
@@ -51,15 +51,15 @@ unfoldable pub decision_line : ℕ → RateLimitDecision → Stored → AnswerLi
 decision_line t d x = line_at t (decided d x)
 
 -- a shot: a decision's line, and one word more
-unfoldable pub shot_line : ℕ → ShotAnswer → Stored → AnswerLine
-shot_line t shot.Held x = said t answer.Held 0 0 0 x
-shot_line t (shot.Decided d) x = decision_line t d x
-shot_line t (shot.Refused n) x = refused_line t n
+unfoldable pub shot_line : ℕ → Result ShotOutcome Refusal → Stored → AnswerLine
+shot_line t (Ok Held) x = said t answer.Held 0 0 0 x
+shot_line t (Ok (Decided d)) x = decision_line t d x
+shot_line t (Err r) x = refused_line t r.0
 
-unfoldable pub total_line : ℕ → TotalAnswer → AnswerLine
+unfoldable pub total_line : ℕ → Result ℕ Refusal → AnswerLine
 total_line t a = line_at t (live a)
 
-unfoldable pub snapshot_line : ℕ → SnapshotAnswer → Stored → AnswerLine
+unfoldable pub snapshot_line : ℕ → Result SuppressedRateLimitSnapshot Refusal → Stored → AnswerLine
 snapshot_line t a x = line_at t (snapped a x)
 
 -- "`rate` is whole per minute": the arithmetic of `RateLimit::per_minute`

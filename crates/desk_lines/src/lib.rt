@@ -7,8 +7,8 @@ ghost use Rattle.told.specs.Told.{no_stored};
 ghost use Rattle.desk_lines.specs.Lines.{stored_of, decision_line, shot_line};
 ghost use Rattle.desk_lines.specs.Lines.{alone, total_line, snapshot_line, per_minute};
 
-use answers::{RateLimitDecision, ShotAnswer, SnapshotAnswer, TotalAnswer};
-use common::RateLimit;
+use answers::{RateLimitDecision, ShotOutcome, SuppressedRateLimitSnapshot};
+use common::{RateLimit, Refusal};
 use parties::Caller;
 use printing::{Answer, AnswerLine};
 use told::{Stored, ToldLine, line_of};
@@ -78,18 +78,19 @@ pub fn decision_line(t: u64, d: RateLimitDecision, x: Stored) -> AnswerLine
 }
 
 // The line of a shot; `x` is what is stored after it.
-pub fn shot_line(t: u64, a: ShotAnswer, x: Stored) -> AnswerLine
+#[tactic(auto, unfolding(crate::specs::Lines::shot_line))]
+pub fn shot_line(t: u64, a: Result<ShotOutcome, Refusal>, x: Stored) -> AnswerLine
     ensures { result ≡ shot_line t a x }
 {
     match a {
-        ShotAnswer::Held => told::said(t, Answer::Held, 0, 0, 0, x),
-        ShotAnswer::Decided(d) => decision_line(t, d, x),
-        ShotAnswer::Refused(code) => told::refused(t, code),
+        Ok(ShotOutcome::Held) => told::said(t, Answer::Held, 0, 0, 0, x),
+        Ok(ShotOutcome::Decided(d)) => decision_line(t, d, x),
+        Err(Refusal(code)) => told::refused(t, code),
     }
 }
 
 // The line of an absolute `get`: the live total.
-pub fn total_line(t: u64, a: TotalAnswer) -> AnswerLine
+pub fn total_line(t: u64, a: Result<u64, Refusal>) -> AnswerLine
     ensures { result ≡ total_line t a }
 {
     line_of(ToldLine {
@@ -99,7 +100,11 @@ pub fn total_line(t: u64, a: TotalAnswer) -> AnswerLine
 }
 
 // The line of a suppressed `get`; `x` is what is stored after it.
-pub fn snapshot_line(t: u64, a: SnapshotAnswer, x: Stored) -> AnswerLine
+pub fn snapshot_line(
+    t: u64,
+    a: Result<SuppressedRateLimitSnapshot, Refusal>,
+    x: Stored,
+) -> AnswerLine
     ensures { result ≡ snapshot_line t a x }
 {
     line_of(ToldLine {

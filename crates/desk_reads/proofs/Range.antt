@@ -1,6 +1,6 @@
 -- What `desk` tells of each call is in the range that reads back (document 02, ticket 1): of a sound room that is one party's, at settings that opened it.
 -- Assumes nothing.
-use Rattle.std.specs.Prelude.{◌≡◌, Bool, ◌&&◌, ◌||◌, ◌≢◌, eqb, leb, ltb, Float, length, drop}
+use Rattle.std.specs.Prelude.{◌≡◌, Bool, ◌&&◌, ◌||◌, ◌≢◌, eqb, leb, ltb, Float, length, drop, Result, Ok, Err}
 use Rattle.std.proofs.Math.Path.{refl, sym, subst}
 use Rattle.std.proofs.Common.{ap, ◌∙◌, true≢false, eq-eqb, ne_eqb, leb-true, ltb-true}
 use Rattle.std.proofs.Math.Bool.{true, false, not, cond}
@@ -12,7 +12,7 @@ use Rattle.std.proofs.lemmas.Bool.{lt-leb}
 use Rattle.std.proofs.Math.Nat.{le_trans}
 use Rattle.base.specs.Decides.{and-true}
 use Rattle.common.specs.Ranges.{window_ok, bucket_ok, cache_ok, factor_ok}
-use Rattle.common.specs.Refusals.{first, first-none}
+use Rattle.common.specs.Refusals.{first, first-none, refuse}
 use Rattle.common.specs.declared.units.RateLimit.{RateLimit}
 use Rattle.common.specs.declared.units.WindowSize.{WindowSize}
 use Rattle.settings.specs.Clock.{ticks_in, window_ticks}
@@ -26,9 +26,6 @@ use Rattle.ring.specs.Sound.{Sound, sound_buckets, sound-true}
 use Rattle.ring.specs.Sums.{sum-split}
 use Rattle.answers.specs.declared.RateLimitDecision.{RateLimitDecision}
 use Rattle.answers.specs.declared.RateLimitDecision.TheVariants as decision
-use Rattle.answers.specs.declared.SnapshotAnswer.{SnapshotAnswer}
-use Rattle.answers.specs.declared.SnapshotAnswer.TheVariants as snapshot
-use Rattle.answers.specs.declared.TotalAnswer.TheVariants as total
 use Rattle.keys.specs.Keys.{key_of}
 use Rattle.room.specs.Room.{slots_of, ring_of, last_of, holder_of, use_of, find, body_of, sized}
 use Rattle.frame.specs.Distinct.{find-held}
@@ -65,6 +62,8 @@ use Rattle.told.specs.declared.Told.{Told}
 use Rattle.told.specs.declared.Told.TheVariants.{Suppressed, Refused}
 use Rattle.desk_lines.specs.Lines.{alone, stored_at, pick_stored, stored_of}
 use Rattle.desk_reads.specs.Range.{is_between, OwnRoom}
+use Rattle.common.specs.declared.refusal.Refusal.{Refusal}
+use Rattle.answers.specs.declared.SuppressedRateLimitSnapshot.{SuppressedRateLimitSnapshot}
 
 -- ---- totals
 
@@ -247,7 +246,7 @@ module _ (s : Settings) (w : List ℕ) (t : ℕ) (fine : first (faults s) ≡ 0)
   pub absolute-get-fits : OwnRoom Absolute s w → ToldFits t (live (OnAbsolute.get s w t (sent (alone w) key)).answer)
   unfolding OnAbsolute.get live misfits
   absolute-get-fits r =
-      answer-fits live total.Refused t _ w _ refl (turned-fits Absolute s w t fine r (Ops.get who) refl tt _ refl refl)
+      answer-fits live refuse t _ w _ refl (turned-fits Absolute s w t fine r (Ops.get who) refl tt _ refl refl)
       (λ e. (
         within-fits nil-within,
         record { most = le_trans (live-few s t (held_in w who)) (held-few Absolute s w r.sane.sound who); part = omega arith },
@@ -271,12 +270,12 @@ module _ (s : Settings) (w : List ℕ) (t : ℕ) (fine : first (faults s) ≡ 0)
   unfolding snapped
   suppressed-get-fits r y x f = go (ℕ_discrete (first (table_of Suppressed s w t (Ops.snapshot (sent (alone w) key)))) 0)
     where
-      told : (a : SnapshotAnswer) → SnapshotOk a → ToldFits t (snapped a x)
-      told (snapshot.Snapshot z) u = (within-fits u, f)
-      told (snapshot.Refused n) u = absurd u
+      told : (a : Result SuppressedRateLimitSnapshot Refusal) → SnapshotOk a → ToldFits t (snapped a x)
+      told (Ok z) u = (within-fits u, f)
+      told (Err n) u = absurd u
 
       go : Dec (first (table_of Suppressed s w t (Ops.snapshot (sent (alone w) key))) ≡ 0) →
           ToldFits t (snapped (OnSuppressed.get s w t (sent (alone w) key)).answer x)
       go (yes z) = told (OnSuppressed.get s w t (sent (alone w) key)).answer ((get-follows s w t (sent (alone w) key) y).done z).unit
-      go (no z) = subst (λ (d : SnapshotAnswer). ToldFits t (snapped d x)) ((get-follows s w t (sent (alone w) key) y).refused z).answer
+      go (no z) = subst (λ (d : Result SuppressedRateLimitSnapshot Refusal). ToldFits t (snapped d x)) ((get-follows s w t (sent (alone w) key) y).refused z).answer
           (turned-fits Suppressed s w t fine r (Ops.snapshot who) refl tt _ refl refl z)

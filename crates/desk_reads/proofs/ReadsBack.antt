@@ -1,7 +1,7 @@
 -- Every line that `desk` prints reads back (document 02, ticket 1), on any input: from what `desk` prints (`desk_laws`). Between two lines its rooms are sound
 -- and its one party's; so what it tells is in range, and the line is what is printed of that.
 -- Assumes nothing.
-use Rattle.std.specs.Prelude.{◌≡◌, Bool, true, false, not, cond, List, [], ◌∷◌, ◌++◌, ◌≢◌, ℕ, eqb}
+use Rattle.std.specs.Prelude.{◌≡◌, Bool, true, false, not, cond, List, [], ◌∷◌, ◌++◌, ◌≢◌, ℕ, eqb, Option, Some, None, Ok, Err}
 use Rattle.std.proofs.Math.Path.{refl}
 use Rattle.std.proofs.Common.{sym, ap, ap₂, subst, ◌∙◌, append_assoc, append-nil, arith, eqb-true, ne_eqb}
 use Rattle.std.proofs.lemmas.Bool.{false≢true, eqb-false}
@@ -11,12 +11,10 @@ use Rattle.lines.specs.Laws.{key_in, CallRead, call-read}
 use Rattle.lines.specs.Reading.{read_call, read_settings}
 use Rattle.lines.specs.Shown.{t_text, factor_text}
 use Rattle.lines.specs.declared.CallLine.{CallLine}
-use Rattle.lines.specs.declared.CallLine.TheVariants as call
 use Rattle.lines.specs.declared.Op as line_op
 use Rattle.lines.specs.declared.Op.TheVariants.{AbsoluteInc, AbsoluteGet, SuppressedInc, SuppressedGet}
 use Rattle.lines.specs.declared.SettingsLine.{SettingsLine}
-use Rattle.lines.specs.declared.SettingsLine.TheVariants as settings
-use Rattle.common.specs.Refusals.{first}
+use Rattle.common.specs.Refusals.{first, refusal}
 use Rattle.settings.specs.Settings.{faults}
 use Rattle.settings.specs.declared.Settings.{Settings}
 use Rattle.layout.specs.Layout.{second_mark}
@@ -45,7 +43,6 @@ use Rattle.told.specs.declared.ToldLine.{ToldLine}
 use Rattle.desk_lines.specs.Lines.{alone, stored_of, decision_line, total_line, snapshot_line, per_minute}
 use Rattle.desk_step.specs.Desk as Calls
 use Rattle.desk_step.specs.Desk.{open_with, opening_in, opening_of, settings_of}
-use Rattle.desk_step.specs.declared.Opening.TheVariants as opening
 use Rattle.desk_turn.specs.declared.Program.TheVariants as program
 use Rattle.desk_turn.specs.declared.Phase.{Phase}
 use Rattle.desk_turn.specs.declared.Phase.TheVariants.{Waiting, Open, Ended}
@@ -207,16 +204,16 @@ bad-fits = record { some = omega arith; most = omega arith; at_zero = λ e. refl
 
 -- ---- a turn
 
-desk-step : (s : Settings) (a b line : List ℕ) (c : CallLine) → CallRead line c → DeskStands s a b →
+desk-step : (s : Settings) (a b line : List ℕ) (c : Option CallLine) → CallRead line c → DeskStands s a b →
     let v = Calls.step_of s a b line c in Telling (shown v.answer) × DeskStands s v.first v.second
-desk-step s a b line call.Bad p h = (refused-line bad_line bad-fits, h)
-desk-step s a b line (call.Call t op start end rate n draw) p h =
-    let key = key_in line start end in
+desk-step s a b line None p h = (refused-line bad_line bad-fits, h)
+desk-step s a b line (Some l) p h =
+    let key = key_in line l.start l.end in
     let y = plain-bytes key p.fits.keys.plain in (
-      subst (λ (m : AnswerLine). Telling (shown m)) (sym (call_line s a b t key rate n draw y h op))
-          (one_line (record { t = t; told = tell s a b t key rate n draw y h op })
-          (record { time = p.fits.times; told = tell-fits s a b t key rate n draw y h op })),
-      call-stands s a b t key rate n draw y h op,
+      subst (λ (m : AnswerLine). Telling (shown m)) (sym (call_line s a b l.t key l.rate l.n l.draw y h l.op))
+          (one_line (record { t = l.t; told = tell s a b l.t key l.rate l.n l.draw y h l.op })
+          (record { time = p.fits.times; told = tell-fits s a b l.t key l.rate l.n l.draw y h l.op })),
+      call-stands s a b l.t key l.rate l.n l.draw y h l.op,
     )
 
 open-with : (s : Settings) → let o = open_with s in
@@ -225,15 +222,15 @@ unfolding open_with
 open-with s = go (eqb (first (faults s)) 0) refl
   where
     go : (z : Bool) → eqb (first (faults s)) 0 ≡ z →
-        let o = cond z (opening.Open s) (opening.Refused (first (faults s))) in
+        let o = cond z (Ok s) (Err (refusal (first (faults s)))) in
         Telling (prints_in o) × Stands (phase_in program.Desk o) (new_first program.Desk) (new_second program.Desk)
     go true e = (no_line, record { fine = eqb-true (first (faults s)) 0 e; absolute = room-empty Absolute s; suppressed = room-empty Suppressed s })
     go false e = (refused-line (first (faults s)) (fault-fits s (eqb-false (first (faults s)) 0 e)), tt)
 
-opening-in : (c : SettingsLine) → let o = opening_in c in
+opening-in : (c : Option SettingsLine) → let o = opening_in c in
     Telling (prints_in o) × Stands (phase_in program.Desk o) (new_first program.Desk) (new_second program.Desk)
-opening-in settings.Bad = (refused-line bad_line bad-fits, tt)
-opening-in (settings.Settings window bucket factor cache) = open-with (settings_of window bucket factor cache)
+opening-in None = (refused-line bad_line bad-fits, tt)
+opening-in (Some l) = open-with (settings_of l.window l.bucket l.factor l.cache)
 
 turn-reads : (p : Phase) (a b line : List ℕ) → Stands p a b → let e = turn p a b line in Telling e.prints × Stands e.phase e.first e.second
 unfolding turn opening_of stepped_by Calls.stepped

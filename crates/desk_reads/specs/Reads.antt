@@ -1,7 +1,7 @@
 -- Every line that `desk` prints reads back (document 02, ticket 1), on any input: from what `desk` prints (`desk_laws`). Between two lines its rooms are sound
 -- and its one party's; so what it tells is in range, and the line is what is printed of that.
 -- Assumes nothing.
-use Rattle.std.specs.Prelude.{◌≡◌, List, [], ◌∷◌, ℕ, length}
+use Rattle.std.specs.Prelude.{◌≡◌, List, [], ◌∷◌, ℕ, length, Ok}
 use Rattle.common.specs.Refusals.{first}
 use Rattle.settings.specs.Settings.{faults}
 use Rattle.settings.specs.declared.Settings.{Settings}
@@ -10,7 +10,6 @@ use Rattle.printing.specs.Answers.{show_answer}
 use Rattle.printing.specs.declared.AnswerLine.{AnswerLine}
 use Rattle.told.specs.Range.{Reads}
 use Rattle.told.specs.declared.ToldLine.{ToldLine}
-use Rattle.told.specs.declared.LineAnswer.TheVariants.{Line}
 use Rattle.desk_turn.specs.declared.Program.{Program}
 use Rattle.desk_turn.specs.declared.Program.TheVariants as program
 use Rattle.desk_turn.specs.declared.Phase.TheVariants.{Waiting, Open, Ended}
@@ -24,7 +23,7 @@ use Rattle.desk_reads.specs.Range.{OwnRoom}
 -- what the line tells, and it reads as that
 pub record ReadsBack (line : List ℕ) : Type 0 where
   pub tells : ToldLine
-  pub reads : Reads line (Line tells)
+  pub reads : Reads line (Ok tells)
 
 -- each of these lines does
 abbrev pub EachReads : List (List ℕ) → Type 0

@@ -1,11 +1,12 @@
 -- `desk` and `shots` print no code 12 where their rings suffice (document 02, ticket 4): so at a window of 30 s and buckets of 100 ms (ticket 5), whatever
 -- lines come. Of `desk`'s rooms each has a history of calls, the room of `shots` one of shots through a gateway: what is promised of these is promised of it.
 -- Assumes nothing.
-use Rattle.std.specs.Prelude.{◌≡◌, refl, Bool, true, false, cond, List, [], ◌∷◌, ◌++◌, ◌≢◌, ℕ, ◌-◌, ◌≤◌, eqb, length}
+use Rattle.std.specs.Prelude.{◌≡◌, refl, Bool, true, false, cond, List, [], ◌∷◌, ◌++◌, ◌≢◌, ℕ, ◌-◌, ◌≤◌, eqb, length, Option, Some, None, Result, Ok, Err}
 use Rattle.std.proofs.Common.{sym, ap, subst, ◌∙◌, arith}
 use Rattle.std.proofs.lemmas.Bool.{false≢true}
 use Rattle.fields.specs.Ranges.{largest, exact_largest}
-use Rattle.common.specs.Refusals.{first}
+use Rattle.common.specs.Refusals.{first, refusal}
+use Rattle.common.specs.declared.refusal.Refusal.{Refusal}
 use Rattle.settings.specs.Settings.{defaults, defaults-unrefused, faults}
 use Rattle.settings.specs.declared.Settings.{Settings}
 use Rattle.ring_length.specs.RingLength.{sufficient_ring}
@@ -18,18 +19,14 @@ use Rattle.lines.specs.Laws.{key_in, CallRead, call-read, settings-shown}
 use Rattle.lines.specs.Reading.{read_call, read_settings}
 use Rattle.lines.specs.Shown.{show_settings}
 use Rattle.lines.specs.declared.CallLine.{CallLine}
-use Rattle.lines.specs.declared.CallLine.TheVariants as call
 use Rattle.lines.specs.declared.SettingsLine.{SettingsLine}
 use Rattle.shot_lines.specs.Laws.{ShotRead, shot-read}
 use Rattle.shot_lines.specs.Reading.{read_shot}
 use Rattle.shot_lines.specs.declared.ShotLine.{ShotLine}
-use Rattle.shot_lines.specs.declared.ShotLine.TheVariants as shot_line
 use Rattle.told.specs.Told.{bad_line}
 use Rattle.desk_lines.specs.Lines.{alone, per_minute}
 use Rattle.desk_step.specs.Desk as Calls
 use Rattle.desk_step.specs.Desk.{open_with, opening_in, opening_of}
-use Rattle.desk_step.specs.declared.Opening.{Opening}
-use Rattle.desk_step.specs.declared.Opening.TheVariants as opening
 use Rattle.shots_step.specs.Shots as Shots
 use Rattle.desk_turn.specs.declared.Program.{Program}
 use Rattle.desk_turn.specs.declared.Program.TheVariants as program
@@ -53,31 +50,31 @@ use Rattle.desk_rings.specs.Rings.{Enough, first_of, NeverFull, new-left, progra
 
 -- ---- `desk`
 
-desk-step : (s : Settings) (a b line : List ℕ) (c : CallLine) → CallRead line c → DeskStands s a b →
+desk-step : (s : Settings) (a b line : List ℕ) (c : Option CallLine) → CallRead line c → DeskStands s a b →
     let v = Calls.step_of s a b line c in (sufficient_ring s ≤ ring_length → v.answer.code ≢ 12) × DeskStands s v.first v.second
-desk-step s a b line call.Bad p h = (λ enough e. omega (arith, e), h)
-desk-step s a b line (call.Call t op start end rate n draw) p h =
-    let key = key_in line start end in (
-      λ enough e. asks-untold s a b t key rate n draw h enough op (sym (call-code s a b t op key rate n draw) ∙ e),
-      call-stands s a b t key rate n draw h (plain-bytes key p.fits.keys.plain) op,
+desk-step s a b line None p h = (λ enough e. omega (arith, e), h)
+desk-step s a b line (Some l) p h =
+    let key = key_in line l.start l.end in (
+      λ enough e. asks-untold s a b l.t key l.rate l.n l.draw h enough l.op (sym (call-code s a b l.t l.op key l.rate l.n l.draw) ∙ e),
+      call-stands s a b l.t key l.rate l.n l.draw h (plain-bytes key p.fits.keys.plain) l.op,
     )
 
 -- ---- `shots`
 
-shot-step : (s : Settings) (w r line : List ℕ) (c : ShotLine) → ShotRead line c → ShotsStands s w r →
+shot-step : (s : Settings) (w r line : List ℕ) (c : Option ShotLine) → ShotRead line c → ShotsStands s w r →
     let v = Shots.step_of s w r line c in (sufficient_ring s ≤ ring_length → v.answer.code ≢ 12) × ShotsStands s v.first v.second
 unfolding Shots.shot_of
-shot-step s w r line shot_line.Bad p h = (λ enough e. omega (arith, e), h)
-shot-step s w r line (shot_line.Shot t start end number rate draw) p h =
-    let e : Event = shot t (sent (alone r) (key_in line start end)) number (per_minute rate) draw in (
+shot-step s w r line None p h = (λ enough e. omega (arith, e), h)
+shot-step s w r line (Some l) p h =
+    let e : Event = shot l.t (sent (alone r) (key_in line l.start l.end)) l.number (per_minute l.rate) l.draw in (
       λ enough f.
           subst (λ (x : Lent). number_in s x e ≢ 12) (sym h.lent_is)
           (through-never-full s (slots_of program.Shots) ring_length (length_of (slots_of program.Shots) ring_length) empty_table (program-fits program.Shots) enough
           h.events h.keyed e)
-          (sym (shot-code t _ _) ∙ f),
+          (sym (shot-code l.t _ _) ∙ f),
       record {
         events = e ∷ h.events;
-        keyed = (plain-bytes (key_in line start end) p.fits.keys.plain, h.keyed);
+        keyed = (plain-bytes (key_in line l.start l.end) p.fits.keys.plain, h.keyed);
         lent_is = ap (λ (x : Lent). Through.after s x e) h.lent_is;
       },
     )
@@ -106,9 +103,9 @@ new-stands : (g : Program) (s : Settings) → StandsBy g s (new_first g) (new_se
 new-stands program.Desk s = record { absolute = new-left Absolute s _; suppressed = new-left Suppressed s _ }
 new-stands program.Shots s = record { events = []; keyed = tt; lent_is = refl }
 
-opens : (g : Program) (o : Opening) → Enough o → Opened (phase_in g o) (new_first g) (new_second g)
-opens g (opening.Open s) h = (h, new-stands g s)
-opens g (opening.Refused n) h = tt
+opens : (g : Program) (o : Result Settings Refusal) → Enough o → Opened (phase_in g o) (new_first g) (new_second g)
+opens g (Ok s) h = (h, new-stands g s)
+opens g (Err e) h = tt
 
 lines-never : (g : Program) (ls : List (List ℕ)) → Enough (opening_of (first_of ls)) → Without 12 (turns (Waiting g) (new_first g) (new_second g) ls)
 unfolding turns turn
@@ -138,7 +135,7 @@ enough-with : (s : Settings) → sufficient_ring s ≤ ring_length → Enough (o
 unfolding open_with
 enough-with s h = go (eqb (first (faults s)) 0)
   where
-    go : (z : Bool) → Enough (cond z (opening.Open s) (opening.Refused (first (faults s))))
+    go : (z : Bool) → Enough (cond z (Ok s) (Err (refusal (first (faults s)))))
     go true = h
     go false = tt
 
@@ -148,7 +145,7 @@ enough-then factor cache = enough-with _ (omega arith)
 pub thirty-seconds : (g : Program) (h xs : List ℕ) (factor cache : ℕ) → length h ≡ 200 →
     read_settings (first_of (input_lines [] xs)) ≡ default_line factor cache → Without 12 (printed g h xs)
 unfolding opening_of
-thirty-seconds g h xs factor cache e p = never-full g h xs e (subst (λ (c : SettingsLine). Enough (opening_in c)) (sym p) (enough-then factor cache))
+thirty-seconds g h xs factor cache e p = never-full g h xs e (subst (λ (c : Option SettingsLine). Enough (opening_in c)) (sym p) (enough-then factor cache))
 
 -- in bytes: an input that begins with `window=30 bucket=100 factor=.. cache=..` and a newline, whatever comes behind
 pub thirty-seconds-shown : (g : Program) (h rest : List ℕ) (factor cache : ℕ) → length h ≡ 200 → factor ≤ exact_largest → cache ≤ largest →

@@ -1,8 +1,9 @@
 -- `desk` and `shots` print no code 12 where their rings suffice (document 02, ticket 4): so at a window of 30 s and buckets of 100 ms (ticket 5), whatever
 -- lines come. Of `desk`'s rooms each has a history of calls, the room of `shots` one of shots through a gateway: what is promised of these is promised of it.
 -- Assumes nothing.
-use Rattle.std.specs.Prelude.{◌≡◌, refl, true, List, [], ◌∷◌, ◌≢◌, ℕ, ◌≤◌, length}
+use Rattle.std.specs.Prelude.{◌≡◌, refl, true, List, [], ◌∷◌, ◌≢◌, ℕ, ◌≤◌, length, Option, Some, Result, Ok, Err}
 use Rattle.std.proofs.Common.{sym, ap, subst}
+use Rattle.common.specs.declared.refusal.Refusal.{Refusal}
 use Rattle.settings.specs.declared.Settings.{Settings}
 use Rattle.ring_length.specs.RingLength.{sufficient_ring}
 use Rattle.rules.specs.declared.RoomKind.{RoomKind}
@@ -11,12 +12,10 @@ use Rattle.room.specs.Room.{length_of, fits, empty}
 use Rattle.frame.specs.Keys.{Bytes}
 use Rattle.lines.specs.declared.Op as line_op
 use Rattle.lines.specs.declared.Op.TheVariants.{AbsoluteInc, AbsoluteGet, SuppressedInc, SuppressedGet}
+use Rattle.lines.specs.Reading.{settings_line}
 use Rattle.lines.specs.declared.SettingsLine.{SettingsLine}
-use Rattle.lines.specs.declared.SettingsLine.TheVariants as settings
 use Rattle.desk_step.specs.Desk as Calls
 use Rattle.desk_step.specs.Desk.{open_with, opening_in, opening_of}
-use Rattle.desk_step.specs.declared.Opening.{Opening}
-use Rattle.desk_step.specs.declared.Opening.TheVariants as opening
 use Rattle.desk_turn.specs.declared.Program.{Program}
 use Rattle.desk_turn.specs.declared.Program.TheVariants as program
 use Rattle.desk_turn.specs.declared.Phase.TheVariants.{Waiting, Open, Ended}
@@ -33,9 +32,9 @@ use Rattle.through.specs.Rings.{EachKeyed}
 -- ---- the statement
 
 -- the programs' rings suffice for the settings that a first line opens them with
-abbrev pub Enough : Opening → Type 0
-Enough (opening.Open s) = sufficient_ring s ≤ ring_length
-Enough (opening.Refused n) = Unit {0}
+abbrev pub Enough : Result Settings Refusal → Type 0
+Enough (Ok s) = sufficient_ring s ≤ ring_length
+Enough (Err e) = Unit {0}
 
 abbrev pub first_of : List (List ℕ) → List ℕ
 first_of [] = []
@@ -132,5 +131,5 @@ Opened Ended a b = Unit {0}
 
 -- ---- at a window of 30 s and buckets of 100 ms, whatever factor and cache period are
 
-abbrev pub default_line : ℕ → ℕ → SettingsLine
-default_line factor cache = settings.Settings 30 100 factor cache
+abbrev pub default_line : ℕ → ℕ → Option SettingsLine
+default_line factor cache = Some (settings_line 30 100 factor cache)

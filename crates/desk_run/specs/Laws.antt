@@ -1,6 +1,7 @@
 -- What the loops know at each turn and at each return, joined to the definitions: part after part, and block after block, nothing is left out or put twice.
 -- Assumes nothing.
-use Rattle.std.specs.Prelude.{◌≡◌, refl, Bool, true, cond, ◌||◌, List, [], ◌++◌, ℕ, ◌+◌, ◌-◌, ◌≤◌, ◌<◌, min, length, take, drop, ltb, eqb, Ok, Err}
+use Rattle.std.specs.Result.{is_ok, is_err}
+use Rattle.std.specs.Prelude.{◌≡◌, refl, Bool, true, cond, ◌||◌, List, [], ◌++◌, ℕ, ◌+◌, ◌-◌, ◌≤◌, ◌<◌, min, length, take, drop, ltb, eqb, Result, Ok, Err}
 use Rattle.std.specs.declared.result.Result.{Result}
 use Rattle.std.proofs.Common.{sym, subst, ◌∙◌, true≢false, arith, length-append, length-take, length-drop, take-take, take-add, eq-eqb, ne_eqb}
 use Rattle.std.proofs.Math.Path.{ap}
@@ -16,6 +17,7 @@ use Rattle.desk_turn.specs.Lines.{Effect, idle, roomy}
 use Rattle.desk_feed.specs.declared.Desk.{Desk}
 use Rattle.desk_feed.specs.declared.Progress.{Progress}
 use Rattle.desk_feed.specs.Feed.{Whole, whole, fresh, After, and_then, feed, over_in, is_over, finish_as, finishing, finished, running, ended_in, has_ended}
+use Rattle.common.specs.declared.refusal.Refusal.{Refusal}
 use Rattle.desk_feed.specs.Clauses.{Feeding, slots_of, ring_length, new_first, new_second, Fitting, BothMade}
 use Rattle.desk_feed.specs.Laws.{feed-blocks, feeding-inside, progress}
 use Rattle.desk_run.specs.declared.Pumped.{Pumped}
@@ -124,9 +126,18 @@ bytes_inside (Err e) m n p = let x : ◌≡◌ {A = ℕ} 0 1 = cc in absurd (ome
 pub stands-first : (w : Whole) → Standing w [] w 0 0
 stands-first w = record { heard = omega arith; reached = reached-none w 0 (omega arith) }
 
+-- what is no error is fine
+pub fine_is : {T E : Type 0} (r : Result T E) → is_err r ≡ false → is_ok r ≡ true
+fine_is (Ok x) p = refl
+fine_is (Err e) p = absurd (true≢false p)
+
+pub not-fine : {T E : Type 0} (r : Result T E) → is_err r ≡ true → is_ok r ≡ true → ⊥
+not-fine (Ok x) p q = false≢true p
+not-fine (Err e) p q = false≢true q
+
 -- a block more
 pub stands-next : (w v : Whole) (xs block : List ℕ) (read put n next : ℕ) (r : Pumped) (a b h : List ℕ) → Standing w xs v read put →
-    Pumping v block put r a b h → r.fine ≡ true → n ≡ length block → next ≡ capped (read + n) →
+    Pumping v block put r a b h → is_ok r.outcome ≡ true → n ≡ length block → next ≡ capped (read + n) →
     Standing w (xs ++ block) (whole r.desk a b h) next r.put
 stands-next w v xs block read put n next r a b h s p e f g =
     let t : take r.taken block ≡ block = ap (λ (k : ℕ). take k block) (p.all e) ∙ take-length block in
@@ -241,7 +252,7 @@ pub shots-fit : (a b : List ℕ) → length a ≡ 389 → length b ≡ 58053 →
 unfolding fits
 shots-fit a b e f = record { first = ap (λ (n : ℕ). eqb n 389) e; second = ap (fits (slots_of program.Shots) ring_length) f }
 
-pub serves-new : (l : ℕ) (g : Program) (a b : List ℕ) (x : Bool) (a₁ b₁ : List ℕ) (d : Desk) (h : List ℕ) (r : Served) (a₂ b₂ h₂ : List ℕ) → Fitting g a b →
+pub serves-new : (l : ℕ) (g : Program) (a b : List ℕ) (x : Result (Unit {0}) Refusal) (a₁ b₁ : List ℕ) (d : Desk) (h : List ℕ) (r : Served) (a₂ b₂ h₂ : List ℕ) → Fitting g a b →
     BothMade g a b x a₁ b₁ → d ≡ fresh g → Serves l (whole d a₁ b₁ h) r a₂ b₂ h₂ → Serves l (whole (fresh g) (new_first g) (new_second g) h) r a₂ b₂ h₂
 serves-new l g a b x a₁ b₁ d h r a₂ b₂ h₂ f m e s =
     let p : a₁ ≡ new_first g = m.first ∙ ap (λ (t : Bool). cond t (new_first g) a) f.first in

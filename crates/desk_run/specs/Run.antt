@@ -3,6 +3,7 @@
 -- Assumes nothing.
 use Rattle.std.specs.Prelude.{◌≡◌, Bool, true, false, cond, ◌||◌, List, [], ℕ, ◌+◌, ◌≤◌, min, length, take, eqb, Ok, Err}
 use Rattle.std.specs.declared.result.Result.{Result}
+use Rattle.std.specs.Result.{is_ok}
 use Rattle.desk_feed.specs.Feed.{Whole, whole, After, feed, finished, running, has_ended}
 use Rattle.desk_run.specs.declared.Pumped.{Pumped}
 use Rattle.desk_run.specs.declared.Served.{Served}
@@ -53,7 +54,7 @@ pub record Reached (w : Whole) (xs : List ℕ) (before : ℕ) (v : Whole) (put :
 pub record Pumping (w : Whole) (block : List ℕ) (before : ℕ) (r : Pumped) (a b h : List ℕ) : Type 0 where
   pub inside : r.taken ≤ length block
   pub reached : Reached w (take r.taken block) before (whole r.desk a b h) r.put
-  pub all : r.fine ≡ true → r.taken ≡ length block
+  pub all : is_ok r.outcome ≡ true → r.taken ≡ length block
 
 -- ---- the end of the input
 

@@ -31,18 +31,14 @@ const BLOCK: usize = 65536;
 fn more(count: u64, n: usize) -> u64
     ensures { result ≡ capped (count + n) }
 {
-    if u64::MAX - count < n as u64 {
-        return u64::MAX;
-    }
-    count + n as u64
+    count.saturating_add(n as u64)
 }
 
-// Whether a write was fine, and how many bytes were written with it; and why it was not.
+// How a write went, and how many bytes were written with it.
 #[derive(Clone, Copy)]
 struct Sent {
-    fine: bool,
+    outcome: io::Result<()>,
     put: u64,
-    why: Option<io::Error>,
 }
 
 // The first `n` bytes of `out` go out.
@@ -51,22 +47,19 @@ fn write_put<W: Write>(to: &mut W, out: &[u8], n: usize, put: u64) -> Sent
     ensures { result.put ≡ capped (put + n) }
 {
     let part = &out[..n];
-    let why = to.write_all(part).err();
     Sent {
-        fine: why.is_none(),
+        outcome: to.write_all(part),
         put: more(put, part.len()),
-        why,
     }
 }
 
-// The desk after a block, how many of its bytes were taken, how many bytes were written, and whether every write was fine.
+// The desk after a block, how many of its bytes were taken, how many bytes were written, and how the last write went.
 #[derive(Clone, Copy)]
 struct Pumped {
     desk: Desk,
     taken: usize,
     put: u64,
-    fine: bool,
-    why: Option<io::Error>,
+    outcome: io::Result<()>,
 }
 
 // Takes a block whole, and writes what it prints as often as `out` is full; or stops at a write that fails.
@@ -87,22 +80,21 @@ fn pump<W: Write>(
     let mut state = desk;
     let mut at = 0;
     let mut sent = Sent {
-        fine: true,
+        outcome: Ok(()),
         put,
-        why: None,
     };
+    // A turn takes as many bytes as `out` has room to answer, so no iterator has its steps.
     while at < block.len() {
         let progress = desk_feed::feed(state, first, second, hold, &block[at..], out);
         state = progress.desk;
         at += progress.taken;
         sent = write_put(to, out, progress.put, sent.put);
-        if !sent.fine {
+        if sent.outcome.is_err() {
             return Pumped {
                 desk: state,
                 taken: at,
                 put: sent.put,
-                fine: false,
-                why: sent.why,
+                outcome: sent.outcome,
             };
         }
     }
@@ -110,8 +102,7 @@ fn pump<W: Write>(
         desk: state,
         taken: at,
         put: sent.put,
-        fine: true,
-        why: None,
+        outcome: Ok(()),
     }
 }
 
@@ -163,7 +154,7 @@ enum Ending {
     Endless,
 }
 
-// With what the last read gave, and how many bytes were read and written; and why a read or a write failed.
+// With what the last read gave, and how many bytes were read and written; and why a read or a write failed, beside the kind of which contracts speak.
 #[derive(Clone, Copy)]
 struct Served {
     ending: Ending,
@@ -199,13 +190,13 @@ fn close<W: Write>(
         };
     }
     let sent = end(desk, to, first, second, hold, out, put);
-    if !sent.fine {
+    if sent.outcome.is_err() {
         return Served {
             ending: Ending::Unwritten,
             last,
             read,
             put: sent.put,
-            why: sent.why,
+            why: sent.outcome.err(),
         };
     }
     Served {
@@ -235,6 +226,7 @@ fn serve<R: Read, W: Write>(
     let mut read = 0;
     let mut put = 0;
     let mut last = Heard::Nothing;
+    // The count of bytes that were read ends the loop: an input need have no end.
     while read < u64::MAX {
         let got = from.read(block);
         last = hear(got, block);
@@ -256,13 +248,13 @@ fn serve<R: Read, W: Write>(
         state = pumped.desk;
         put = pumped.put;
         read = more(read, n);
-        if !pumped.fine {
+        if pumped.outcome.is_err() {
             return Served {
                 ending: Ending::Unwritten,
                 last,
                 read,
                 put,
-                why: pumped.why,
+                why: pumped.outcome.err(),
             };
         }
         if desk_feed::has_ended(state) {
@@ -299,7 +291,7 @@ fn serve_anew<R: Read, W: Write>(
     ensures { Serves 65536 (whole (fresh program) (new_first program) (new_second program) hold.old) result
         first.new second.new hold.new }
 {
-    desk_feed::make_memories(program, first, second);
+    desk_feed::make_memories(program, first, second).unwrap();
     serve(
         desk_feed::start(program),
         from,

@@ -1,8 +1,9 @@
 -- What `desk` prints for a line and what it leaves of its two rooms, in 01's words: these are the definitions to hold beside the page.
 -- s are the settings, a the absolute room's words, b the suppressed room's, t the reading. Every call is of the one party.
 -- Assumes nothing.
-use Rattle.std.specs.Prelude.{ℕ, cond, List, ◌==◌}
-use Rattle.common.specs.Refusals.{first}
+use Rattle.std.specs.Prelude.{ℕ, cond, List, ◌==◌, Option, Some, None, Result, Ok, Err}
+use Rattle.common.specs.Refusals.{first, refusal}
+use Rattle.common.specs.declared.refusal.Refusal.{Refusal}
 use Rattle.settings.specs.Settings.{faults}
 use Rattle.common.specs.Units.{real}
 use Rattle.settings.specs.declared.ClockMode.TheVariants.{Milliseconds}
@@ -14,15 +15,11 @@ use Rattle.suppressed_verdicts.specs.Calls as Suppressed
 use Rattle.lines.specs.Laws.{key_in}
 use Rattle.lines.specs.Reading.{read_call, read_settings}
 use Rattle.lines.specs.declared.CallLine.{CallLine}
-use Rattle.lines.specs.declared.CallLine.TheVariants as call
 use Rattle.lines.specs.declared.Op.{Op}
 use Rattle.lines.specs.declared.Op.TheVariants.{AbsoluteInc, AbsoluteGet, SuppressedInc, SuppressedGet}
 use Rattle.lines.specs.declared.SettingsLine.{SettingsLine}
-use Rattle.lines.specs.declared.SettingsLine.TheVariants as settings
 use Rattle.printing.specs.declared.AnswerLine.{AnswerLine}
 use Rattle.told.specs.declared.Stored.{Stored}
-use Rattle.desk_step.specs.declared.Opening.{Opening}
-use Rattle.desk_step.specs.declared.Opening.TheVariants.{Open, Refused}
 use Rattle.desk_lines.specs.Lines.{alone, stored_of, decision_line, total_line, snapshot_line, per_minute}
 use Rattle.told.specs.Told.{bad_line}
 use Rattle.desk_lines.specs.Step.{Step, bad_step}
@@ -60,9 +57,9 @@ call_of s a b t AbsoluteGet key rate n draw = in_absolute (absolute_get s a t ke
 call_of s a b t SuppressedInc key rate n draw = in_suppressed (suppressed_inc s b t key rate n draw) a
 call_of s a b t SuppressedGet key rate n draw = in_suppressed (suppressed_get s b t key) a
 
-abbrev pub step_of : Settings → List ℕ → List ℕ → List ℕ → CallLine → Step
-step_of s a b line call.Bad = bad_step a b
-step_of s a b line (call.Call t op start end rate n draw) = call_of s a b t op (key_in line start end) rate n draw
+abbrev pub step_of : Settings → List ℕ → List ℕ → List ℕ → Option CallLine → Step
+step_of s a b line None = bad_step a b
+step_of s a b line (Some l) = call_of s a b l.t l.op (key_in line l.start l.end) l.rate l.n l.draw
 
 unfoldable pub stepped : Settings → List ℕ → List ℕ → List ℕ → Step
 stepped s a b line = step_of s a b line (read_call line)
@@ -78,12 +75,12 @@ settings_of window bucket factor cache = record {
   clock_mode = Milliseconds;
 }
 
-unfoldable pub open_with : Settings → Opening
-open_with s = cond (first (faults s) == 0) (Open s) (Refused (first (faults s)))
+unfoldable pub open_with : Settings → Result Settings Refusal
+open_with s = cond (first (faults s) == 0) (Ok s) (Err (refusal (first (faults s))))
 
-abbrev pub opening_in : SettingsLine → Opening
-opening_in settings.Bad = Refused bad_line
-opening_in (settings.Settings window bucket factor cache) = open_with (settings_of window bucket factor cache)
+abbrev pub opening_in : Option SettingsLine → Result Settings Refusal
+opening_in None = Err (refusal bad_line)
+opening_in (Some l) = open_with (settings_of l.window l.bucket l.factor l.cache)
 
-unfoldable pub opening_of : List ℕ → Opening
+unfoldable pub opening_of : List ℕ → Result Settings Refusal
 opening_of line = opening_in (read_settings line)

@@ -1,12 +1,11 @@
 -- What the code of a step knows at each return, joined to the definitions.
 -- Assumes nothing.
-use Rattle.std.specs.Prelude.{◌≡◌, ℕ, List}
+use Rattle.std.specs.Prelude.{◌≡◌, ℕ, List, Some}
 use Rattle.std.proofs.Common.{subst}
 use Rattle.judge.specs.Verdict.{Verdict, Told}
 use Rattle.printing.specs.declared.AnswerLine.{AnswerLine}
 use Rattle.lines.specs.Laws.{KeyInside, key-inside, CallRead, call-read}
-use Rattle.lines.specs.Reading.{read_call}
-use Rattle.lines.specs.declared.CallLine.TheVariants as call
+use Rattle.lines.specs.Reading.{call_line, read_call}
 use Rattle.lines.specs.declared.Op.{Op}
 use Rattle.told.specs.declared.Stored.{Stored}
 use Rattle.desk_step.specs.Desk.{lined}
@@ -22,7 +21,7 @@ line-told f key v d x y r o p q =
 
 -- ---- the key's part of a line
 
-pub read-inside : (line : List ℕ) (t : ℕ) (op : Op) (start end rate n draw : ℕ) → read_call line ≡ call.Call t op start end rate n draw →
+pub read-inside : (line : List ℕ) (t : ℕ) (op : Op) (start end rate n draw : ℕ) → read_call line ≡ Some (call_line t op start end rate n draw) →
     KeyInside line start end
 read-inside line t op start end rate n draw e =
     let p = subst (CallRead line) e (call-read line) in

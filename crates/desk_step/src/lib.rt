@@ -8,12 +8,12 @@ ghost use Rattle.desk_lines.specs.Step.{Answered};
 ghost use Rattle.desk_step.specs.Desk.{absolute_inc, absolute_get, suppressed_inc, suppressed_get, call_of, stepped};
 ghost use Rattle.desk_step.specs.Desk.{settings_of, open_with, opening_of};
 
-use common::{BucketSize, SuppressionFactorCachePeriod, WindowSize};
+use common::{BucketSize, Refusal, SuppressionFactorCachePeriod, WindowSize};
 use desk_lines::{alone, decision_line, per_minute, snapshot_line, stored_of, total_line};
 use lines::{CallLine, Op, SettingsLine};
 use printing::AnswerLine;
 use settings::{ClockMode, Settings};
-use told::{BAD_LINE, bad_line, refused};
+use told::{bad_line, refused};
 
 // ---- the calls
 
@@ -63,25 +63,23 @@ fn suppressed_get(settings: Settings, room: &mut [u64], t: u64, key: &[u8]) -> A
     snapshot_line(t, a, stored_of(room, key))
 }
 
+// `key` is the part of the line that names it.
+#[tactic(auto, unfolding(crate::specs::Desk::call_of))]
 fn call(
     settings: Settings,
     absolute: &mut [u64],
     suppressed: &mut [u64],
-    t: u64,
-    op: Op,
+    c: CallLine,
     key: &[u8],
-    rate: u64,
-    n: u64,
-    draw: u64,
 ) -> AnswerLine
-    ensures { Answered (call_of settings absolute.old suppressed.old t op key.now rate n draw) result
+    ensures { Answered (call_of settings absolute.old suppressed.old c.t c.op key.now c.rate c.n c.draw) result
         absolute.new suppressed.new }
 {
-    match op {
-        Op::AbsoluteInc => absolute_inc(settings, absolute, t, key, rate, n),
-        Op::AbsoluteGet => absolute_get(settings, absolute, t, key),
-        Op::SuppressedInc => suppressed_inc(settings, suppressed, t, key, rate, n, draw),
-        Op::SuppressedGet => suppressed_get(settings, suppressed, t, key),
+    match c.op {
+        Op::AbsoluteInc => absolute_inc(settings, absolute, c.t, key, c.rate, c.n),
+        Op::AbsoluteGet => absolute_get(settings, absolute, c.t, key),
+        Op::SuppressedInc => suppressed_inc(settings, suppressed, c.t, key, c.rate, c.n, c.draw),
+        Op::SuppressedGet => suppressed_get(settings, suppressed, c.t, key),
     }
 }
 
@@ -95,80 +93,48 @@ pub fn step(
     ensures { Answered (stepped settings absolute.old suppressed.old line.now) result absolute.new
         suppressed.new }
 {
-    let CallLine::Call {
-        t,
-        op,
-        start,
-        end,
-        rate,
-        n,
-        draw,
-    } = lines::read_call(line)
-    else {
+    let Some(c) = lines::read_call(line) else {
         return bad_line();
     };
-    call(
-        settings,
-        absolute,
-        suppressed,
-        t,
-        op,
-        &line[start..end],
-        rate,
-        n,
-        draw,
-    )
+    call(settings, absolute, suppressed, c, &line[c.start..c.end])
 }
 
 // ---- the settings line
 
-// What a settings line opens: the desk, or nothing, with the number of the refusal.
-#[derive(Clone, Copy)]
-pub enum Opening {
-    Open(Settings),
-    Refused(u64),
-}
-
-fn settings_of(window: u64, bucket: u64, factor: u64, cache: u64) -> Settings
-    ensures { result ≡ settings_of window bucket factor cache }
+fn settings_of(l: SettingsLine) -> Settings
+    ensures { result ≡ settings_of l.window l.bucket l.factor l.cache }
 {
     Settings {
-        window_size: WindowSize(window),
-        bucket_size: BucketSize(bucket),
-        hard_limit_factor: std::num::nearest_u64_to_f64(factor),
-        suppression_factor_cache_period: SuppressionFactorCachePeriod(cache),
+        window_size: WindowSize(l.window),
+        bucket_size: BucketSize(l.bucket),
+        hard_limit_factor: std::num::nearest_u64_to_f64(l.factor),
+        suppression_factor_cache_period: SuppressionFactorCachePeriod(l.cache),
         clock_mode: ClockMode::Milliseconds,
     }
 }
 
-fn open_with(settings: Settings) -> Opening
+#[tactic(auto, unfolding(crate::specs::Desk::open_with))]
+fn open_with(settings: Settings) -> Result<Settings, Refusal>
     ensures { result ≡ open_with settings }
 {
-    let code = settings.refusal();
-    if code != 0 {
-        return Opening::Refused(code);
-    }
-    Opening::Open(settings)
+    settings.check()?;
+    Ok(settings)
 }
 
-pub fn begin(line: &[u8]) -> Opening
+// What a settings line opens.
+#[tactic(auto, unfolding(crate::specs::Desk::opening_of))]
+pub fn begin(line: &[u8]) -> Result<Settings, Refusal>
     ensures { result ≡ opening_of line.now }
 {
-    let SettingsLine::Settings {
-        window,
-        bucket,
-        factor,
-        cache,
-    } = lines::read_settings(line)
-    else {
-        return Opening::Refused(BAD_LINE);
+    let Some(l) = lines::read_settings(line) else {
+        return Err(Refusal::NO_CALL);
     };
-    open_with(settings_of(window, bucket, factor, cache))
+    open_with(settings_of(l))
 }
 
 // The line that is printed where nothing is opened.
-pub fn refusal(code: u64) -> AnswerLine
-    ensures { result ≡ refused_line 0 code }
+pub fn refusal(e: Refusal) -> AnswerLine
+    ensures { result ≡ refused_line 0 e.0 }
 {
-    refused(0, code)
+    refused(0, e.number())
 }

@@ -1,7 +1,8 @@
 -- `desk` or `shots` on a line: the phase after it, the memories after it, and what it prints. a and b are the words of the two memories: `desk`'s are the
 -- absolute and the suppressed room, those of `shots` the table and the room.
 -- Assumes nothing.
-use Rattle.std.specs.Prelude.{List, [], ◌∷◌, ◌++◌, ℕ}
+use Rattle.std.specs.Prelude.{List, [], ◌∷◌, ◌++◌, ℕ, Result, Ok, Err}
+use Rattle.common.specs.declared.refusal.Refusal.{Refusal}
 use Rattle.settings.specs.declared.Settings.{Settings}
 use Rattle.printing.specs.Answers.{show_answer}
 use Rattle.printing.specs.declared.AnswerLine.{AnswerLine}
@@ -10,8 +11,6 @@ use Rattle.desk_step.specs.Desk as Calls
 use Rattle.desk_step.specs.Desk.{opening_of}
 use Rattle.shots_step.specs.Shots as Shot
 use Rattle.told.specs.Told.{refused_line}
-use Rattle.desk_step.specs.declared.Opening.{Opening}
-use Rattle.desk_step.specs.declared.Opening.TheVariants as opening
 use Rattle.desk_turn.specs.declared.Program.{Program}
 use Rattle.desk_turn.specs.declared.Program.TheVariants.{Desk, Shots}
 use Rattle.desk_turn.specs.declared.Phase.{Phase}
@@ -40,13 +39,13 @@ abbrev pub idle : Phase → List ℕ → List ℕ → Effect
 idle p a b = record { phase = p; first = a; second = b; prints = [] }
 
 -- "A bad or missing settings line prints one line .. and ends."
-abbrev pub phase_in : Program → Opening → Phase
-phase_in g (opening.Open s) = Open g s
-phase_in g (opening.Refused n) = Ended
+abbrev pub phase_in : Program → Result Settings Refusal → Phase
+phase_in g (Ok s) = Open g s
+phase_in g (Err e) = Ended
 
-abbrev pub prints_in : Opening → List ℕ
-prints_in (opening.Open s) = []
-prints_in (opening.Refused n) = shown (refused_line 0 n)
+abbrev pub prints_in : Result Settings Refusal → List ℕ
+prints_in (Ok s) = []
+prints_in (Err e) = shown (refused_line 0 e.0)
 
 -- each program takes its lines by its own step
 unfoldable pub stepped_by : Program → Settings → List ℕ → List ℕ → List ℕ → Step

@@ -9,7 +9,6 @@ ghost use Rattle.desk_lines.specs.Step.{Answered};
 ghost use Rattle.desk_turn.specs.Lines.{roomy, shown, stepped_by, turn};
 ghost use Rattle.desk_turn.specs.Taking.{PutAnswer, Begins, Took};
 
-use desk_step::Opening;
 use printing::AnswerLine;
 use settings::Settings;
 
@@ -60,15 +59,14 @@ fn take_settings(program: Program, line: &[u8], out: &mut [u8], at: usize) -> Tu
     requires { at + roomy ≤ length out.old }
     ensures { Begins program (opening_of line.now) out.old at result out.new }
 {
-    let opening = desk_step::begin(line);
-    match opening {
-        Opening::Open(settings) => Turn {
+    match desk_step::begin(line) {
+        Ok(settings) => Turn {
             phase: Phase::Open(program, settings),
             next: at,
         },
-        Opening::Refused(code) => Turn {
+        Err(e) => Turn {
             phase: Phase::Ended,
-            next: put_line(desk_step::refusal(code), out, at),
+            next: put_line(desk_step::refusal(e), out, at),
         },
     }
 }

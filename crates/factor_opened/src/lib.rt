@@ -8,7 +8,7 @@ ghost use Rattle.rules.specs.Suppressed.{fresh_by};
 ghost use Rattle.factor_opened.specs.Opened.{left, stays_at, usable_at, kept_at, rule_at, second_at, InRoom, worked_by, asked_by, asked_at};
 
 use opened::Slot;
-use rules::{Asked, Caching, FactorRule};
+use rules::{Asked, FactorRule};
 use settings::Settings;
 use suppression::CachedFactor;
 
@@ -16,26 +16,14 @@ use suppression::CachedFactor;
 fn left(x: Slot) -> usize
     ensures { result ≡ left x }
 {
-    let pass = x.pass;
-    let buckets = pass.buckets;
-    let expired = pass.expired;
-    if buckets < expired {
-        return 0;
-    }
-    buckets - expired
+    x.pass.buckets.saturating_sub(x.pass.expired)
 }
 
 // Whether the slot's cached factor outlives eviction.
 pub fn stays(x: Slot) -> bool
     ensures { result ≡ stays_at x }
 {
-    let cached = x.cached;
-    let pass = x.pass;
-    let expired = pass.expired;
-    if !cached {
-        return false;
-    }
-    expired == 0
+    x.cached && x.pass.expired == 0
 }
 
 // The cached factor that the slot's words hold.
@@ -53,10 +41,7 @@ fn is_usable(settings: Settings, x: Slot, reading: u64) -> bool
     requires { cache_in settings ≤ 4294967296 }
     ensures { result ≡ usable_at (cache_ticks settings) reading x }
 {
-    if !stays(x) {
-        return false;
-    }
-    ring::less(reading, x.factor_time) < settings.cache_ticks()
+    stays(x) && reading.saturating_sub(x.factor_time) < settings.cache_ticks()
 }
 
 // The rule of the fresh factor, by its clauses in order.
@@ -75,7 +60,7 @@ fn rule_of(x: Slot, soft: u64, hard: u64) -> FactorRule
     if hard <= total {
         return FactorRule::One;
     }
-    let accepted = ring::less(total, pass.live_declined);
+    let accepted = total.saturating_sub(pass.live_declined);
     if accepted < soft {
         return FactorRule::Nil;
     }
@@ -148,7 +133,7 @@ fn work_out(settings: Settings, w: &[u64], x: Slot, soft: u64, hard: u64, readin
     let factor = fresh_by(by, settings, w, x, soft, total, reading);
     Asked {
         factor,
-        caching: Caching::Cached(CachedFactor {
+        caching: Some(CachedFactor {
             suppression_factor: factor,
             time: reading,
         }),
@@ -164,7 +149,7 @@ pub fn ask_by(settings: Settings, w: &[u64], x: Slot, soft: u64, hard: u64, read
         let cached = kept(x);
         return Asked {
             factor: cached.suppression_factor,
-            caching: Caching::Left,
+            caching: None,
         };
     }
     work_out(settings, w, x, soft, hard, reading)

@@ -1,13 +1,9 @@
 -- How the parts of a line are read: texts, numbers, keys, and a text with its number. Every definition computes.
 -- Assumes nothing.
-use Rattle.std.specs.Prelude.{Bool, true, false, cond, ◌&&◌, List, [], ◌∷◌, ℕ, suc, ◌+◌, length, get_or, take, drop, leb, ltb, eqb}
+use Rattle.std.specs.Prelude.{Bool, true, false, cond, ◌&&◌, List, [], ◌∷◌, ℕ, suc, ◌+◌, Option, Some, None, length, get_or, take, drop, leb, ltb, eqb}
 use Rattle.fields.specs.Bytes.{counts}
 use Rattle.fields.specs.Numbers.{value}
 use Rattle.fields.specs.Ranges.{largest}
-use Rattle.fields.specs.declared.Number.{Number}
-use Rattle.fields.specs.declared.Number.TheVariants.{Found, NoNumber}
-use Rattle.fields.specs.declared.Place.{Place}
-use Rattle.fields.specs.declared.Place.TheVariants.{At, Missing}
 
 -- ---- parts of a line
 
@@ -23,37 +19,37 @@ begins (x ∷ xs) [] = false
 begins (x ∷ xs) (b ∷ bs) = eqb b x && begins xs bs
 
 -- past the text at `at`
-unfoldable pub text_at : List ℕ → ℕ → List ℕ → Place
-text_at line at text = cond (begins text (drop at line)) (At (at + length text)) Missing
+unfoldable pub text_at : List ℕ → ℕ → List ℕ → Option ℕ
+text_at line at text = cond (begins text (drop at line)) (Some (at + length text)) None
 
 -- a run of digits that is a u64
-abbrev pub number_in : List ℕ → ℕ → Number
-number_in ds next = cond (leb (value ds) largest) (Found (value ds) next) NoNumber
+abbrev pub number_in : List ℕ → ℕ → Option (ℕ × ℕ)
+number_in ds next = cond (leb (value ds) largest) (Some (value ds, next)) None
 
 -- the number at `at`: all digits from there, at least one, no leading zero
-unfoldable pub number_of : List ℕ → ℕ → ℕ → Number
-number_of bs at k = cond (eqb k 0) NoNumber (cond (eqb (get_or bs 0 0) 48 && ltb 1 k) NoNumber (number_in (take k bs) (at + k)))
+unfoldable pub number_of : List ℕ → ℕ → ℕ → Option (ℕ × ℕ)
+number_of bs at k = cond (eqb k 0) None (cond (eqb (get_or bs 0 0) 48 && ltb 1 k) None (number_in (take k bs) (at + k)))
 
-unfoldable pub number_at : List ℕ → ℕ → Number
+unfoldable pub number_at : List ℕ → ℕ → Option (ℕ × ℕ)
 number_at line at = number_of (drop at line) at (run (counts false) (drop at line))
 
 -- past the key at `at`: all letters and digits from there, 1 to 32 of them
-abbrev pub key_of : ℕ → ℕ → Place
-key_of at k = cond (leb 1 k && leb k 32) (At (at + k)) Missing
+abbrev pub key_of : ℕ → ℕ → Option ℕ
+key_of at k = cond (leb 1 k && leb k 32) (Some (at + k)) None
 
-unfoldable pub key_at : List ℕ → ℕ → Place
+unfoldable pub key_at : List ℕ → ℕ → Option ℕ
 key_at line at = key_of at (run (counts true) (drop at line))
 
 -- ---- what follows a part that was found
 
-abbrev pub on_number : {A : Type 0} → Number → A → (ℕ → ℕ → A) → A
-on_number (Found v next) bad k = k v next
-on_number NoNumber bad k = bad
+abbrev pub on_number : {A : Type 0} → Option (ℕ × ℕ) → A → (ℕ → ℕ → A) → A
+on_number (Some p) bad k = k p.0 p.1
+on_number None bad k = bad
 
-abbrev pub on_place : {A : Type 0} → Place → A → (ℕ → A) → A
-on_place (At next) bad k = k next
-on_place Missing bad k = bad
+abbrev pub on_place : {A : Type 0} → Option ℕ → A → (ℕ → A) → A
+on_place (Some next) bad k = k next
+on_place None bad k = bad
 
 -- the number after the text at `at`
-unfoldable pub field_at : List ℕ → ℕ → List ℕ → Number
-field_at line at text = on_place (text_at line at text) NoNumber (λ next. number_at line next)
+unfoldable pub field_at : List ℕ → ℕ → List ℕ → Option (ℕ × ℕ)
+field_at line at text = on_place (text_at line at text) None (λ next. number_at line next)

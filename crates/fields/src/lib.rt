@@ -7,7 +7,7 @@ ghost use Rattle.fields.specs.Parts.{run, number_in, number_at, text_at, field_a
 
 // ---- bytes
 
-// What a byte of a line is, by its range. A digit carries its value.
+// What a byte of a line is, by its range: the form that document 01 names. A digit carries its value.
 #[derive(Clone, Copy)]
 pub enum Class {
     Digit(u8),
@@ -32,12 +32,9 @@ pub fn class_of(b: u8) -> Class
 fn digit(b: u8) -> u64
     ensures { result ≡ digit_of b }
 {
-    let c = class_of(b);
-    match c {
+    match class_of(b) {
         Class::Digit(d) => d as u64,
-        Class::Letter => 0,
-        Class::Separator => 0,
-        Class::Bad => 0,
+        Class::Letter | Class::Separator | Class::Bad => 0,
     }
 }
 
@@ -45,117 +42,79 @@ fn digit(b: u8) -> u64
 fn goes_on(b: u8, letters: bool) -> bool
     ensures { result ≡ counts letters b }
 {
-    let c = class_of(b);
-    match c {
+    match class_of(b) {
         Class::Digit(_) => true,
         Class::Letter => letters,
-        Class::Separator => false,
-        Class::Bad => false,
+        Class::Separator | Class::Bad => false,
     }
 }
 
-// ---- parts of a line
+// ---- parts of a line. A number stands beside the place past it.
 
-// A number that was read, and the place past it.
-#[derive(Clone, Copy)]
-pub enum Number {
-    Found { value: u64, next: usize },
-    NoNumber,
-}
-
-// A place past something that was looked for.
-#[derive(Clone, Copy)]
-pub enum Place {
-    At(usize),
-    Missing,
+// What is left of the line from `at` on.
+fn rest(line: &[u8], at: usize) -> &[u8]
+    ensures { result.now ≡ drop at line.now }
+{
+    &line[at.min(line.len())..]
 }
 
 // The end of the run of digits, or of digits and letters, that starts at `at`.
 fn run_end(line: &[u8], at: usize, letters: bool) -> usize
     ensures { result ≡ at + run (counts letters) (drop at line.now) }
 {
-    let mut i = at;
-    while i < line.len() {
-        if !goes_on(line[i], letters) {
-            return i;
-        }
-        i += 1;
-    }
-    i
+    at + rest(line, at)
+        .iter()
+        .take_while(|b| goes_on(**b, letters))
+        .count()
 }
 
 // What a run of digits says, where that is a u64; `next` is the place past it.
-fn number_in(digits: &[u8], next: usize) -> Number
+fn number_in(digits: &[u8], next: usize) -> Option<(u64, usize)>
     ensures { result ≡ number_in digits.now next }
 {
     let mut value: u64 = 0;
-    let mut i = 0;
-    while i < digits.len() {
-        let d = digit(digits[i]);
-        if (18446744073709551615 - d) / 10 < value {
-            return Number::NoNumber;
-        }
-        value = value * 10 + d;
-        i += 1;
+    for &b in digits {
+        value = value.checked_mul(10)?.checked_add(digit(b))?;
     }
-    Number::Found { value, next }
+    Some((value, next))
 }
 
 // The number that starts at `at`: no leading zero.
-fn number_at(line: &[u8], at: usize) -> Number
+fn number_at(line: &[u8], at: usize) -> Option<(u64, usize)>
     ensures { result ≡ number_at line.now at }
 {
     let end = run_end(line, at, false);
-    if end == at {
-        return Number::NoNumber;
-    }
-    if line[at] == b'0' {
-        if 1 < end - at {
-            return Number::NoNumber;
-        }
+    if end == at || (line[at] == b'0' && 1 < end - at) {
+        return None;
     }
     number_in(&line[at..end], end)
 }
 
 // Past `text`, where it stands at `at`.
-pub fn text_at(line: &[u8], at: usize, text: &[u8]) -> Place
+pub fn text_at(line: &[u8], at: usize, text: &[u8]) -> Option<usize>
     ensures { result ≡ text_at line.now at text.now }
 {
-    let mut i = 0;
-    let mut j = at;
-    while i < text.len() {
-        if line.len() <= j {
-            return Place::Missing;
-        }
-        if line[j] != text[i] {
-            return Place::Missing;
-        }
-        i += 1;
-        j += 1;
+    if rest(line, at).starts_with(text) {
+        Some(at + text.len())
+    } else {
+        None
     }
-    Place::At(j)
 }
 
 // The number after `text`, which stands at `at`.
-pub fn field_at(line: &[u8], at: usize, text: &[u8]) -> Number
+pub fn field_at(line: &[u8], at: usize, text: &[u8]) -> Option<(u64, usize)>
     ensures { result ≡ field_at line.now at text.now }
 {
-    let Place::At(next) = text_at(line, at, text) else {
-        return Number::NoNumber;
-    };
-    number_at(line, next)
+    number_at(line, text_at(line, at, text)?)
 }
 
 // Past the key that starts at `at`: 1 to 32 small letters or digits.
-pub fn key_at(line: &[u8], at: usize) -> Place
+pub fn key_at(line: &[u8], at: usize) -> Option<usize>
     ensures { result ≡ key_at line.now at }
 {
     let end = run_end(line, at, true);
-    if end - at < 1 {
-        return Place::Missing;
+    match end - at {
+        1..=32 => Some(end),
+        _ => None,
     }
-    if 32 < end - at {
-        return Place::Missing;
-    }
-    Place::At(end)
 }

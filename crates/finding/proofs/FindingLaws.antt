@@ -1,7 +1,7 @@
 -- What `judge` says at the room's own last reading, with what is held promised, is what the read-out finds; and what the found slot's buckets are: those
 -- that the rules say the key holds, whose times do not fall.
 -- Assumes nothing.
-use Rattle.std.specs.Prelude.{◌≡◌, Bool, not, ◌||◌, List, [], ◌∷◌, length, get_or, ltb}
+use Rattle.std.specs.Prelude.{◌≡◌, Bool, not, ◌||◌, List, [], ◌∷◌, length, get_or, ltb, Ok, Err}
 use Rattle.std.proofs.Math.Path.{refl, ap₂}
 use Rattle.std.proofs.Common.{sym, ap, ◌∙◌, not-suc-le-zero, le_of_suc-le-suc}
 use Rattle.std.proofs.Math.Bool.{true, false, cond}
@@ -20,8 +20,11 @@ use Rattle.rules.specs.declared.RoomKind.{RoomKind}
 use Rattle.judge.specs.declared.Judged.{Judged}
 use Rattle.opened.specs.Sound.{has_series, right_use, sound_series, sound_slot, addressed, sound_at}
 use Rattle.opened.specs.Slot.{opened, slot_of}
-use Rattle.judge.specs.Judge.{misfits, early, judged_with, judged, Passed}
-use Rattle.judge.proofs.Laws.{passed}
+use Rattle.judge.specs.Judge.{misfits, early, judged, Passed}
+use Rattle.judge.proofs.Laws.{passed, judged-ok, judged-err}
+use Rattle.common.proofs.Ruled.{unless-at, unless-none}
+use Rattle.common.specs.declared.refusal.Refusal.{Refusal}
+use Rattle.opened.specs.declared.Slot.{Slot}
 use Rattle.judge.specs.Held.{held_in}
 use Rattle.opened.specs.Right.{slot-addressed}
 use Rattle.layout.specs.Layout.{first_mark, second_mark}
@@ -36,10 +39,7 @@ use Rattle.parties.specs.Parties.{Sent, sent, ours, many, slots_held, overdrawn,
 use Rattle.parties.specs.Census.{census_of}
 use Rattle.parties.proofs.Laws.{first-held, second-held}
 use Rattle.finding.specs.declared.Found.{Found}
-use Rattle.finding.specs.Finding.{as_held, refusal, buckets_of, shown, found, Reads}
-
-found-path : {x y : Found} → x.code ≡ y.code → x.slot ≡ y.slot → x.count ≡ y.count → x ≡ y
-found-path p q s = λ i. record { code = p i; slot = q i; count = s i }
+use Rattle.finding.specs.Finding.{as_held, refusal, buckets_of, found, Reads}
 
 -- none is before the start, and none is before one that stands before it
 from : (j lo : ℕ) (xs : List Bucket) (hi : ℕ) → j < length xs → Fine lo xs hi → lo ≤ (get_or xs j no_bucket).time
@@ -123,39 +123,37 @@ module _ (kind : RoomKind) (s : Settings) (w : List ℕ) (key : Sent) where
 
   -- ---- what is found
 
-  judged-at : (b : Bool) → eqb (refusal kind s w key) 0 ≡ b → (judged kind s w (last_of w) told).slot.at ≡ cond b (addressed w key) 0
-  unfolding judged_with addressed
-  judged-at true e = rw (number, e) (slot_at (passed kind s w (last_of w) told (number ∙ eqb-true _ _ e)))
-  judged-at false e = rw (number, e)
+  module _ (t : ℕ) (q : t ≡ last_of w) (c : Caller) (r : c ≡ as_held w key.caller.party) where
+    asked-as : judged kind s w t (sent c key.bytes) ≡ judged kind s w (last_of w) told
+    asked-as = ap₂ (λ (n : ℕ) (d : Caller). judged kind s w n (sent d key.bytes)) q r
 
-  judged-count : (b : Bool) → eqb (refusal kind s w key) 0 ≡ b → (judged kind s w (last_of w) told).slot.pass.buckets ≡ length (cond b (buckets_of w key) [])
-  unfolding judged_with addressed
-  judged-count true e = rw (number, e) (slot-count (passed kind s w (last_of w) told (number ∙ eqb-true _ _ e)) _ _ refl refl)
-  judged-count false e = rw (number, e)
+    pub found-refused : (x : Refusal) → Err x ≡ judged kind s w t (sent c key.bytes) → Err x ≡ found kind s w key
+    unfolding found
+    found-refused x e =
+        let o = judged-err kind s w (last_of w) told false x (e ∙ asked-as) in
+        ap Err o.1 ∙ unless-at _ _ _ number o.0
 
-  pub found-is : (t : ℕ) → t ≡ last_of w → (c : Caller) → c ≡ as_held w key.caller.party → (j : Judged) → j ≡ judged kind s w t (sent c key.bytes) →
-      record { code = j.code; slot = j.slot.at; count = j.slot.pass.buckets } ≡ found kind s w key
-  unfolding judged_with found shown
-  found-is t q c r j e =
-      let f : j ≡ judged kind s w (last_of w) told = e ∙ ap₂ (λ (n : ℕ) (d : Caller). judged kind s w n (sent d key.bytes)) q r in
-      found-path
-      (ap (λ (x : Judged). x.code) f ∙ number)
-      (ap (λ (x : Judged). x.slot.at) f ∙ judged-at _ refl)
-      (ap (λ (x : Judged). x.slot.pass.buckets) f ∙ judged-count _ refl)
+    pub found-is : (j : Judged) → Ok j ≡ judged kind s w t (sent c key.bytes) → Ok (record { slot = j.slot.at; count = j.slot.pass.buckets }) ≡ found kind s w key
+    unfolding found addressed
+    found-is j e =
+        let o = judged-ok kind s w (last_of w) told false j (e ∙ asked-as) in
+        let p = passed kind s w (last_of w) told o.0 in
+        ap₂ (λ (at n : ℕ). Ok (record { slot = at; count = n })) (ap (λ (x : Slot). x.at) o.1 ∙ slot_at p)
+        (ap (λ (x : Slot). x.pass.buckets) o.1 ∙ slot-count p _ _ refl refl) ∙
+        unless-none _ _ (sym number ∙ o.0)
 
   -- ---- what is read of it
 
   -- the first bucket is there: so the slot can be read, and its buckets are those to show
-  pub readable : (b x y : Bool) → eqb (refusal kind s w key) 0 ≡ b → ltb (addressed w key) (slots_of w) ≡ x → has_series (use_of w (addressed w key)) ≡ y →
-      0 < length (shown kind s w key) → Reads w (found kind s w key).slot (shown kind s w key)
-  unfolding shown found buckets_of
-  readable false x y e f g h = absurd (omega (arith, rw e at h))
-  readable true false y e f g h = absurd (omega (arith, rw (e, f) at h))
-  readable true true false e f g h = absurd (omega (arith, rw (e, f, g) at h))
-  readable true true true e f g h =
-      let p = passed kind s w (last_of w) told (number ∙ eqb-true _ _ e) in
+  pub readable : (x y : Bool) → refusal kind s w key ≡ 0 → ltb (addressed w key) (slots_of w) ≡ x → has_series (use_of w (addressed w key)) ≡ y →
+      0 < length (buckets_of w key) → Reads w (addressed w key) (buckets_of w key)
+  unfolding buckets_of
+  readable false y e f g h = absurd (omega (arith, rw f at h))
+  readable true false e f g h = absurd (omega (arith, rw (f, g) at h))
+  readable true true e f g h =
+      let p = passed kind s w (last_of w) told (number ∙ e) in
       let l = ltb-true (addressed w key) (slots_of w) f in
-      rw (e, f, g) (record {
+      rw (f, g) (record {
         readable =
             record { room = p.room; inside = l; shape = (sound-true (ring_of w) (body_of w (addressed w key)) (last_of w) (series-sound p l g)).shape };
         view =

@@ -1,7 +1,8 @@
 -- What the read-out finds: its refusal, the key's slot, and the buckets to show, for every input.
 -- Assumes nothing.
-use Rattle.std.specs.Prelude.{◌≡◌, not, ◌&&◌, cond, List, [], ◌∷◌, ◌++◌, ℕ, ◌<◌, length, ltb, eqb}
-use Rattle.common.specs.Refusals.{first}
+use Rattle.std.specs.Prelude.{Result, ◌≡◌, not, ◌&&◌, cond, List, [], ◌∷◌, ◌++◌, ℕ, ◌<◌, length, ltb, eqb}
+use Rattle.common.specs.Refusals.{first, unless}
+use Rattle.common.specs.declared.refusal.Refusal.{Refusal}
 use Rattle.settings.specs.Settings.{faults}
 use Rattle.settings.specs.declared.Settings.{Settings}
 use Rattle.rules.specs.declared.RoomKind.{RoomKind}
@@ -44,16 +45,9 @@ buckets_of w key =
 abbrev pub as_held : List ℕ → ℕ → Caller
 as_held w party = record { party = party; first = cond (sized w) (census_of w).first 0; second = cond (sized w) (census_of w).second 0 }
 
--- what is to be written: nothing where the call is refused
-unfoldable pub shown : RoomKind → Settings → List ℕ → Sent → List Bucket
-shown kind s w key = cond (eqb (refusal kind s w key) 0) (buckets_of w key) []
-
-unfoldable pub found : RoomKind → Settings → List ℕ → Sent → Found
-found kind s w key = record {
-  code = refusal kind s w key;
-  slot = cond (eqb (refusal kind s w key) 0) (addressed w key) 0;
-  count = length (shown kind s w key);
-}
+-- turned away, or the key's slot with the number of its buckets
+unfoldable pub found : RoomKind → Settings → List ℕ → Sent → Result Found Refusal
+found kind s w key = unless (refusal kind s w key) (record { slot = addressed w key; count = length (buckets_of w key) })
 
 -- a slot whose buckets can be read
 pub record Readable (w : List ℕ) (at : ℕ) : Type 0 where

@@ -6,15 +6,15 @@ ghost use Rattle.ring.specs.Ring.{no_bucket, buckets};
 ghost use Rattle.room.specs.Room.{ring_of, last_of, body_of};
 ghost use Rattle.finding.specs.Finding.{Readable, asked, as_held, found};
 
+use common::Refusal;
 use parties::Caller;
 use ring::Bucket;
 use rules::RoomKind;
 use settings::Settings;
 
-// The refusal, or 0; the key's slot, and how many buckets there are to read.
+// Of a call that is not refused: the key's slot, and how many buckets there are to read.
 #[derive(Clone, Copy)]
 pub struct Found {
-    pub code: u64,
     pub slot: usize,
     pub count: usize,
 }
@@ -55,7 +55,7 @@ pub fn find_series(
     room: &[u64],
     party: u64,
     key: &[u8],
-) -> Found
+) -> Result<Found, Refusal>
     ensures { result ≡ found kind settings room.now (asked party key.now) }
 {
     let judged = judge::judge(
@@ -66,14 +66,13 @@ pub fn find_series(
         as_held(room, party),
         key,
         judge::NO_LOOK,
-    );
+    )?;
     let slot = judged.slot;
     let pass = slot.pass;
-    Found {
-        code: judged.code,
+    Ok(Found {
         slot: slot.at,
         count: pass.buckets,
-    }
+    })
 }
 
 // Bucket `i` of a slot, from the oldest.

@@ -11,7 +11,7 @@ ghost use Rattle.forecast_opened.specs.Forecast.{forecast_at, outcome_at};
 use answers::RateLimitDecision;
 use factor_opened::ask_by;
 use opened::Slot;
-use rules::{Asked, Caching, Outcome, Reach};
+use rules::{Asked, Outcome, Reach};
 use settings::Settings;
 use suppression::CachedFactor;
 
@@ -20,8 +20,7 @@ pub fn forecast(x: Slot, count: u64) -> u64
     requires { x.pass.live_total + count ≤ most_total }
     ensures { result ≡ forecast_at x count }
 {
-    let pass = x.pass;
-    ring::less(pass.live_total, pass.live_declined) + count
+    x.pass.live_total.saturating_sub(x.pass.live_declined) + count
 }
 
 fn reach_of(forecast: u64, soft: u64, hard: u64) -> Reach
@@ -40,10 +39,10 @@ fn reach_of(forecast: u64, soft: u64, hard: u64) -> Reach
 }
 
 // Factor 1 is cached.
-fn full_at(reading: u64) -> Caching
+fn full_at(reading: u64) -> Option<CachedFactor>
     ensures { result ≡ full_at reading }
 {
-    Caching::Cached(CachedFactor {
+    Some(CachedFactor {
         suppression_factor: 1.0,
         time: reading,
     })
@@ -105,7 +104,7 @@ pub fn decide(
         Reach::Soft => Outcome {
             decision: RateLimitDecision::Allowed,
             declined: 0,
-            caching: Caching::Left,
+            caching: None,
         },
         Reach::Over => Outcome {
             decision: RateLimitDecision::Suppressed {

@@ -2,7 +2,7 @@
 -- Assumes nothing.
 use Rattle.std.proofs.Math.Path.{◌≡◌, refl, sym, ap}
 use Rattle.std.proofs.Common.{subst, ◌∙◌}
-use Rattle.std.specs.Prelude.{Bool, cond, not, ◌&&◌, ◌≢◌, ℕ, length, replicate}
+use Rattle.std.specs.Prelude.{Bool, cond, not, ◌&&◌, ◌≢◌, ℕ, length, replicate, Result, Ok, Option}
 use Rattle.std.proofs.Math.Bool.{true, false, false≢true}
 use mathlib.Core.List.{List, [], ◌∷◌, ◌++◌, append-nil}
 use native.Mathlib.Omega.{arith}
@@ -10,15 +10,12 @@ use Rattle.std.proofs.Math.Dec.{ltb, eqb}
 use borrow.Author.Tests.{eq-eqb, ne_eqb, eqb-true, eqb-false, le-ltb, not-true}
 use Rattle.base.specs.Decides.{and-true}
 use Rattle.common.specs.Limits.{cut_word, soft_word}
-use Rattle.common.specs.Refusals.{first, Positive, first_found, first-none}
+use Rattle.common.specs.Refusals.{first, Positive, first_found, first-none, refuse}
 use Rattle.common.specs.declared.units.RateLimit.{RateLimit}
 use Rattle.settings.specs.Settings.{factor_in, faults}
 use Rattle.settings.specs.declared.Settings.{Settings}
-use Rattle.answers.specs.declared.DoneAnswer.TheVariants as done
 use Rattle.answers.specs.declared.RateLimitDecision.{RateLimitDecision}
 use Rattle.answers.specs.declared.RateLimitDecision.TheVariants as decision
-use Rattle.answers.specs.declared.ShotAnswer.{ShotAnswer}
-use Rattle.answers.specs.declared.ShotAnswer.TheVariants.{Held, Decided, Refused}
 use Rattle.rules.specs.declared.Asked.{Asked}
 use Rattle.rules.specs.declared.Reach.{Reach}
 use Rattle.rules.specs.declared.Reach.TheVariants.{Hard, Soft, Over, Between}
@@ -37,28 +34,31 @@ use Rattle.judge.proofs.Verdict as Room_laws
 use Rattle.suppressed_verdicts.specs.Calls.{inc}
 use Rattle.table.specs.declared.Looked.{Looked}
 use Rattle.table.specs.Table.{most_controllers, known_of, Table, empty_table, numbered, entry_for, is_known, sound_for, last_number, remembered}
-use Rattle.table.specs.Table.{looked, Stands}
+use Rattle.table.specs.Table.{looked, seen_sound, seen_at, seen_last, Stands}
 use Rattle.table.specs.Laws.{table_is, no_table, number_in, entry-le, known-no, known-stands, unknown-stands, unknown-last, sound-table, sound-number}
 use Rattle.table.specs.Laws.{looked-sound, looked-nothing, looked-at, looked-last}
 use Rattle.gateway.specs.Gateway.{is_held, gate_turns, limiter_turns, unless_held, shot_turns, as_shot}
 use Rattle.gateway.specs.Gateway.{admits_shot, Verdict, passed, unless_refused, shot, Told, new_season}
 use Rattle.gateway.specs.Steps.{again, unsoundness, stops, asked}
+use Rattle.common.specs.declared.refusal.Refusal.{Refusal}
+use Rattle.answers.specs.declared.ShotOutcome.{ShotOutcome}
+use Rattle.answers.specs.declared.ShotOutcome.TheVariants.{Held, Decided}
 
 -- ---- a new season
 
-pub season-refused : (w : List ℕ) → (Table w → ⊥) → Room.Told (new_season w) (done.Refused 5) w
+pub season-refused : (w : List ℕ) → (Table w → ⊥) → Room.Told (new_season w) (refuse 5) w
 unfolding new_season first
-season-refused w z = rw (no_table w z) (Room_laws.told-turned done.Refused 5 w (Room.verdict done.Done empty_table) (λ e. omega arith))
+season-refused w z = rw (no_table w z) (Room_laws.told-turned refuse 5 w (Room.verdict (Ok tt) empty_table) (λ e. omega arith))
 
-pub season-done : (w v : List ℕ) → Table w → v ≡ replicate (length w) 0 → Room.Told (new_season w) done.Done v
+pub season-done : (w v : List ℕ) → Table w → v ≡ replicate (length w) 0 → Room.Told (new_season w) (Ok tt) v
 unfolding new_season first empty_table
 season-done w v o e =
     let z : v ≡ empty_table = e ∙ ap (λ (n : ℕ). replicate n 0) o.long in
-    rw (table_is w o) (Room_laws.told-done done.Refused 0 w (Room.verdict done.Done empty_table) done.Done v refl (record { answer = refl; words = z }))
+    rw (table_is w o) (Room_laws.told-done refuse 0 w (Room.verdict (Ok tt) empty_table) (Ok tt) v refl (record { answer = refl; words = z }))
 
 -- ---- told
 
-pub told-refused : (n : ℕ) (w r : List ℕ) (v : Verdict) → (n ≡ 0 → ⊥) → Told (unless_refused n w r v) (Refused n) w r
+pub told-refused : (n : ℕ) (w r : List ℕ) (v : Verdict) → (n ≡ 0 → ⊥) → Told (unless_refused n w r v) (refuse n) w r
 unfolding unless_refused
 told-refused n w r v z = let e = ne_eqb n 0 z in record { answer = sym (rw e); table = sym (rw e); room = sym (rw e) }
 
@@ -66,7 +66,7 @@ pub told-passed : (n : ℕ) (w r : List ℕ) (v : Verdict) → n ≡ 0 → Told 
 unfolding unless_refused
 told-passed n w r v z = let e = eq-eqb n 0 z in record { answer = sym (rw e); table = sym (rw e); room = sym (rw e) }
 
-pub told-as : {v v' : Verdict} {a : ShotAnswer} {w r : List ℕ} → v ≡ v' → Told v a w r → Told v' a w r
+pub told-as : {v v' : Verdict} {a : Result ShotOutcome Refusal} {w r : List ℕ} → v ≡ v' → Told v a w r → Told v' a w r
 told-as {a = a} {w = w} {r = r} e o = subst (λ y. Told y a w r) e o
 
 -- ---- the limiter's refusals are the gateway's, and a decision of its is none
@@ -77,23 +77,24 @@ unfolding first
 unmet [] ys n = refl
 unmet (x ∷ xs) ys n = rw (unmet xs ys n)
 
-reach-decides : (x : Reach) (a : Asked) (t c draw : ℕ) → as_shot (outcome_of x a t c draw).decision ≡ Decided (outcome_of x a t c draw).decision
+reach-decides : (x : Reach) (a : Asked) (t c draw : ℕ) → as_shot (outcome_of x a t c draw).decision ≡ Ok (Decided (outcome_of x a t c draw).decision)
 unfolding drawn
 reach-decides Hard a t c draw = refl
 reach-decides Soft a t c draw = refl
 reach-decides Over a t c draw = refl
 reach-decides Between a t c draw = refl
 
-decides : (s : Settings) (t limit c draw : ℕ) (h : Key.Held) → as_shot (outcome s t limit c draw h).decision ≡ Decided (outcome s t limit c draw h).decision
+decides : (s : Settings) (t limit c draw : ℕ) (h : Key.Held) →
+    as_shot (outcome s t limit c draw h).decision ≡ Ok (Decided (outcome s t limit c draw h).decision)
 unfolding outcome
 decides s t limit c draw h =
     reach-decides (Rules.reach_of (Rules.forecast (looked_of s t h) c) (soft_word (factor_in s) limit) (cut_word limit))
     (Rules.asked s t (overdue_in s t h) limit h) t c draw
 
 -- a limiter's verdict v, unless it refuses with n, as the gateway's
-carried : (n : ℕ) (w r new : List ℕ) (v : Room.Verdict RateLimitDecision) → as_shot v.answer ≡ Decided v.answer →
+carried : (n : ℕ) (w r new : List ℕ) (v : Room.Verdict RateLimitDecision) → as_shot v.answer ≡ Ok (Decided v.answer) →
     let u = Room.unless_refused decision.Refused n r v in
-    unless_refused n w r (record { answer = Decided u.answer; table = cond (admits u.answer) new w; room = u.words }) ≡
+    unless_refused n w r (record { answer = Ok (Decided u.answer); table = cond (admits u.answer) new w; room = u.words }) ≡
     record { answer = as_shot u.answer; table = cond (admits u.answer) new w; room = u.words }
 unfolding unless_refused Room.unless_refused
 carried n w r new v e = go (eqb n 0)
@@ -102,9 +103,9 @@ carried n w r new v e = go (eqb n 0)
         let a = cond z v.answer (decision.Refused n) in
         let x = cond z v.words r in
         ◌≡◌ {A = Verdict}
-        (record { answer = cond z (Decided a) (Refused n); table = cond z (cond (admits a) new w) w; room = cond z x r })
+        (record { answer = cond z (Ok (Decided a)) (refuse n); table = cond z (cond (admits a) new w) w; room = cond z x r })
         (record { answer = as_shot a; table = cond (admits a) new w; room = x })
-    go true = ap (λ (a : ShotAnswer). record { answer = a; table = cond (admits v.answer) new w; room = v.words }) (sym e)
+    go true = ap (λ (a : Result ShotOutcome Refusal). record { answer = a; table = cond (admits v.answer) new w; room = v.words }) (sym e)
     go false = refl
 
 pub as-shot-admits : (d : RateLimitDecision) → admits_shot (as_shot d) ≡ admits d
@@ -114,7 +115,7 @@ as-shot-admits (decision.Suppressed f is) = refl
 as-shot-admits (decision.Refused n) = refl
 
 -- what is admitted is decided
-pub admitted-decided : (d : RateLimitDecision) → admits d ≡ true → as_shot d ≡ Decided d
+pub admitted-decided : (d : RateLimitDecision) → admits d ≡ true → as_shot d ≡ Ok (Decided d)
 admitted-decided decision.Allowed e = refl
 admitted-decided (decision.Rejected window wait rest) e = refl
 admitted-decided (decision.Suppressed f is) e = refl
@@ -134,22 +135,13 @@ and-false true = refl
 and-false false = refl
 
 module _ (s : Settings) (w r : List ℕ) (t : ℕ) (key : Sent) (number : ℕ) (rate : RateLimit) (draw : ℕ) where
-  -- ---- asked: the words and answers of the two steps
-  pub asked-turned : (d : RateLimitDecision) (x : List ℕ) → Room.Told (inc s r t key rate 1 draw) d x → admits d ≡ false →
-      Told (asked s w r t key number rate draw) (as_shot d) w x
+  -- ---- asked: its answer is the limiter's as a shot's, and the table has the number where it is admitted
+  pub asked-told : (d : RateLimitDecision) (x v : List ℕ) → Room.Told (inc s r t key rate 1 draw) d x → v ≡ cond (admits d) (remembered w key.bytes number) w →
+      Told (asked s w r t key number rate draw) (as_shot d) v x
   unfolding asked
-  asked-turned d x o e = record {
+  asked-told d x v o e = record {
     answer = ap as_shot o.answer;
-    table = sym (rw (← o.answer, e));
-    room = o.words;
-  }
-
-  pub asked-admitted : (d : RateLimitDecision) (x v : List ℕ) → Room.Told (inc s r t key rate 1 draw) d x → admits d ≡ true →
-      v ≡ remembered w key.bytes number → Told (asked s w r t key number rate draw) (Decided d) v x
-  unfolding asked
-  asked-admitted d x v o e f = record {
-    answer = sym (admitted-decided d e) ∙ ap as_shot o.answer;
-    table = f ∙ sym (rw (← o.answer, e));
+    table = e ∙ ap (λ (a : RateLimitDecision). cond (admits a) (remembered w key.bytes number) w) o.answer;
     room = o.words;
   }
 
@@ -205,18 +197,18 @@ module _ (s : Settings) (w r : List ℕ) (t : ℕ) (key : Sent) (number : ℕ) (
   at-21 p o l k f = rw (p, o, l, k, f)
 
   -- ---- what a look at the table stops, x being what it found
-  module _ (x : Looked) (e : x ≡ looked w key.bytes) where
-    sound-is : x.sound ≡ sound_for w key.bytes
-    sound-is = ap (λ (y : Looked). y.sound) e ∙ looked-sound w key.bytes
+  module _ (x : Option Looked) (e : x ≡ looked w key.bytes) where
+    sound-is : seen_sound x ≡ sound_for w key.bytes
+    sound-is = ap seen_sound e ∙ looked-sound w key.bytes
 
-    at-is : sound_for w key.bytes ≡ true → x.at ≡ entry_for w key.bytes
-    at-is o = ap (λ (y : Looked). y.at) e ∙ looked-at w key.bytes o
+    at-is : sound_for w key.bytes ≡ true → seen_at x ≡ entry_for w key.bytes
+    at-is o = ap seen_at e ∙ looked-at w key.bytes o
 
-    last-is : sound_for w key.bytes ≡ true → x.last ≡ last_number w key.bytes
-    last-is o = ap (λ (y : Looked). y.last) e ∙ looked-last w key.bytes o
+    last-is : sound_for w key.bytes ≡ true → seen_last x ≡ last_number w key.bytes
+    last-is o = ap seen_last e ∙ looked-last w key.bytes o
 
     -- an entry behind all 64: the table is full, and the controller not among them
-    full : (o : sound_for w key.bytes ≡ true) → x.at ≡ most_controllers → (is_known w key.bytes ≡ false) × (eqb (known_of w) most_controllers ≡ true)
+    full : (o : sound_for w key.bytes ≡ true) → seen_at x ≡ most_controllers → (is_known w key.bytes ≡ false) × (eqb (known_of w) most_controllers ≡ true)
     full o h =
         let f = (sound-table w key.bytes o).few in
         let l = entry-le w key.bytes in
@@ -225,10 +217,10 @@ module _ (s : Settings) (w r : List ℕ) (t : ℕ) (key : Sent) (number : ℕ) (
 
     pub stop_is : (m : ℕ) → m ≡ stops s x number → (m ≡ 0 → ⊥) → first (shot_turns s w r t key number rate draw) ≡ m
     unfolding stops
-    stop_is m f z = go (numbered number) refl (sound_for w key.bytes) refl (ltb number x.last) refl (eqb x.at most_controllers) refl
+    stop_is m f z = go (numbered number) refl (sound_for w key.bytes) refl (ltb number (seen_last x)) refl (eqb (seen_at x) most_controllers) refl
       where
-        go : (a : Bool) → numbered number ≡ a → (b : Bool) → sound_for w key.bytes ≡ b → (c : Bool) → ltb number x.last ≡ c →
-            (d : Bool) → eqb x.at most_controllers ≡ d → first (shot_turns s w r t key number rate draw) ≡ m
+        go : (a : Bool) → numbered number ≡ a → (b : Bool) → sound_for w key.bytes ≡ b → (c : Bool) → ltb number (seen_last x) ≡ c →
+            (d : Bool) → eqb (seen_at x) most_controllers ≡ d → first (shot_turns s w r t key number rate draw) ≡ m
         go false p b q c u d v = at-19 p ∙ sym (f ∙ rw p)
         go true p false q c u d v = at-unsound p q ∙ sym (f ∙ rw (p, sound-is, q))
         go true p true q true u d v = at-20 p q (ap (ltb number) (sym (last-is q)) ∙ u) ∙ sym (f ∙ rw (p, sound-is, q, u))
@@ -237,7 +229,7 @@ module _ (s : Settings) (w r : List ℕ) (t : ℕ) (key : Sent) (number : ℕ) (
             at-21 p q (ap (ltb number) (sym (last-is q)) ∙ u) k.0 k.1 ∙ sym (f ∙ rw (p, sound-is, q, u, v))
         go true p true q false u false v = absurd (z (f ∙ rw (p, sound-is, q, u, v)))
 
-    pub stopped : (m : ℕ) → m ≡ stops s x number → (m ≡ 0 → ⊥) → Told (shot s w r t key number rate draw) (Refused m) w r
+    pub stopped : (m : ℕ) → m ≡ stops s x number → (m ≡ 0 → ⊥) → Told (shot s w r t key number rate draw) (refuse m) w r
     unfolding shot
     stopped m f z =
         let v = passed (is_held w key.bytes number) s w r t key number rate draw in
@@ -248,14 +240,14 @@ module _ (s : Settings) (w r : List ℕ) (t : ℕ) (key : Sent) (number : ℕ) (
       pub a-number : numbered number ≡ true
       pub sound : sound_for w key.bytes ≡ true
       pub high : ltb number (last_number w key.bytes) ≡ false
-      pub placed : x.at ≢ most_controllers
+      pub placed : seen_at x ≢ most_controllers
 
     pub not_stopped : 0 ≡ stops s x number → Past
     unfolding stops
-    not_stopped f = go (numbered number) refl (sound_for w key.bytes) refl (ltb number x.last) refl (eqb x.at most_controllers) refl
+    not_stopped f = go (numbered number) refl (sound_for w key.bytes) refl (ltb number (seen_last x)) refl (eqb (seen_at x) most_controllers) refl
       where
-        go : (a : Bool) → numbered number ≡ a → (b : Bool) → sound_for w key.bytes ≡ b → (c : Bool) → ltb number x.last ≡ c →
-            (d : Bool) → eqb x.at most_controllers ≡ d → Past
+        go : (a : Bool) → numbered number ≡ a → (b : Bool) → sound_for w key.bytes ≡ b → (c : Bool) → ltb number (seen_last x) ≡ c →
+            (d : Bool) → eqb (seen_at x) most_controllers ≡ d → Past
         go false p b q c u d v = let n : ◌≡◌ {A = ℕ} 0 19 = f ∙ rw p in absurd (omega arith)
         go true p false q c u d v = absurd (unsoundness-some s (sym (f ∙ rw (p, sound-is, q))))
         go true p true q true u d v = let n : ◌≡◌ {A = ℕ} 0 20 = f ∙ rw (p, sound-is, q, u) in absurd (omega arith)
@@ -264,21 +256,21 @@ module _ (s : Settings) (w r : List ℕ) (t : ℕ) (key : Sent) (number : ℕ) (
             record { a-number = p; sound = q; high = ap (ltb number) (sym (last-is q)) ∙ u; placed = eqb-false _ _ v }
 
     -- the last number again: nothing stops it
-    again-past : again x.last number ≡ true → Past × (number ≡ x.last)
+    again-past : again (seen_last x) number ≡ true → Past × (number ≡ seen_last x)
     unfolding again
     again-past a = (go (sound_for w key.bytes) refl (is_known w key.bytes) refl, same)
       where
-        parts : (not (eqb x.last 0) ≡ true) × (eqb number x.last ≡ true)
-        parts = and-true (not (eqb x.last 0)) _ a
+        parts : (not (eqb (seen_last x) 0) ≡ true) × (eqb number (seen_last x) ≡ true)
+        parts = and-true (not (eqb (seen_last x) 0)) _ a
 
-        same : number ≡ x.last
+        same : number ≡ seen_last x
         same = eqb-true _ _ parts.1
 
-        some : x.last ≢ 0
+        some : seen_last x ≢ 0
         some = eqb-false _ _ (not-true _ parts.0)
 
         go : (b : Bool) → sound_for w key.bytes ≡ b → (k : Bool) → is_known w key.bytes ≡ k → Past
-        go false q k u = absurd (some (ap (λ (y : Looked). y.last) e ∙ looked-nothing w key.bytes q))
+        go false q k u = absurd (some (ap seen_last e ∙ looked-nothing w key.bytes q))
         go true q false u = absurd (some (last-is q ∙ unknown-last w key.bytes u))
         go true q true u = record {
           a-number = rw (same ∙ last-is q) (sound-number w key.bytes q u);
@@ -289,7 +281,7 @@ module _ (s : Settings) (w r : List ℕ) (t : ℕ) (key : Sent) (number : ℕ) (
 
     module _ (o : Past) where
       -- the controller stands in the table, or there is room for it
-      pub stands : Stands w key.bytes x.at
+      pub stands : Stands w key.bytes (seen_at x)
       stands =
           let t = sound-table w key.bytes o.sound in
           let l = entry-le w key.bytes in
@@ -311,7 +303,7 @@ module _ (s : Settings) (w r : List ℕ) (t : ℕ) (key : Sent) (number : ℕ) (
       gate-none = rw (o.a-number, o.sound, o.high, not_full)
 
       -- a number that is the last is a known controller's: 0 is none
-      held : number ≡ x.last → is_held w key.bytes number ≡ true
+      held : number ≡ seen_last x → is_held w key.bytes number ≡ true
       unfolding is_held
       held h = go (is_known w key.bytes) refl
         where
@@ -322,7 +314,7 @@ module _ (s : Settings) (w r : List ℕ) (t : ℕ) (key : Sent) (number : ℕ) (
           go true e = rw (o.sound, e, eq-eqb number (last_number w key.bytes) l)
           go false e = let m : number ≡ 0 = l ∙ unknown-last w key.bytes e in absurd (omega (arith, number_in number o.a-number))
 
-      shot-held : number ≡ x.last → Told (shot s w r t key number rate draw) Held w r
+      shot-held : number ≡ seen_last x → Told (shot s w r t key number rate draw) (Ok Held) w r
       unfolding shot
       shot-held h =
           let v = passed true s w r t key number rate draw in
@@ -330,18 +322,18 @@ module _ (s : Settings) (w r : List ℕ) (t : ℕ) (key : Sent) (number : ℕ) (
           rw (held h) (told-passed (first (gate_turns w key.bytes number ++ [])) w r v n)
 
       -- a number that is not the last again is another one: it is above 0
-      other : again x.last number ≡ false → number ≢ x.last
+      other : again (seen_last x) number ≡ false → number ≢ seen_last x
       unfolding again
       other a h =
-          let z : x.last ≢ 0 = λ m. omega (arith, number_in number o.a-number) in
-          false≢true (sym a ∙ rw (ne_eqb x.last 0 z, eq-eqb number x.last h))
+          let z : seen_last x ≢ 0 = λ m. omega (arith, number_in number o.a-number) in
+          false≢true (sym a ∙ rw (ne_eqb (seen_last x) 0 z, eq-eqb number (seen_last x) h))
 
-      not-held : number ≢ x.last → is_held w key.bytes number ≡ false
+      not-held : number ≢ seen_last x → is_held w key.bytes number ≡ false
       unfolding is_held
       not-held z = rw (o.sound, ne_eqb number (last_number w key.bytes) (λ h. z (h ∙ sym (last-is o.sound))), and-false)
 
-      pub shot-passed : again x.last number ≡ false → asked s w r t key number rate draw ≡ shot s w r t key number rate draw
+      pub shot-passed : again (seen_last x) number ≡ false → asked s w r t key number rate draw ≡ shot s w r t key number rate draw
       shot-passed a = shot-asked o.sound gate-none (not-held (other a))
 
-    pub shot-again : again x.last number ≡ true → Told (shot s w r t key number rate draw) Held w r
+    pub shot-again : again (seen_last x) number ≡ true → Told (shot s w r t key number rate draw) (Ok Held) w r
     shot-again a = let p = again-past a in shot-held p.0 p.1

@@ -3,78 +3,68 @@
 #![tactic(auto)]
 
 ghost use Rattle.std.specs.Prelude.{◌≡◌};
+ghost use Rattle.common.specs.Refusals.{unless};
 ghost use Rattle.parties.specs.Parties.{sent};
 ghost use Rattle.rules.specs.Suppressed.{admits};
 ghost use Rattle.judge.specs.Verdict as Room;
-ghost use Rattle.table.specs.Table.{TableMade, Stands};
+ghost use Rattle.table.specs.Table.{TableMade, Stands, seen_at, seen_last};
 ghost use Rattle.gateway.specs.Gateway.{as_shot, shot, new_season, Told};
-ghost use Rattle.gateway.specs.Steps.{again, unsoundness, stops, asked};
+ghost use Rattle.gateway.specs.Steps.{again, stops, asked};
 
-use answers::{DoneAnswer, RateLimitDecision, ShotAnswer};
-use common::RateLimit;
+use answers::{RateLimitDecision, ShotOutcome};
+use common::{RateLimit, Refusal};
 use parties::Caller;
 use settings::Settings;
 use table::Looked;
 
 // Makes an empty table of the lent words, or says that they do not fit and leaves them.
-pub fn make_table(table: &mut [u64]) -> bool
+pub fn make_table(table: &mut [u64]) -> Result<(), Refusal>
     ensures { TableMade table.old result table.new }
 {
     table::make(table)
 }
 
 // Empties a table.
-pub fn new_season(table: &mut [u64]) -> DoneAnswer
+pub fn new_season(table: &mut [u64]) -> Result<(), Refusal>
     ensures { Room.Told (new_season table.old) result table.new }
 {
     if !table::sized(table) {
-        return DoneAnswer::Refused(5);
+        return Err(Refusal::BAD_ROOM);
     }
     room::zero(table);
-    DoneAnswer::Done
-}
-
-// What refuses a shot where the table is unsound: the settings, or the table.
-fn unsoundness(settings: Settings) -> u64
-    ensures { result ≡ unsoundness settings }
-{
-    let n = settings.refusal();
-    if n != 0 {
-        return n;
-    }
-    5
+    Ok(())
 }
 
 // Whether it is the last number again, of a controller that has one.
-fn is_again(last: u64, number: u64) -> bool
-    ensures { result ≡ again last number }
+#[tactic(auto, unfolding(crate::specs::Steps::again))]
+fn is_again(seen: Option<Looked>, number: u64) -> bool
+    ensures { result ≡ again (seen_last seen) number }
 {
-    if last == 0 {
-        return false;
+    match seen {
+        Some(seen) => seen.last != 0 && number == seen.last,
+        None => false,
     }
-    number == last
 }
 
-// The number of what refuses a shot before the limiter is asked, or 0.
-fn stops(settings: Settings, seen: Looked, number: u64) -> u64
-    ensures { result ≡ stops settings seen number }
+// Where a shot's controller stands, or what refuses the shot before the limiter is asked. Where the table is unsound, settings out of range go before its 5.
+#[tactic(auto, unfolding(crate::specs::Steps::stops, crate::specs::Steps::unsoundness))]
+fn place(settings: Settings, seen: Option<Looked>, number: u64) -> Result<usize, Refusal>
+    ensures { result ≡ unless (stops settings seen number) (seen_at seen) }
 {
-    let sound = seen.sound;
-    let at = seen.at;
-    let last = seen.last;
     if !table::is_number(number) {
-        return 19;
+        return Err(Refusal::BAD_NUMBER);
     }
-    if !sound {
-        return unsoundness(settings);
+    let Some(seen) = seen else {
+        settings.check()?;
+        return Err(Refusal::BAD_ROOM);
+    };
+    if number < seen.last {
+        return Err(Refusal::OLD_NUMBER);
     }
-    if number < last {
-        return 20;
+    if seen.at == table::MOST_CONTROLLERS {
+        return Err(Refusal::TABLE_FULL);
     }
-    if at == table::MOST_CONTROLLERS {
-        return 21;
-    }
-    0
+    Ok(seen.at)
 }
 
 fn is_admitted(decision: RateLimitDecision) -> bool
@@ -82,26 +72,19 @@ fn is_admitted(decision: RateLimitDecision) -> bool
 {
     match decision {
         RateLimitDecision::Allowed => true,
-        RateLimitDecision::Rejected {
-            window_size: _,
-            retry_after: _,
-            remaining_after_waiting: _,
-        } => false,
-        RateLimitDecision::Suppressed {
-            suppression_factor: _,
-            is_allowed,
-        } => is_allowed,
+        RateLimitDecision::Rejected { .. } => false,
+        RateLimitDecision::Suppressed { is_allowed, .. } => is_allowed,
         RateLimitDecision::Refused(_) => false,
     }
 }
 
 // The limiter's answer as a shot's.
-fn as_shot(decision: RateLimitDecision) -> ShotAnswer
+fn as_shot(decision: RateLimitDecision) -> Result<ShotOutcome, Refusal>
     ensures { result ≡ as_shot decision }
 {
     match decision {
-        RateLimitDecision::Refused(n) => ShotAnswer::Refused(n),
-        _ => ShotAnswer::Decided(decision),
+        RateLimitDecision::Refused(n) => Err(Refusal(n)),
+        _ => Ok(ShotOutcome::Decided(decision)),
     }
 }
 
@@ -117,17 +100,16 @@ fn ask(
     number: u64,
     rate: RateLimit,
     draw: u64,
-) -> ShotAnswer
+) -> Result<ShotOutcome, Refusal>
     requires { Stands table.old controller.now at }
     ensures { Told (asked settings table.old room.old reading (sent caller controller.now) number rate draw) result
         table.new room.new }
 {
     let decision = suppressed_inc::inc(settings, room, reading, caller, controller, rate, 1, draw);
-    if !is_admitted(decision) {
-        return as_shot(decision);
+    if is_admitted(decision) {
+        table::remember(table, controller, at, number);
     }
-    table::remember(table, controller, at, number);
-    ShotAnswer::Decided(decision)
+    as_shot(decision)
 }
 
 // A controller's shot: held if the table has its number already, and else the limiter's.
@@ -141,20 +123,15 @@ pub fn shot(
     number: u64,
     rate: RateLimit,
     draw: u64,
-) -> ShotAnswer
+) -> Result<ShotOutcome, Refusal>
     ensures { Told (shot settings table.old room.old reading (sent caller controller.now) number rate draw) result
         table.new room.new }
 {
     let seen = table::look(table, controller);
-    let at = seen.at;
-    let last = seen.last;
-    if is_again(last, number) {
-        return ShotAnswer::Held;
+    if is_again(seen, number) {
+        return Ok(ShotOutcome::Held);
     }
-    let code = stops(settings, seen, number);
-    if code != 0 {
-        return ShotAnswer::Refused(code);
-    }
+    let at = place(settings, seen, number)?;
     ask(
         settings, table, room, reading, caller, controller, at, number, rate, draw,
     )

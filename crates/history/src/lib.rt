@@ -12,9 +12,7 @@ pub fn raise(b: &mut [u64], r: usize, i: usize, count: u64, declined: u64)
     ensures { b.new ≡ raised_words r b.old i count declined }
 {
     let x = ring::nth(b, r, i);
-    let c = x.count + count;
-    let d = x.declined + declined;
-    ring::rewrite(b, r, i, c, d);
+    ring::rewrite(b, r, i, x.count + count, x.declined + declined);
 }
 
 // Whether an increment joins the newest bucket, by the bucket size.
@@ -23,12 +21,7 @@ fn is_joined(b: &[u64], r: usize, size: u64, reading: u64) -> bool
     ensures { result ≡ joins size reading (buckets r b.now) }
 {
     let n = ring::len(b, r);
-    if n == 0 {
-        return false;
-    }
-    let x = ring::nth(b, r, n - 1);
-    let t = x.time;
-    ring::less(reading, t) <= size
+    n != 0 && reading.saturating_sub(ring::nth(b, r, n - 1).time) <= size
 }
 
 // Counts `count`, `declined` of it declined: with the newest bucket, or in a new one.
@@ -39,9 +32,9 @@ pub fn increment(b: &mut [u64], r: usize, size: u64, reading: u64, count: u64, d
     if is_joined(b, r, size, reading) {
         let n = ring::len(b, r);
         raise(b, r, n - 1, count, declined);
-        return;
+    } else {
+        ring::push(b, r, count, declined, reading);
     }
-    ring::push(b, r, count, declined, reading);
 }
 
 // One bucket in place of all.

@@ -8,28 +8,15 @@ use answers::{HistoryPreservation, HistoryUpdateMode};
 use common::{BucketSize, RateLimitComparator, SuppressionFactorCachePeriod, WindowSize};
 use settings::{ClockMode, Settings};
 
-// The comparator that a number names, if it names one.
-#[derive(Clone, Copy)]
-pub enum Comparison {
-    Named(RateLimitComparator),
-    Unnamed,
-}
-
-// The mode that a number names, if it names one.
-#[derive(Clone, Copy)]
-pub enum Mode {
-    Named(HistoryUpdateMode),
-    Unnamed,
-}
-
-// The clock mode that a number names.
+// In C a word: the clock mode that it names.
+#[tactic(auto, unfolding(crate::specs::Inputs::clock_of))]
 pub fn clock_of(number: u64) -> ClockMode
     ensures { result ≡ clock_of number }
 {
-    if number == 0 {
-        return ClockMode::Milliseconds;
+    match number {
+        0 => ClockMode::Milliseconds,
+        _ => ClockMode::Nanoseconds,
     }
-    ClockMode::Nanoseconds
 }
 
 pub fn settings(window: u64, bucket: u64, cache: u64, factor: f64, clock: u64) -> Settings
@@ -44,25 +31,29 @@ pub fn settings(window: u64, bucket: u64, cache: u64, factor: f64, clock: u64) -
     }
 }
 
-pub fn comparison_of(number: u64, operand: u64) -> Comparison
+// The comparator that a number names, if it names one.
+#[tactic(auto, unfolding(crate::specs::Inputs::comparison_of))]
+pub fn comparison_of(number: u64, operand: u64) -> Option<RateLimitComparator>
     ensures { result ≡ comparison_of number operand }
 {
     match number {
-        0 => Comparison::Named(RateLimitComparator::Always),
-        1 => Comparison::Named(RateLimitComparator::Eq(operand)),
-        2 => Comparison::Named(RateLimitComparator::Lt(operand)),
-        3 => Comparison::Named(RateLimitComparator::Gt(operand)),
-        4 => Comparison::Named(RateLimitComparator::Ne(operand)),
-        _ => Comparison::Unnamed,
+        0 => Some(RateLimitComparator::Always),
+        1 => Some(RateLimitComparator::Eq(operand)),
+        2 => Some(RateLimitComparator::Lt(operand)),
+        3 => Some(RateLimitComparator::Gt(operand)),
+        4 => Some(RateLimitComparator::Ne(operand)),
+        _ => None,
     }
 }
 
-pub fn preserving(number: u64) -> Mode
+// The mode that a number names, if it names one.
+#[tactic(auto, unfolding(crate::specs::Inputs::preserving))]
+pub fn preserving(number: u64) -> Option<HistoryUpdateMode>
     ensures { result ≡ preserving number }
 {
     match number {
-        0 => Mode::Named(HistoryUpdateMode::Preserve(HistoryPreservation::PreserveNewest)),
-        1 => Mode::Named(HistoryUpdateMode::Preserve(HistoryPreservation::PreserveOldest)),
-        _ => Mode::Unnamed,
+        0 => Some(HistoryUpdateMode::Preserve(HistoryPreservation::PreserveNewest)),
+        1 => Some(HistoryUpdateMode::Preserve(HistoryPreservation::PreserveOldest)),
+        _ => None,
     }
 }

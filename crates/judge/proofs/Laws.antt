@@ -1,14 +1,16 @@
 -- What the code has tested, turned into what `judged` says; and what callers know of a call that passes, or does not.
 -- Assumes nothing.
-use Rattle.std.specs.Prelude.{◌≡◌, Bool, ◌&&◌, List, [], ◌∷◌, ◌++◌, ℕ, ◌≤◌, ◌<◌, length}
+use Rattle.std.specs.Prelude.{◌≡◌, ◌≢◌, Bool, ◌&&◌, List, [], ◌∷◌, ◌++◌, ℕ, ◌≤◌, ◌<◌, length, Ok, Err}
 use Rattle.std.proofs.Math.Path.{refl, sym}
 use Rattle.std.proofs.Common.{ap, ap₂, ◌∙◌, append_assoc, arith}
 use Rattle.std.proofs.Math.Bool.{true, false}
 use Rattle.std.proofs.Math.Dec.{eqb}
-use borrow.Author.Tests.{eq-eqb, ne_eqb, eqb-true, eqb-false, lt-ltb, le-ltb, ltb-false, not-false}
+use borrow.Author.Tests.{ne_eqb, eqb-true, eqb-false, lt-ltb, le-ltb, ltb-false, not-false}
 use Rattle.base.specs.Decides.{and-true}
-use Rattle.common.specs.Refusals.{first, Positive, first_found, first-none, all-false}
-use Rattle.settings.specs.Settings.{faults, Proper, proper, unrefused}
+use Rattle.common.specs.Refusals.{ruled, first, Positive, first_found, first-none, all-false, refusal}
+use Rattle.common.specs.declared.refusal.Refusal.{Refusal}
+use Rattle.common.proofs.Ruled.{ruled-ok, unless-err, unless-ok}
+use Rattle.settings.specs.Settings.{window_in, bucket_in, faults, Proper, proper, unrefused}
 use Rattle.settings.specs.Clock.{window_ticks, look_ticks}
 use Rattle.settings.specs.declared.Settings.{Settings}
 use Rattle.room.specs.Room.{Room, slots_of, sized, last_of, vacant}
@@ -19,9 +21,10 @@ use Rattle.parties.proofs.Laws.{standing-none, left-free}
 use Rattle.rules.specs.declared.RoomKind.{RoomKind}
 use Rattle.opened.specs.declared.Slot.{Slot}
 use Rattle.opened.specs.Sound.{addressed, sound_at}
-use Rattle.opened.specs.Slot.{no_slot, slot_of, first_look}
+use Rattle.opened.specs.Slot.{slot_of, first_look}
 use Rattle.opened.specs.Look.{plain-slot}
-use Rattle.judge.specs.Judge.{misfits, refusals, early, fault_of, judged_with, look_by, slot_in, looked_in, slot_by, Passed}
+use Rattle.judge.specs.declared.Judged.{Judged}
+use Rattle.judge.specs.Judge.{misfits, refusals, early, fault_of, judged_by, look_by, slot_in, looked_in, slot_by, Passed}
 
 pub faults-positive : (s : Settings) → Positive (faults s)
 unfolding faults
@@ -39,30 +42,48 @@ joined-positive (x ∷ xs) ys p q = (p.0, joined-positive xs ys p.1 q)
 five-none : (n : ℕ) → n ≡ 5 → n ≡ 0 → ⊥
 five-none n p q = omega (arith, p, q)
 
+-- ---- what a call knows past `fault`
+unfaulted : (s : Settings) (w : List ℕ) → fault_of s w ≡ 0 → Room w × Proper s
+unfolding fault_of
+unfaulted s w e = go (eqb (first (faults s)) 0) refl (sized w) refl
+  where
+    go : (a : Bool) → eqb (first (faults s)) 0 ≡ a → (b : Bool) → sized w ≡ b → Room w × Proper s
+    go true p true q = (sized-room w q, proper s (eqb-true (first (faults s)) 0 p))
+    go true p false q = absurd (five-none (fault_of s w) (rw (p, q)) e)
+    go false p b q = absurd (eqb-false (first (faults s)) 0 p (sym (rw p) ∙ e))
+
+module _ (s : Settings) (w : List ℕ) (e : Ok tt ≡ ruled (fault_of s w)) where
+  pub room_there : Room w
+  room_there = (unfaulted s w (ruled-ok _ e)).0
+
+  pub window_fits : window_in s ≤ 33554432
+  window_fits = (unfaulted s w (ruled-ok _ e)).1.window-high
+
+  pub bucket_fits : bucket_in s ≤ 4294967296
+  bucket_fits = (unfaulted s w (ruled-ok _ e)).1.bucket-high
+
 module _ (kind : RoomKind) (s : Settings) (w : List ℕ) (t : ℕ) (key : Sent) where
   -- ---- the answer
-  pub refused-is : (x : Slot) (n : ℕ) → early kind s w t key ≡ n → (n ≡ 0 → ⊥) → record { code = n; none = false; slot = no_slot 0 } ≡
-      judged_with kind s w t key x
-  unfolding judged_with
-  refused-is x n e z = sym (rw (e, ne_eqb n 0 z))
+  pub refused-is : (b : Bool) (r : Refusal) (n : ℕ) → early kind s w t key ≡ n → n ≢ 0 → r ≡ refusal n → Err r ≡ judged_by b kind s w t key
+  unfolding judged_by
+  refused-is b r n e z p = rw (p, e, ne_eqb n 0 z)
 
-  pub passed_is : {x : Slot} (none : Bool) (y : Slot) → early kind s w t key ≡ 0 → none ≡ none_left w key.caller → y ≡ x →
-      record { code = 0; none = none; slot = y } ≡ judged_with kind s w t key x
-  unfolding judged_with
-  passed_is none y e q p = sym (rw (e, ← p, ← q))
+  pub passed_is : (b : Bool) (none : Bool) (y : Slot) → early kind s w t key ≡ 0 → none ≡ none_left w key.caller → y ≡ slot_by b s w t key →
+      Ok (record { slot = y; none = none }) ≡ judged_by b kind s w t key
+  unfolding judged_by
+  passed_is b none y e q p = sym (rw (e, ← p, ← q))
 
-  -- whether the party has no slot left, of a call that passes
-  pub none_is : (x : Slot) → early kind s w t key ≡ 0 → (judged_with kind s w t key x).none ≡ none_left w key.caller
-  unfolding judged_with
-  none_is x e = rw (eq-eqb _ 0 e)
+  -- ---- and what it says
+  pub judged-err : (b : Bool) (r : Refusal) → Err r ≡ judged_by b kind s w t key → (early kind s w t key ≢ 0) × (r ≡ refusal (early kind s w t key))
+  unfolding judged_by
+  judged-err b r e = unless-err _ _ r e
 
-  pub code_is : (x : Slot) → (judged_with kind s w t key x).code ≡ early kind s w t key
-  unfolding judged_with
-  code_is x = refl
-
-  pub slot_is : {x : Slot} → early kind s w t key ≡ 0 → (judged_with kind s w t key x).slot ≡ x
-  unfolding judged_with
-  slot_is e = rw (eq-eqb _ 0 e)
+  pub judged-ok : (b : Bool) (j : Judged) → Ok j ≡ judged_by b kind s w t key →
+      (early kind s w t key ≡ 0) × (j.slot ≡ slot_by b s w t key) × (j.none ≡ none_left w key.caller)
+  unfolding judged_by
+  judged-ok b j e =
+      let o = unless-ok _ _ j e in
+      (o.0, ap (λ (y : Judged). y.slot) o.1, ap (λ (y : Judged). y.none) o.1)
 
   -- ---- the slot, opened with a look
   pub opened-is : (look W at : ℕ) (x : Slot) → x ≡ first_look look t (slot_of W w t at) → W ≡ window_ticks s → at ≡ addressed w key →
@@ -103,13 +124,7 @@ module _ (kind : RoomKind) (s : Settings) (w : List ℕ) (t : ℕ) (key : Sent) 
       go false p b q = early-fault n (e ∙ rw p) z
 
   pub no-fault : fault_of s w ≡ 0 → Room w × Proper s
-  unfolding fault_of
-  no-fault e = go (eqb (first (faults s)) 0) refl (sized w) refl
-    where
-      go : (a : Bool) → eqb (first (faults s)) 0 ≡ a → (b : Bool) → sized w ≡ b → Room w × Proper s
-      go true p true q = (sized-room w q, proper s (eqb-true (first (faults s)) 0 p))
-      go true p false q = absurd (five-none (fault_of s w) (rw (p, q)) e)
-      go false p b q = absurd (eqb-false (first (faults s)) 0 p (sym (rw p) ∙ e))
+  no-fault e = unfaulted s w e
 
   pub early-stray : Proper s → Room w → ours w ≡ false → early kind s w t key ≡ 5
   unfolding misfits first

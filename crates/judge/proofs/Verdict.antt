@@ -1,17 +1,18 @@
 -- What a call is to answer and to leave, for every input: the first refusal of its list whose condition holds, with every word as it came in; or else its
 -- answer and its words.
 -- Assumes nothing.
-use Rattle.std.specs.Prelude.{◌≡◌, refl, Bool, true, false, List, ◌≢◌, ℕ, eqb}
+use Rattle.std.specs.Prelude.{◌≡◌, refl, Bool, true, false, List, ◌≢◌, ℕ, eqb, Err}
 use Rattle.std.proofs.Common.{sym, subst, ◌∙◌, eq-eqb, ne_eqb, eqb-true}
 use Rattle.std.proofs.Math.Bool.{cond}
 use Rattle.std.proofs.Math.Decide.{ℕ_discrete}
 use Rattle.std.proofs.lemmas.Bool.{eqb-false}
 use Rattle.parties.specs.Parties.{Sent}
 use Rattle.common.specs.Refusals.{first}
+use Rattle.common.specs.declared.refusal.Refusal.{Refusal}
 use Rattle.settings.specs.declared.Settings.{Settings}
 use Rattle.rules.specs.declared.RoomKind.{RoomKind}
-use Rattle.judge.specs.Judge.{refusals, early, Passed}
-use Rattle.judge.proofs.Laws.{refused-early, refused-own, passed}
+use Rattle.judge.specs.Judge.{refusals, early, judged_by, Passed}
+use Rattle.judge.proofs.Laws.{refused-early, refused-own, judged-err, passed}
 use Rattle.judge.specs.Verdict.{Verdict, verdict, unless_refused, Told, call, Alike}
 
 -- two results that a verdict allows are one
@@ -19,6 +20,10 @@ pub told-once : {A : Type 0} (v : Verdict A) (r r' : A) (x x' : List ℕ) → To
 told-once v r r' x x' a b = (a.answer ∙ sym b.answer, a.words ∙ sym b.words)
 
 -- what is told of a verdict is told of the same verdict in other words
+-- what is handed on is answered as it was
+pub told-on : {A : Type 0} {v : Verdict A} {r q : A} {x : List ℕ} → r ≡ q → Told v q x → Told v r x
+told-on {A} {v} {r} {q} {x} e o = subst (λ (y : A). Told v y x) (sym e) o
+
 pub told-as : {A : Type 0} {v v' : Verdict A} {r : A} {x : List ℕ} → v ≡ v' → Told v r x → Told v' r x
 told-as {r = r} {x = x} e o = subst (λ y. Told y r x) e o
 
@@ -37,6 +42,12 @@ module _ {A : Type 0} (turned : ℕ → A) (kind : RoomKind) (s : Settings) (w :
   call-early n e z =
       let p : first (refusals kind s w t key own) ≡ n = refused-early kind s w t key own (λ f. z (e ∙ f)) ∙ sym e in
       rw p (told-turned turned n w v z)
+
+  -- as judging hands it on
+  pub call-refused : (b : Bool) (r : Refusal) → Err r ≡ judged_by b kind s w t key → Told (call turned kind s w t key own v) (turned r.0) w
+  call-refused b r e =
+      let o = judged-err kind s w t key b r e in
+      subst (λ (x : Refusal). Told (call turned kind s w t key own v) (turned x.0) w) (sym o.1) (call-early _ refl o.0)
 
   -- refused with one of its own
   pub call-own : (n : ℕ) → early kind s w t key ≡ 0 → n ≡ first own → (n ≡ 0 → ⊥) → Told (call turned kind s w t key own v) (turned n) w

@@ -1,7 +1,8 @@
 -- Refusals 1 to 7, 15 and 16, which every call with a key has, in the order of judging; and what a call that passes them knows.
 -- Assumes nothing.
-use Rattle.std.specs.Prelude.{◌≡◌, Bool, true, false, not, ◌&&◌, cond, List, ◌∷◌, ◌++◌, ℕ, ◌≤◌, length, ltb, eqb}
-use Rattle.common.specs.Refusals.{first}
+use Rattle.std.specs.Prelude.{◌≡◌, Bool, true, false, not, ◌&&◌, cond, List, ◌∷◌, ◌++◌, ℕ, ◌≤◌, length, ltb, eqb, Result}
+use Rattle.common.specs.Refusals.{first, unless}
+use Rattle.common.specs.declared.refusal.Refusal.{Refusal}
 use Rattle.settings.specs.Settings.{faults, Proper}
 use Rattle.settings.specs.Clock.{window_ticks, look_ticks}
 use Rattle.settings.specs.declared.Settings.{Settings}
@@ -12,7 +13,7 @@ use Rattle.parties.specs.Parties.{Sent, is_party, ours, overdrawn, none_left, tu
 use Rattle.judge.specs.declared.Judged.{Judged}
 use Rattle.opened.specs.declared.Slot.{Slot}
 use Rattle.opened.specs.Sound.{addressed, sound_at}
-use Rattle.opened.specs.Slot.{no_slot, pick_slot, slot_of, first_look}
+use Rattle.opened.specs.Slot.{slot_of, first_look}
 
 -- 5: "the room's lengths are wrong, or the slot addressed is unsound", and "where a slot in use is neither party's"; 6: "the reading is below the last of a
 -- call not refused"; 7: "key over 32 bytes"
@@ -51,22 +52,14 @@ abbrev pub slot_by : Bool → Settings → List ℕ → ℕ → Sent → Slot
 slot_by true s w t key = looked_in s w t key
 slot_by false s w t key = slot_in s w t key
 
--- the first of 1 to 7, 15 and 16, and where there is none whether the party has no slot left; with a slot
-unfoldable pub judged_with : RoomKind → Settings → List ℕ → ℕ → Sent → Slot → Judged
-judged_with kind s w t key x = record {
-  code = early kind s w t key;
-  none = cond (eqb (early kind s w t key) 0) (none_left w key.caller) false;
-  slot = pick_slot (eqb (early kind s w t key) 0) x (no_slot 0);
-}
+-- the first of 1 to 7, 15 and 16; where there is none, the key's slot by whether a first look is taken, and whether the party has no slot left
+unfoldable pub judged_by : Bool → RoomKind → Settings → List ℕ → ℕ → Sent → Result Judged Refusal
+judged_by first kind s w t key = unless (early kind s w t key) (record { slot = slot_by first s w t key; none = none_left w key.caller })
 
--- the key's own, by whether a first look is taken
-abbrev pub judged_by : Bool → RoomKind → Settings → List ℕ → ℕ → Sent → Judged
-judged_by first kind s w t key = judged_with kind s w t key (slot_by first s w t key)
-
-abbrev pub judged : RoomKind → Settings → List ℕ → ℕ → Sent → Judged
+abbrev pub judged : RoomKind → Settings → List ℕ → ℕ → Sent → Result Judged Refusal
 judged = judged_by false
 
-abbrev pub judged_first : RoomKind → Settings → List ℕ → ℕ → Sent → Judged
+abbrev pub judged_first : RoomKind → Settings → List ℕ → ℕ → Sent → Result Judged Refusal
 judged_first = judged_by true
 
 -- what holds of a call that passes

@@ -2,14 +2,15 @@
 #![tactic(auto)]
 
 ghost use Rattle.std.specs.Prelude.{◌≡◌, false, ◌<◌, ◌≤◌};
+ghost use Rattle.common.specs.Refusals.{ruled};
 ghost use Rattle.settings.specs.Settings.{Proper, window_in};
 ghost use Rattle.room.specs.Room.{Room};
 ghost use Rattle.opened.specs.Sound.{addressed, sound_at};
-ghost use Rattle.opened.specs.Slot.{no_slot, opened};
 ghost use Rattle.opened.specs.Right.{Addresses};
 ghost use Rattle.parties.specs.Parties.{sent, standing_of};
 ghost use Rattle.judge.specs.Judge.{fault_of, early, look_by, judged_by};
 
+use common::Refusal;
 use opened::Slot;
 use parties::{Caller, Standing};
 use rules::RoomKind;
@@ -22,11 +23,10 @@ pub const FIRST_LOOK: bool = true;
 
 pub const NO_LOOK: bool = false;
 
-// The first of refusals 1 to 7, 15 and 16, or 0 with the slot, and whether the caller's party already holds all slots that it is promised. With the slot
-// behind that, every call that takes it out of here costs some 10 ns more.
+// Of a call that passes: the key's slot, and whether the caller's party already holds all slots that it is promised. With the slot behind that, every call
+// that takes it out of here costs some 10 ns more.
 #[derive(Clone, Copy)]
 pub struct Judged {
-    pub code: u64,
     pub slot: Slot,
     pub none: bool,
 }
@@ -59,34 +59,21 @@ fn sound_at(
     if slots <= at {
         return true;
     }
-    opened::slot_right(kind, settings, w[2], room::use_of(w, at), x)
+    opened::slot_right(kind, settings, w[layout::LAST], room::use_of(w, at), x)
 }
 
-fn refused(code: u64) -> Judged
-    ensures { result ≡ record { code = code; none = false; slot = no_slot 0 } }
+// Turned away with the first of refusals 1 to 5 that the settings and the room's lengths meet.
+pub fn fault(settings: Settings, w: &[u64]) -> Result<(), Refusal>
+    ensures { result ≡ ruled (fault_of settings w.now) }
 {
-    Judged {
-        code,
-        slot: opened::no_slot(0),
-        none: false,
-    }
-}
-
-// The first of refusals 1 to 5 that the settings and the room's lengths meet, or 0.
-pub fn fault(settings: Settings, w: &[u64]) -> u64
-    ensures { result ≡ fault_of settings w.now }
-{
-    let n = settings.refusal();
-    if n != 0 {
-        return n;
-    }
+    settings.check()?;
     if !room::sized(w) {
-        return 5;
+        return Err(Refusal::BAD_ROOM);
     }
-    0
+    Ok(())
 }
 
-// The first of refusals 5 to 7, 15 and 16 that the slots, the key's slot, the reading, the key or the caller meets, or 0.
+// Turned away with the first of refusals 5 to 7, 15 and 16 that the slots, the key's slot, the reading, the key or the caller meets.
 pub fn misfit(
     kind: RoomKind,
     settings: Settings,
@@ -96,24 +83,23 @@ pub fn misfit(
     key: &[u8],
     x: Slot,
     standing: Standing,
-) -> u64
+) -> Result<(), Refusal>
     requires { Addresses w.now (sent caller key.now) settings x × Proper settings × (standing ≡ standing_of w.now caller) }
-    ensures { result ≡ early kind settings w.now reading (sent caller key.now) }
+    ensures { result ≡ ruled (early kind settings w.now reading (sent caller key.now)) }
 {
-    let code = standing.code;
-    if code == 5 {
-        return 5;
+    if !standing.ours {
+        return Err(Refusal::BAD_ROOM);
     }
     if !sound_at(kind, settings, w, caller, key, x) {
-        return 5;
+        return Err(Refusal::BAD_ROOM);
     }
-    if reading < w[2] {
-        return 6;
+    if reading < w[layout::LAST] {
+        return Err(Refusal::CLOCK_WENT_BACK);
     }
     if LONGEST_KEY < key.len() {
-        return 7;
+        return Err(Refusal::LONG_KEY);
     }
-    code
+    standing.turned
 }
 
 fn look_of(settings: Settings, first: bool) -> u64
@@ -127,6 +113,7 @@ fn look_of(settings: Settings, first: bool) -> u64
 }
 
 // All at once: the key's slot, as a first look leaves it or not. An increment takes these steps itself, so that its slot is not copied.
+#[tactic(auto, using(crate::proofs::Laws::room_there, crate::proofs::Laws::window_fits))]
 pub fn judge(
     kind: RoomKind,
     settings: Settings,
@@ -135,24 +122,17 @@ pub fn judge(
     caller: Caller,
     key: &[u8],
     first: bool,
-) -> Judged
+) -> Result<Judged, Refusal>
     ensures { result ≡ judged_by first kind settings w.now reading (sent caller key.now) }
 {
-    let n = fault(settings, w);
-    if n != 0 {
-        return refused(n);
-    }
+    fault(settings, w)?;
     let standing = parties::standing_of(w, caller);
     let window = settings.window_ticks();
     let look = look_of(settings, first);
     let x = opened::open_at(w, address(w, caller, key), reading, window, look);
-    let code = misfit(kind, settings, w, reading, caller, key, x, standing);
-    if code != 0 {
-        return refused(code);
-    }
-    Judged {
-        code: 0,
+    misfit(kind, settings, w, reading, caller, key, x, standing)?;
+    Ok(Judged {
         slot: x,
         none: standing.none,
-    }
+    })
 }

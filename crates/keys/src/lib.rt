@@ -27,10 +27,10 @@ fn there(key: &[u8], i: usize) -> u64
 fn byte(key: &[u8], i: usize) -> u64
     ensures { (result ≡ get_or key.now i 0) × (result < 256) }
 {
-    if i < key.len() { there(key, i) } else { 0 }
+    key.get(i).map_or(0, |b| u64::from(*b))
 }
 
-// Eight bytes that are all there: the compiler reads them at once.
+// Eight bytes that are all there. The form of `some`, and beside it for speed: with no test of an index the compiler reads them at once.
 fn eight(key: &[u8], i: usize) -> u64
     requires { (i ≤ 24) × (i + 8 ≤ length key.now) }
     ensures { result ≡ pack key.now i }
@@ -77,12 +77,12 @@ fn packed(key: &[u8], i: usize) -> u64
     ensures { result ≡ pack key.now i }
 {
     if key.len() <= i {
-        return 0;
+        0
+    } else if key.len() < i + 8 {
+        tail(key, i)
+    } else {
+        eight(key, i)
     }
-    if key.len() < i + 8 {
-        return tail(key, i);
-    }
-    eight(key, i)
 }
 
 pub fn key_of(holder: u64, key: &[u8]) -> Key
@@ -98,30 +98,10 @@ pub fn key_of(holder: u64, key: &[u8]) -> Key
     }
 }
 
-// 256 to the `n`.
-fn top(n: u64) -> u64
-    requires { n < 8 }
-    ensures { result ≡ 256 ^ n }
-{
-    let mut x = 1;
-    let mut k = 0;
-    while k < n {
-        x *= 256;
-        k += 1;
-    }
-    x
-}
-
 // Whether a word with a key's bytes from `i` on is 0 in the bytes that a key of `len` bytes does not have.
 pub fn is_unused_zero(len: u64, i: u64, word: u64) -> bool
     ensures { result ≡ unused_zero len i word }
 {
-    if len <= i {
-        return word == 0;
-    }
-    let n = len - i;
-    if 8 <= n {
-        return true;
-    }
-    word < top(n)
+    let n = len.saturating_sub(i);
+    8 <= n || word < 256u64.pow(n as u32)
 }

@@ -16,7 +16,8 @@ pub const SECONDS: usize = 4;
 
 pub const HEADER: usize = 5;
 
-// Who holds a slot, its two bits as a number: nobody's slots are free, and where both are set the slot is neither party's.
+// Who holds a slot, its two bits as a number, since they are words of the room (docs/WORDS.md): nobody's slots are free, and where both are set the slot is
+// neither party's.
 pub const NOBODY: u64 = 0;
 
 pub const FIRST: u64 = 1;
@@ -36,7 +37,7 @@ pub const KEY_D: usize = 5;
 
 pub const ENTRY: usize = 6;
 
-// A slot's use.
+// A slot's use, a word of the room too.
 pub const SERIES: u64 = 1;
 
 pub const CACHED: u64 = 2;

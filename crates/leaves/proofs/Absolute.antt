@@ -1,7 +1,7 @@
 -- The absolute limiter follows its rules passes the view: each call, for every input, is refused with every word as it was, or answers and leaves what the
 -- rules make of the key's buckets (`get-follows`, `ask-follows`, `inc-follows`).
 -- Assumes nothing.
-use Rattle.std.specs.Prelude.{◌≡◌, Bool, ◌&&◌, ◌||◌, ℕ, suc, ◌<◌, length, get_or, ltb}
+use Rattle.std.specs.Prelude.{◌≡◌, Bool, ◌&&◌, ◌||◌, ℕ, suc, ◌<◌, length, get_or, ltb, Result, Ok}
 use Rattle.std.proofs.Math.Path.{refl, sym, ap, ap₂, subst}
 use Rattle.std.proofs.Common.{◌∙◌, arith, eq-eqb, eqb-true, le-ltb, ltb-true, ltb-false}
 use Rattle.std.proofs.Math.Bool.{true, false, not, cond}
@@ -46,9 +46,7 @@ use Rattle.judge.specs.Judge.{refusals, Passed, slot_in, looked_in}
 use Rattle.judge.proofs.Laws.{passed, free-there}
 use Rattle.base.specs.Decides.{other-true}
 use Rattle.cleanup.specs.Laws.{sound-parts, parts-sound}
-use Rattle.common.specs.Refusals.{first, AllFalse, all-false}
-use Rattle.answers.specs.declared.TotalAnswer.{TotalAnswer}
-use Rattle.answers.specs.declared.TotalAnswer.TheVariants as total
+use Rattle.common.specs.Refusals.{first, AllFalse, all-false, refuse}
 use Rattle.rules.specs.Held.{Held, lacks_slot}
 use Rattle.rules.specs.Both.{limit_in, live_of, overdue, overdue_in, looked_of, passes, ring_full}
 use Rattle.rules.specs.Absolute.{below, tests_again, tested, allowed_by, whole_limit, allowed, pick_decision, rejection, decided, out_for, found_for, inc_turns}
@@ -70,6 +68,7 @@ use Rattle.leaves.specs.Follows.{Follows, follows, unrefused-early, unrefused-ow
 use Rattle.leaves.specs.Calls.{Stands, stands, implied, keep-words, update-changed, take-changed, none_right, series-right, limit-right, begins-view}
 use Rattle.leaves.specs.Calls.{uncached, found-key}
 use Rattle.leaves.proofs.Cleanup.{series-later}
+use Rattle.common.specs.declared.refusal.Refusal.{Refusal}
 
 -- ---- the key's slot in the room
 
@@ -281,7 +280,7 @@ module _ (s : Settings) (w : List ℕ) (t : ℕ) (key : Sent) (p : Passed Absolu
   unfolding get_change
   get-unknown h = ap (λ (z : Bool). pick_change z (Update (evicting (slot_in s w t key) Nothing)) Keep) ((seen Absolute s w t key p).series-is ∙ h)
 
-  pub get-law : (v : Verdict TotalAnswer) → v.answer ≡ total.Total (counts (live_of s t (held_in w key))) → v.words ≡ after (get_change (slot_in s w t key)) →
+  pub get-law : (v : Verdict (Result ℕ Refusal)) → v.answer ≡ Ok (counts (live_of s t (held_in w key))) → v.words ≡ after (get_change (slot_in s w t key)) →
       GetLaw s w t key v
   get-law v a b = record {
     answer = a;
@@ -512,9 +511,9 @@ module _ (s : Settings) (w : List ℕ) (t : ℕ) (key : Sent) where
   passing : (own : List (ℕ × Bool)) → first (refusals Absolute s w t key own) ≡ 0 → Passed Absolute s w t key
   passing own e = passed Absolute s w t key (unrefused-early Absolute s w t key own e)
 
-  pub get-follows : Follows total.Refused w (first (refusals Absolute s w t key [])) (get s w t key) (GetLaw s w t key (get s w t key))
+  pub get-follows : Follows refuse w (first (refusals Absolute s w t key [])) (get s w t key) (GetLaw s w t key (get s w t key))
   unfolding get
-  get-follows = follows total.Refused _ w _ (GetLaw s w t key) (λ e. get-law s w t key (passing [] e) _ refl refl)
+  get-follows = follows refuse _ w _ (GetLaw s w t key) (λ e. get-law s w t key (passing [] e) _ refl refl)
 
   pub ask-follows : Follows decision.Refused w (first (refusals Absolute s w t key [])) (is_allowed s w t key) (AskLaw s w t key (is_allowed s w t key))
   unfolding is_allowed

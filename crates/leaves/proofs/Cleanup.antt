@@ -1,7 +1,7 @@
 -- What a cleanup leaves: every word but uses, who holds a slot and the last reading; of each slot what the rule keeps; slots in use sound, keys in one slot
 -- each.
 -- Assumes nothing.
-use Rattle.std.specs.Prelude.{◌≡◌, Bool, true, false, not, ◌&&◌, ◌||◌, List, ◌≢◌, ℕ, ◌≤◌, ◌<◌, length, get_or, set, eqb}
+use Rattle.std.specs.Prelude.{◌≡◌, Bool, true, false, not, ◌&&◌, ◌||◌, List, ◌≢◌, ℕ, ◌≤◌, ◌<◌, length, get_or, set, eqb, Ok}
 use Rattle.std.proofs.Math.Path.{refl, ap}
 use Rattle.std.proofs.Common.{sym, subst, ◌∙◌, arith, length-set, get_or-set_same, get_or-set_other, eq-eqb, ne_eqb, eqb-true, le-leb, leb-true, lt-ltb, le-ltb}
 use Rattle.std.proofs.lemmas.Bool.{false≢true}
@@ -9,7 +9,6 @@ use Rattle.std.proofs.Math.Decide.{ℕ_discrete}
 use Rattle.settings.specs.Clock.{age_in_milliseconds, ticks_in}
 use Rattle.base.specs.Decides.{and-true, true-and}
 use Rattle.suppression.specs.Factor.{factor_word_ok}
-use Rattle.answers.specs.declared.DoneAnswer.TheVariants.{Done}
 use Rattle.settings.specs.declared.Settings.{Settings}
 use Rattle.rules.specs.Buckets.{newest}
 use Rattle.ring.specs.declared.Bucket.{Bucket}
@@ -217,7 +216,7 @@ module _ (kind : RoomKind) (s : Settings) (w v : List ℕ) (t ticks stale : ℕ)
 
 module _ (kind : RoomKind) (s : Settings) (w : List ℕ) (t : ℕ) (who : Caller) (stale : ℕ) where
   -- not refused
-  pub done-answer : refusal kind s w t who ≡ 0 → (cleanup kind s w t who stale).answer ≡ Done
+  pub done-answer : refusal kind s w t who ≡ 0 → (cleanup kind s w t who stale).answer ≡ Ok tt
   unfolding cleanup unless_refused
   done-answer e = rw (eq-eqb _ 0 e)
 

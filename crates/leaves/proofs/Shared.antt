@@ -2,11 +2,10 @@
 -- are told. `Stands` says of a slot its buckets, limit, cached factor and use, that it is sound again, and that every other slot is word for word as it
 -- was.
 -- Assumes nothing.
-use Rattle.std.specs.Prelude.{◌≡◌, ℕ}
+use Rattle.std.specs.Prelude.{◌≡◌, ℕ, Ok}
 use Rattle.std.proofs.Math.Path.{refl}
 use mathlib.Core.List.{List}
 use Rattle.settings.specs.Clock.{ticks_in}
-use Rattle.answers.specs.declared.DoneAnswer.TheVariants as done
 use Rattle.settings.specs.declared.Settings.{Settings}
 use Rattle.rules.specs.declared.RoomKind.{RoomKind}
 use Rattle.room.specs.Room.{with_reading, cleared}
@@ -21,13 +20,14 @@ use Rattle.cleanup.specs.Laws as CleanupLaws
 use Rattle.leaves.proofs.Cleanup.{clean_run, clean-sound}
 use Rattle.leaves.specs.Follows.{follows}
 use Rattle.leaves.specs.Shared.{ClearRule, CleanRule}
+use Rattle.common.specs.Refusals.{refuse}
 
 -- ---- and that they do it
 
 pub clear-follows : (s : Settings) (w : List ℕ) (t : ℕ) (who : Caller) → Clear.clear_refusal s w t who ≡ 0 →
     ClearRule w (mark_of who.party) t (Clear.clear s w t who)
 clear-follows s w t who e =
-    (follows done.Refused (Clear.clear_refusal s w t who) w (verdict done.Done (with_reading (cleared w (mark_of who.party)) t))
+    (follows refuse (Clear.clear_refusal s w t who) w (verdict (Ok tt) (with_reading (cleared w (mark_of who.party)) t))
     (ClearRule w (mark_of who.party) t)
     (λ z. record { answer = refl; leaves = clear-read-run w (mark_of who.party) (Clear.clear_room s w t who z) t })).done e
 

@@ -2,7 +2,7 @@
 -- of what the key holds. What an increment admits does not pass the hard limit, and what stays within the soft one is allowed. x is the key's slot,
 -- whose words are told.
 -- Assumes nothing.
-use Rattle.std.specs.Prelude.{◌≡◌, refl, Bool, true, false, cond, ℕ, ◌≤◌, ◌<◌}
+use Rattle.std.specs.Prelude.{◌≡◌, refl, Bool, true, false, cond, ℕ, ◌≤◌, ◌<◌, Result, Ok, Float}
 use Rattle.std.proofs.Common.{sym, ap, ap₂, subst, ◌∙◌, arith}
 use Rattle.std.proofs.lemmas.Bool.{false≢true}
 use mathlib.Core.List.{List, []}
@@ -11,15 +11,11 @@ use Rattle.answers.specs.HistoryMode.{no_snapshot}
 use Rattle.common_laws.specs.LimitLaws.{soft-le-hard}
 use Rattle.common.specs.Limits.{cut_word, soft_word}
 use Rattle.common.specs.Ranges.{one}
-use Rattle.common.specs.Refusals.{first, all-false}
+use Rattle.common.specs.Refusals.{first, all-false, refuse}
 use Rattle.settings.specs.Settings.{factor_in}
 use Rattle.settings.specs.Clock.{window_ticks, join_ticks, cache_ticks}
-use Rattle.answers.specs.declared.FactorAnswer.{FactorAnswer}
-use Rattle.answers.specs.declared.FactorAnswer.TheVariants as factor
 use Rattle.answers.specs.declared.RateLimitDecision.{RateLimitDecision}
 use Rattle.answers.specs.declared.RateLimitDecision.TheVariants as decision
-use Rattle.answers.specs.declared.SnapshotAnswer.{SnapshotAnswer}
-use Rattle.answers.specs.declared.SnapshotAnswer.TheVariants as snapshot
 use Rattle.answers.specs.declared.SuppressedRateLimitSnapshot.{SuppressedRateLimitSnapshot}
 use Rattle.settings.specs.declared.Settings.{Settings}
 use Rattle.common.specs.declared.units.RateLimit.{RateLimit}
@@ -58,6 +54,7 @@ use Rattle.leaves.proofs.Unit.{snapshot-ok}
 use Rattle.leaves.specs.Leaves.{asked-anew, found_ok, looked-ok, get-stands, get_keeps, factor-stands, factor-keeps, factor-lone-stands}
 use Rattle.leaves.specs.Leaves.{decision-ok, inc-stands}
 use Rattle.leaves.specs.SuppressedFollows.{get_number, factor_number, inc_number, Gets, GivesFactor, Counts}
+use Rattle.common.specs.declared.refusal.Refusal.{Refusal}
 
 -- ---- the calls
 
@@ -101,12 +98,12 @@ module _ (s : Settings) (w : List ℕ) (t : ℕ) (key : Sent) where
         let r = (get-done s w t key e x refl a asked_is (snapshot_at x a.factor) (get_change x a.caching)
         (applied w x.at key (join_ticks s) t (get_change x a.caching)) refl refl refl).answer in
         let full : ℕ → ℕ → SuppressedRateLimitSnapshot = λ (m n : ℕ). record { total = m; total_declined = n; suppression_factor = a.factor } in
-        let by : Bool → SnapshotAnswer = λ (b : Bool). snapshot.Snapshot (cond b (full x.pass.live_total x.pass.live_declined) no_snapshot) in
+        let by : Bool → Result SuppressedRateLimitSnapshot Refusal = λ (b : Bool). Ok (cond b (full x.pass.live_total x.pass.live_declined) no_snapshot) in
         record {
-          known-answer = λ g. sym r ∙ ap by (series-as true g) ∙ ap₂ (λ (m n : ℕ). snapshot.Snapshot (full m n)) o.live-is o.declined-is;
+          known-answer = λ g. sym r ∙ ap by (series-as true g) ∙ ap₂ (λ (m n : ℕ). Ok (full m n)) o.live-is o.declined-is;
           known = λ g. get-stands s w t key e a asked_is y (series-as true g);
           unknown-answer = λ g. sym r ∙ ap by (series-as false g);
-          unit = subst (λ (b : SnapshotAnswer). SnapshotOk b) r
+          unit = subst (λ (b : Result SuppressedRateLimitSnapshot Refusal). SnapshotOk b) r
               (snapshot-ok x.series (full x.pass.live_total x.pass.live_declined) (found_ok s w t key e a asked_is).within);
           unknown = λ g. get_keeps s w t key e a asked_is (series-as false g);
         }
@@ -125,7 +122,7 @@ module _ (s : Settings) (w : List ℕ) (t : ℕ) (key : Sent) where
         (applied w (place_of w z) key (join_ticks s) t ch) refl refl).answer in
         record {
           answer = sym r;
-          unit = subst (λ (b : FactorAnswer). FactorOk b) r (looked-ok s w t key e a looked-is).within;
+          unit = subst (λ (b : Result Float Refusal). FactorOk b) r (looked-ok s w t key e a looked-is).within;
           known = λ g. factor-stands s w t key e a looked-is k y (looked-as true g);
           kept = λ g u. factor-keeps s w t key e a looked-is k (looked-as false g) (usable-as ∙ u);
           anew = λ g u. factor-lone-stands s w t key e a looked-is k y (looked-as false g) (usable-as ∙ u);
@@ -182,14 +179,14 @@ module _ (s : Settings) (w : List ℕ) (t : ℕ) (key : Sent) where
 
   -- ---- for every input
 
-  pub get-follows : Bytes key.bytes → Follows snapshot.Refused w (get_number s w t key) (get s w t key) (Gets s w t key (get s w t key))
+  pub get-follows : Bytes key.bytes → Follows refuse w (get_number s w t key) (get s w t key) (Gets s w t key (get s w t key))
   unfolding get
-  get-follows y = call-follows kind.Suppressed s w t key [] snapshot.Refused _ (Gets s w t key (get s w t key)) (λ e f. gets e y)
+  get-follows y = call-follows kind.Suppressed s w t key [] refuse _ (Gets s w t key (get s w t key)) (λ e f. gets e y)
 
-  pub factor-follows : Bytes key.bytes → Follows factor.Refused w (factor_number s w t key) (get_factor s w t key)
+  pub factor-follows : Bytes key.bytes → Follows refuse w (factor_number s w t key) (get_factor s w t key)
       (GivesFactor s w t key (get_factor s w t key))
   unfolding get_factor
-  factor-follows y = call-follows kind.Suppressed s w t key (factor_turns (none_left w key.caller) (held_in w key)) factor.Refused _
+  factor-follows y = call-follows kind.Suppressed s w t key (factor_turns (none_left w key.caller) (held_in w key)) refuse _
       (GivesFactor s w t key (get_factor s w t key)) (λ e f. factors e y f)
 
   -- what the rules decide of an increment

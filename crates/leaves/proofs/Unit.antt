@@ -1,7 +1,6 @@
 -- The factor of every decision and snapshot that is not refused is a double in 0 to 1 with its sign clear, and so is every factor that is cached.
 -- Assumes nothing.
-use Rattle.std.specs.Prelude.{Bool, true, false, cond}
-use Rattle.answers.specs.declared.SnapshotAnswer.TheVariants as snapshot
+use Rattle.std.specs.Prelude.{Bool, true, false, cond, Ok}
 use Rattle.answers.specs.declared.SuppressedRateLimitSnapshot.{SuppressedRateLimitSnapshot}
 use Rattle.answers.specs.HistoryMode.{no_snapshot}
 use Rattle.leaves.specs.Unit.{Within01, nil-within, SnapshotOk}
@@ -10,6 +9,6 @@ use Rattle.leaves.specs.Unit.{Within01, nil-within, SnapshotOk}
 
 -- the snapshot of a known key, and of an unknown one
 pub snapshot-ok : (known : Bool) (x : SuppressedRateLimitSnapshot) → Within01 x.suppression_factor →
-    SnapshotOk (snapshot.Snapshot (cond known x no_snapshot))
+    SnapshotOk (Ok (cond known x no_snapshot))
 snapshot-ok true x u = u
 snapshot-ok false x u = nil-within

@@ -1,12 +1,10 @@
 -- What the absolute limiter's calls leave, by document 01's rules on what the key holds: `Stands` says of a slot its buckets, limit and use, that it is
 -- sound again, and that every other slot is word for word as it was.
 -- Assumes nothing.
-use Rattle.std.specs.Prelude.{◌≡◌, true, false, List, [], ◌∷◌, ℕ}
+use Rattle.std.specs.Prelude.{◌≡◌, true, false, List, [], ◌∷◌, ℕ, Result, Ok}
 use Rattle.settings.specs.Clock.{join_ticks}
 use Rattle.settings.specs.declared.Settings.{Settings}
 use Rattle.answers.specs.declared.RateLimitDecision.{RateLimitDecision}
-use Rattle.answers.specs.declared.TotalAnswer.{TotalAnswer}
-use Rattle.answers.specs.declared.TotalAnswer.TheVariants.{Total}
 use Rattle.common.specs.declared.units.RateLimit.{RateLimit}
 use Rattle.rules.specs.Buckets.{joined}
 use Rattle.ring.specs.declared.Bucket.{Bucket}
@@ -20,6 +18,7 @@ use Rattle.judge.specs.Held.{held_in}
 use Rattle.opened.specs.Sound.{factor_of, factor_time_of, addressed}
 use Rattle.judge.specs.Verdict.{Verdict}
 use Rattle.leaves.specs.Calls.{Stands}
+use Rattle.common.specs.declared.refusal.Refusal.{Refusal}
 
 -- a known key's series has buckets ys now, in its slot and with its limit; use, key and the two factor words are as they were
 abbrev pub Left : Settings → List ℕ → List ℕ → ℕ → Sent → List Bucket → Type 0
@@ -28,8 +27,8 @@ Left s w v t key ys =
     (factor_time_of (body_of w (addressed w key))) 1 ys
 
 -- `get`: the live total; "eviction takes every expired bucket out"; an unknown key takes no slot
-pub record GetLaw (s : Settings) (w : List ℕ) (t : ℕ) (key : Sent) (v : Verdict TotalAnswer) : Type 0 where
-  pub answer : v.answer ≡ Total (counts (live_of s t (held_in w key)))
+pub record GetLaw (s : Settings) (w : List ℕ) (t : ℕ) (key : Sent) (v : Verdict (Result ℕ Refusal)) : Type 0 where
+  pub answer : v.answer ≡ Ok (counts (live_of s t (held_in w key)))
   pub unknown : (held_in w key).known ≡ false → v.words ≡ with_reading w t
   pub known : (held_in w key).known ≡ true → Left s w v.words t key (live_of s t (held_in w key))
 

@@ -1,7 +1,7 @@
 -- What stands after the calls, in the rules' own terms: the key's slot has the buckets, limit, cached factor and use that the rules say, it is sound again,
 -- and every other slot is word for word as it was. (After `clear` every slot of the caller's is free: `clear-read-run` of the frame.)
 -- Assumes nothing.
-use Rattle.std.specs.Prelude.{◌≡◌, Bool, false, not, ◌&&◌, ◌||◌, ℕ, ◌≤◌, ◌<◌, ◌-◌, drop, eqb}
+use Rattle.std.specs.Prelude.{◌≡◌, Bool, false, not, ◌&&◌, ◌||◌, ℕ, ◌≤◌, ◌<◌, ◌-◌, drop, eqb, Ok, Some, None}
 use Rattle.std.proofs.Math.Path.{refl, sym, ap, ap₂, subst}
 use Rattle.std.proofs.Common.{◌∙◌, le-leb, eq-eqb, eqb-true}
 use Rattle.std.proofs.Math.Bool.{true, cond}
@@ -51,7 +51,6 @@ use Rattle.judge.specs.Judge.{Passed, slot_in}
 use Rattle.opened.specs.Slot.{has_slot}
 use Rattle.plan.specs.Plan.{keeping, relimited, place_of}
 use Rattle.plan.specs.Known.{Found, use-right, used-as, cached-is, cached-known, keeping-edits}
-use Rattle.answers.specs.declared.DeleteAnswer.TheVariants.{Deleted, Unknown}
 use Rattle.calls.specs.Calls.{slot-within, found_at, known_at, true-or}
 use Rattle.shared_opened.specs.Opened.{deleting, deleted_at, forgotten, used_with, limiting, limiting-known}
 use Rattle.sets_opened.specs.Sets.{reset, begins, newly, stored, stored-known, setting, live_in}
@@ -256,13 +255,13 @@ module _ (kind : RoomKind) (s : Settings) (w : List ℕ) (t : ℕ) (key : Sent) 
   -- delete: what was admitted of the live total is given
   pub delete-gives : (slot_in s w t key).series ≡ true →
       deleted_at (slot_in s w t key) ≡
-      Deleted (counts (live (window_ticks s) t (buckets (ring_of w) (body_of w (slot_in s w t key).at))) - declineds
+      Some (counts (live (window_ticks s) t (buckets (ring_of w) (body_of w (slot_in s w t key).at))) - declineds
       (live (window_ticks s) t (buckets (ring_of w) (body_of w (slot_in s w t key).at))))
   unfolding deleted_at
   delete-gives e =
       let x = slot_in s w t key in
-      ap (λ (z : Bool). cond z (Deleted (x.pass.live_total - x.pass.live_declined)) (cond x.cached (Deleted 0) Unknown)) e ∙
-      ap₂ (λ (a b : ℕ). Deleted (a - b)) (live-is e) (declined-live e)
+      ap (λ (z : Bool). cond z (Some (x.pass.live_total - x.pass.live_declined)) (cond x.cached (Some 0) None)) e ∙
+      ap₂ (λ (a b : ℕ). Some (a - b)) (live-is e) (declined-live e)
 
   -- the slot is free then, or there is nothing to free
   pub delete-frees : has_slot (slot_in s w t key) ≡ true →

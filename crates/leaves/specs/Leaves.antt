@@ -1,7 +1,7 @@
 -- What a call of the suppressed limiter that is not refused leaves, in the rules' own terms (`Stands`): x is the key's slot, a the factor that is asked
 -- for, o what an increment decides. The cached factor's words and the use are those of `factor_after`, `time_after` and `use_after`.
 -- Assumes nothing.
-use Rattle.std.specs.Prelude.{◌≡◌, Bool, not, ◌&&◌, ◌||◌, ℕ, ◌<◌, leb, ltb, length, drop}
+use Rattle.std.specs.Prelude.{◌≡◌, Bool, not, ◌&&◌, ◌||◌, ℕ, ◌<◌, leb, ltb, length, drop, Option, Some, None}
 use Rattle.std.proofs.Math.Path.{refl, sym, ap, subst}
 use Rattle.std.proofs.Common.{ap₂, ◌∙◌, arith}
 use Rattle.std.proofs.Math.Bool.{true, false, cond}
@@ -41,8 +41,6 @@ use Rattle.change.specs.Words.{EditsAt, Applies, applied}
 use Rattle.edit.specs.Bodies.{edited, started_view, acted_view, edited_view}
 use Rattle.plan.specs.Plan.{evicting, opening, place_of, lacks_at}
 use Rattle.rules.specs.declared.Asked.{Asked}
-use Rattle.rules.specs.declared.Caching.{Caching}
-use Rattle.rules.specs.declared.Caching.TheVariants.{Left, Cached}
 use Rattle.rules.specs.declared.FactorRule.{FactorRule}
 use Rattle.rules.specs.declared.FactorRule.TheVariants.{Nil, One, Worked}
 use Rattle.rules.specs.declared.Outcome.{Outcome}
@@ -62,6 +60,7 @@ use Rattle.leaves.specs.Suppressed.{stood, Opens, opens-slot, opens-looked, evic
 use Rattle.rules.specs.Both.{live_of, overdue_in, looked_of}
 use Rattle.judge.specs.Held.{held_in}
 use Rattle.plan.specs.Seen.{seen, held-there}
+use Rattle.suppression.specs.declared.CachedFactor.{CachedFactor}
 
 -- ---- the slot that a key addresses has the key
 
@@ -87,10 +86,10 @@ rule-lone S H x e =
     (cond (leb H x.pass.live_total) One (cond (ltb (accepted_at x) S) Nil (cond (eqb (accepted_at x) S && eqb S H) One Worked)))) e
 
 abbrev anew : ℕ → Asked
-anew t = record { factor = nil; caching = Cached (cached_at nil t) }
+anew t = record { factor = nil; caching = Some (cached_at nil t) }
 
 abbrev again : Slot → Asked
-again x = record { factor = of_bits binary64 x.factor; caching = Left }
+again x = record { factor = of_bits binary64 x.factor; caching = None }
 
 module _ (s : Settings) (w : List ℕ) (t : ℕ) (x : Slot) (limit : ℕ) where
   pub asked-again : usable_at (cache_ticks s) t x ≡ true → asked_at s w t x limit ≡ again x
@@ -104,7 +103,7 @@ module _ (s : Settings) (w : List ℕ) (t : ℕ) (x : Slot) (limit : ℕ) where
       ap (λ (y : Bool). cond y (again x) (worked_at (factor_in s) (window_in s) (ticks_in s) w t x limit)) u ∙
       ap (λ (r : FactorRule). record {
         factor = fresh_by r S x.pass.live_total (window_in s) (second_at (ticks_in s) w t x);
-        caching = Cached (cached_at (fresh_by r S x.pass.live_total (window_in s) (second_at (ticks_in s) w t x)) t);
+        caching = Some (cached_at (fresh_by r S x.pass.live_total (window_in s) (second_at (ticks_in s) w t x)) t);
       }) (rule-lone S (cut_word limit) x e)
 
 -- ---- the calls
@@ -158,7 +157,7 @@ module _ (s : Settings) (w : List ℕ) (t : ℕ) (key : Sent) (q : Passed kind.S
       none true = refl
       none false = refl
 
-  evicted-stands : (k : Caching) → Bytes key.bytes → x.series ≡ true → CachingOk t k →
+  evicted-stands : (k : Option CachedFactor) → Bytes key.bytes → x.series ≡ true → CachingOk t k →
       Stands kind.Suppressed s w (applied w x.at key (join_ticks s) t (Update (recached x k (evicting x Nothing)))) x.at t (key_for key)
       x.limit (factor_after k x.factor) (time_after k x.factor_time) (use_after k x) (out_if out (window_ticks s) t (held_in w key).buckets)
   unfolding recached edited_view acted_view started_view
@@ -248,9 +247,9 @@ module _ (s : Settings) (w : List ℕ) (t : ℕ) (key : Sent) (e : early kind.Su
       -- "but gives a lone cached factor at age below C": the reading alone is stored
       pub factor-keeps : x.series ≡ false → usable_at (cache_ticks s) t x ≡ true → (get_factor s w t key).words ≡ with_reading w t
       factor-keeps h u =
-          let k : a.caching ≡ Left = ap (λ (y : Asked). y.caching) (i ∙ asked-again s w t x x.limit u) in
+          let k : a.caching ≡ None = ap (λ (y : Asked). y.caching) (i ∙ asked-again s w t x x.limit u) in
           sym factor-words ∙
-          ap (applied w (place_of w x) key (join_ticks s) t) (sym (factor-lone x a.caching t h) ∙ ap (λ (j : Caching). lone_change x.cached j t) k) ∙
+          ap (applied w (place_of w x) key (join_ticks s) t) (sym (factor-lone x a.caching t h) ∙ ap (λ (j : Option CachedFactor). lone_change x.cached j t) k) ∙
           keep-words w (place_of w x) key (join_ticks s) t
 
       -- "does take one and caches 0": a lone cached factor 0, in the slot of the one that is too old, or in the lowest free one
@@ -259,10 +258,10 @@ module _ (s : Settings) (w : List ℕ) (t : ℕ) (key : Sent) (e : early kind.Su
       unfolding edited_view acted_view started_view
       factor-lone-stands y h u =
           let at = place_of w x in
-          let k : a.caching ≡ Cached (cached_at nil t) = ap (λ (j : Asked). j.caching)
+          let k : a.caching ≡ Some (cached_at nil t) = ap (λ (j : Asked). j.caching)
           (i ∙ asked-anew s w t x x.limit h u) in
           let c : lone_by x.cached t ≡ factor_change x a.caching t =
-          sym (ap (λ (j : Caching). lone_change x.cached j t) k) ∙ factor-lone x a.caching t h in
+          sym (ap (λ (j : Option CachedFactor). lone_change x.cached j t) k) ∙ factor-lone x a.caching t h in
           let g : EditsAt w at (join_ticks s) t (lone_edit t) = either s w t key q out x opens (lone_edit t) x.cached
           (factor-applies s w t key e x refl at refl (none_left w key.caller) refl (lacks_at (none_left w key.caller) x) refl f a.caching
           (lone_by x.cached t) c) in

@@ -2,23 +2,15 @@
 -- are told. `Stands` says of a slot its buckets, limit, cached factor and use, that it is sound again, and that every other slot is word for word as it
 -- was.
 -- Assumes nothing.
-use Rattle.std.specs.Prelude.{◌≡◌, Bool, false, ◌&&◌, cond, ◌≢◌, ℕ, ◌≤◌, ◌<◌, eqb}
+use Rattle.std.specs.Prelude.{◌≡◌, Bool, false, ◌&&◌, cond, ◌≢◌, ℕ, ◌≤◌, ◌<◌, eqb, Result, Ok, Option}
 use Rattle.std.proofs.Math.Path.{refl, ap, subst}
 use Rattle.std.proofs.Common.{sym, ◌∙◌, arith, ltb-false}
 use Rattle.std.proofs.Math.Bool.{true, not}
 use mathlib.Core.List.{List, [], ◌∷◌}
 use Rattle.std.proofs.lemmas.Bool.{not-false}
 use Rattle.common.specs.Ranges.{rate_ok}
-use Rattle.common.specs.Refusals.{first, all-false}
+use Rattle.common.specs.Refusals.{first, all-false, refuse}
 use Rattle.settings.specs.Clock.{ticks_in, window_ticks, join_ticks}
-use Rattle.answers.specs.declared.DeleteAnswer.{DeleteAnswer}
-use Rattle.answers.specs.declared.DeleteAnswer.TheVariants as delete
-use Rattle.answers.specs.declared.DoneAnswer.{DoneAnswer}
-use Rattle.answers.specs.declared.DoneAnswer.TheVariants as done
-use Rattle.answers.specs.declared.OldRateAnswer.{OldRateAnswer}
-use Rattle.answers.specs.declared.OldRateAnswer.TheVariants as old
-use Rattle.answers.specs.declared.SetAnswer.{SetAnswer}
-use Rattle.answers.specs.declared.SetAnswer.TheVariants as set
 use Rattle.common.specs.declared.comparator.RateLimitComparator.{RateLimitComparator}
 use Rattle.answers.specs.declared.HistoryUpdateMode.{HistoryUpdateMode}
 use Rattle.settings.specs.declared.Settings.{Settings}
@@ -55,21 +47,23 @@ use Rattle.calls.specs.Set as Sets
 use Rattle.leaves.specs.Calls.{Stands, keep-words, delete-frees, delete-keeps, rate-stands, set_keeps, set-frees, set-stands, set-begins-lone, set-begins}
 use Rattle.leaves.specs.Cleanup.{Cleaned}
 use Rattle.leaves.specs.Follows.{follows, unrefused-early, unrefused-own}
+use Rattle.common.specs.declared.refusal.Refusal.{Refusal}
+use Rattle.answers.specs.declared.ConditionalSetOutcome.{ConditionalSetOutcome}
 
 -- ---- what the calls are to do
 
 -- "Setting a rate touches only a known series and gives the old rate back .. a new limit, forgets the cached factor" (`used_with`)
 pub record RateRule (kind : RoomKind) (s : Settings) (w : List ℕ) (t : ℕ) (key : Sent) (rate : RateLimit) (x : Slot)
-    (v : Verdict OldRateAnswer) : Type 0 where
-  pub answer : v.answer ≡ rules.old_rate kind s (held_in w key)
+    (v : Verdict (Result (Option RateLimit) Refusal)) : Type 0 where
+  pub answer : v.answer ≡ Ok (rules.old_rate kind s (held_in w key))
   pub known : (held_in w key).known ≡ true →
       Stands kind s w v.words x.at t (key_at w x.at) (limit_in kind s rate) x.factor x.factor_time (used_with x (limit_in kind s rate))
       (held_in w key).buckets
   pub unknown : (held_in w key).known ≡ false → v.words ≡ with_reading w t
 
 -- "Delete gives live total less declined, or 0 for a lone cached factor, or none"; the slot is free then
-pub record DeleteRule (s : Settings) (w : List ℕ) (t : ℕ) (key : Sent) (x : Slot) (v : Verdict DeleteAnswer) : Type 0 where
-  pub answer : v.answer ≡ rules.deleted s t (held_in w key)
+pub record DeleteRule (s : Settings) (w : List ℕ) (t : ℕ) (key : Sent) (x : Slot) (v : Verdict (Result (Option ℕ) Refusal)) : Type 0 where
+  pub answer : v.answer ≡ Ok (rules.deleted s t (held_in w key))
   pub frees : has_any (held_in w key) ≡ true → Changed w v.words x.at (use_of w x.at) (unheld (key_at w x.at)) (body_of w x.at) t
   pub keeps : has_any (held_in w key) ≡ false → v.words ≡ with_reading w t
 
@@ -78,8 +72,8 @@ pub record DeleteRule (s : Settings) (w : List ℕ) (t : ℕ) (key : Sent) (x : 
 -- bucket, in the slot of its lone cached factor or in the lowest free one
 pub record SetRule
     (kind : RoomKind) (s : Settings) (w : List ℕ) (t : ℕ) (key : Sent) (rate : RateLimit) (comparator : RateLimitComparator) (count : ℕ)
-    (mode : HistoryUpdateMode) (still : Bool) (x : Slot) (v : Verdict SetAnswer) : Type 0 where
-  pub answer : v.answer ≡ set.Set (rules.outcome s t still comparator count (held_in w key))
+    (mode : HistoryUpdateMode) (still : Bool) (x : Slot) (v : Verdict (Result ConditionalSetOutcome Refusal)) : Type 0 where
+  pub answer : v.answer ≡ Ok (rules.outcome s t still comparator count (held_in w key))
   pub keeps : still ≡ true → v.words ≡ with_reading w t
   pub goes : still ≡ false → eqb count 0 ≡ true → (held_in w key).known ≡ true →
       Changed w v.words (place_of w x) (use_of w (place_of w x)) (unheld (key_at w (place_of w x))) (body_of w (place_of w x)) t
@@ -92,8 +86,8 @@ pub record SetRule
       Stands kind s w v.words (place_of w x) t (key_for key) (limit_in kind s rate) 0 0 1 (bucket count 0 t ∷ [])
 
 -- "Clear removes the caller's keys only": every slot with its mark is free then, and no word changes but those that say so and the last reading
-pub record ClearRule (w : List ℕ) (m t : ℕ) (v : Verdict DoneAnswer) : Type 0 where
-  pub answer : v.answer ≡ done.Done
+pub record ClearRule (w : List ℕ) (m t : ℕ) (v : Verdict (Result (Unit {0}) Refusal)) : Type 0 where
+  pub answer : v.answer ≡ Ok tt
   pub leaves : Cleared w v.words m t
 
 -- "Cleanup drops a series with no bucket or whose newest age is over the stale time; a cached factor stays only at an age below it": no word changes but
@@ -114,7 +108,7 @@ module _ (kind : RoomKind) (s : Settings) (w : List ℕ) (t : ℕ) (key : Sent) 
   o : Seen (window_ticks s) t true (held_in w key) (slot_in s w t key)
   o = seen kind s w t key p
 
-  rate-does : (rate : RateLimit) → rate_ok rate.0 ≡ true → (v : Verdict OldRateAnswer) → v.answer ≡ rules.old_rate kind s (held_in w key) →
+  rate-does : (rate : RateLimit) → rate_ok rate.0 ≡ true → (v : Verdict (Result (Option RateLimit) Refusal)) → v.answer ≡ Ok (rules.old_rate kind s (held_in w key)) →
       v.words ≡ applied w (slot_in s w t key).at key (join_ticks s) t (limiting (slot_in s w t key) (limit_in kind s rate)) →
       RateRule kind s w t key rate (slot_in s w t key) v
   unfolding limiting
@@ -137,7 +131,7 @@ module _ (kind : RoomKind) (s : Settings) (w : List ℕ) (t : ℕ) (key : Sent) 
   set_does : (rate : RateLimit) (comparator : RateLimitComparator) (count : ℕ) (mode : HistoryUpdateMode) (still : Bool) → Bytes key.bytes →
       rate_ok rate.0 ≡ true → count ≤ most_total →
       (still ≡ false → (slot_in s w t key).series ≡ false → (slot_in s w t key).cached ≡ false → place_of w (slot_in s w t key) < slots_of w) →
-      (v : Verdict SetAnswer) → v.answer ≡ set.Set (rules.outcome s t still comparator count (held_in w key)) →
+      (v : Verdict (Result ConditionalSetOutcome Refusal)) → v.answer ≡ Ok (rules.outcome s t still comparator count (held_in w key)) →
       v.words ≡ applied w (place_of w (slot_in s w t key)) key (join_ticks s) t (setting (slot_in s w t key) still (limit_in kind s rate) count mode) →
       SetRule kind s w t key rate comparator count mode still (slot_in s w t key) v
   set_does rate comparator count mode still y r m inside v a b =
@@ -179,7 +173,7 @@ module _ (kind : RoomKind) (s : Settings) (w : List ℕ) (t : ℕ) (key : Sent) 
   rate-follows rate e =
       let own = rules.rate_turns rate in
       let g = all-false own (omega arith) (unrefused-own kind s w t key own e) in
-      (follows old.Refused _ w _ (RateRule kind s w t key rate (slot_in s w t key))
+      (follows refuse _ w _ (RateRule kind s w t key rate (slot_in s w t key))
       (λ z. rate-does kind s w t key (passing own e) rate (not-false (rate_ok rate.0) g.0) _ refl refl)).done e
 
   pub delete-follows : first (refusals kind s w t key []) ≡ 0 → DeleteRule s w t key (slot_in s w t key) (Delete.delete kind s w t key)
@@ -187,7 +181,7 @@ module _ (kind : RoomKind) (s : Settings) (w : List ℕ) (t : ℕ) (key : Sent) 
   delete-follows e =
       let p = passing [] e in
       let i = has-is (window_ticks s) t true (held_in w key) (slot_in s w t key) (seen kind s w t key p) in
-      (follows delete.Refused _ w _ (DeleteRule s w t key (slot_in s w t key))
+      (follows refuse _ w _ (DeleteRule s w t key (slot_in s w t key))
       (λ z. record { answer = refl; frees = λ g. delete-frees kind s w t key p (i ∙ g); keeps = λ g. delete-keeps kind s w t key p (i ∙ g) })).done e
 
   pub set-follows : (rate : RateLimit) (comparator : RateLimitComparator) (count : ℕ) (mode : HistoryUpdateMode) → Bytes key.bytes →
@@ -203,7 +197,7 @@ module _ (kind : RoomKind) (s : Settings) (w : List ℕ) (t : ℕ) (key : Sent) 
       let p = passing own e in
       let g = all-false own (omega arith) (unrefused-own kind s w t key own e) in
       let l = lacks-is (window_ticks s) t true h x (seen kind s w t key p) (none_left w key.caller) in
-      (follows set.Refused _ w _ (SetRule kind s w t key rate comparator count mode still x)
+      (follows refuse _ w _ (SetRule kind s w t key rate comparator count mode still x)
       (λ z.
       set_does kind s w t key p rate comparator count mode still y (not-false (rate_ok rate.0) g.0) (ltb-false most_total count g.1.0)
       (λ i f c. place-free kind s w t key p f c

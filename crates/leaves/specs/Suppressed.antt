@@ -1,6 +1,6 @@
 -- A slot of the suppressed room after an edit whose use, limit and factor are right: it stands as the rules say (`Stands`); and the calls' edits are right.
 -- Assumes nothing.
-use Rattle.std.specs.Prelude.{◌≡◌, refl, Bool, ◌||◌, cond, List, ℕ, ◌≤◌, eqb}
+use Rattle.std.specs.Prelude.{◌≡◌, refl, Bool, ◌||◌, cond, List, ℕ, ◌≤◌, eqb, Option, Some, None}
 use Rattle.std.proofs.Math.Path.{ap}
 use Rattle.std.proofs.Common.{◌∙◌, sym, subst, le-leb}
 use Rattle.std.proofs.Math.Bool.{true, false}
@@ -37,8 +37,6 @@ use Rattle.plan.specs.Known.{cached-known}
 use Rattle.plan.specs.Plan.{evicting, opening}
 use Rattle.plan.specs.Seen.{Seen, seen}
 use Rattle.rules.specs.Both.{overdue_in}
-use Rattle.rules.specs.declared.Caching.{Caching}
-use Rattle.rules.specs.declared.Caching.TheVariants.{Left, Cached}
 use Rattle.suppressed_verdicts.specs.Opened.{limit_at}
 use Rattle.suppressed_edits.specs.Edits.{use_left, factor_after, time_after, use_after, recached, lone_edit}
 use Rattle.factor_opened.specs.Opened.{stays_at}
@@ -46,6 +44,7 @@ use Rattle.suppressed_verdicts.specs.Seen.{looks}
 use Rattle.suppressed_verdicts.specs.Standing.{used, Stood, stood-slot, stood-looked}
 use Rattle.leaves.specs.Calls.{Stands, stands-so}
 use Rattle.leaves.specs.Unit.{CachingOk}
+use Rattle.suppression.specs.declared.CachedFactor.{CachedFactor}
 
 -- a cached factor's words that are sound at reading t
 pub record FactorOk (n u t : ℕ) : Type 0 where
@@ -74,10 +73,10 @@ unfolding right_use
 left-use true = refl
 left-use false = refl
 
-use-after : (k : Caching) (x : Slot) → right_use kind.Suppressed (use_after k x) ≡ true
+use-after : (k : Option CachedFactor) (x : Slot) → right_use kind.Suppressed (use_after k x) ≡ true
 unfolding right_use
-use-after Left x = left-use (stays_at x)
-use-after (Cached k) x = refl
+use-after None x = left-use (stays_at x)
+use-after (Some k) x = refl
 
 left-cached : (z : Bool) → has_cached (use_left z) ≡ true → z ≡ true
 left-cached true e = refl
@@ -87,11 +86,11 @@ stays-cached : (x : Slot) → stays_at x ≡ true → x.cached ≡ true
 unfolding stays_at
 stays-cached x e = (and-true x.cached (eqb x.pass.expired 0) e).0
 
-factor-after : (t : ℕ) (x : Slot) (k : Caching) → CachingOk t k → (x.cached ≡ true → FactorOk x.factor x.factor_time t) →
+factor-after : (t : ℕ) (x : Slot) (k : Option CachedFactor) → CachingOk t k → (x.cached ≡ true → FactorOk x.factor x.factor_time t) →
     has_cached (use_after k x) ≡ true →
     FactorOk (factor_after k x.factor) (time_after k x.factor_time) t
-factor-after t x Left o h y = h (stays-cached x (left-cached (stays_at x) y))
-factor-after t x (Cached k) o h y = record { word = o.0; earlier = o.1 }
+factor-after t x None o h y = h (stays-cached x (left-cached (stays_at x) y))
+factor-after t x (Some k) o h y = record { word = o.0; earlier = o.1 }
 
 or_right : (a b : Bool) → b ≡ true → a || b ≡ true
 or_right true b e = refl
@@ -133,7 +132,7 @@ module _ (s : Settings) (w : List ℕ) (t : ℕ) (key : Sent) (q : Passed kind.S
 
 module _ (s : Settings) (w : List ℕ) (t : ℕ) (key : Sent) (q : Passed kind.Suppressed s w t key) (out : Bool) (x : Slot) (u : Opens s w t key out x) where
   -- an increment's edit: of the buckets that are left, or of a series that begins
-  pub inc-right : (rate : RateLimit) (c d : ℕ) (k : Caching) → CachingOk t k → rate_ok rate.0 ≡ true → (z : Bool) → x.series ≡ z →
+  pub inc-right : (rate : RateLimit) (c d : ℕ) (k : Option CachedFactor) → CachingOk t k → rate_ok rate.0 ≡ true → (z : Bool) → x.series ≡ z →
       Right s t (recached x k (cond z (evicting x (Increment c d)) (opening (limit_at s x rate) (Increment c d) x.factor x.factor_time x.used)))
   unfolding recached limit_at
   inc-right rate c d k o r true e =
@@ -146,7 +145,7 @@ module _ (s : Settings) (w : List ℕ) (t : ℕ) (key : Sent) (q : Passed kind.S
   }
 
   -- a series without its expired buckets
-  pub evicted-right : (k : Caching) → CachingOk t k → x.series ≡ true → Right s t (recached x k (evicting x Nothing))
+  pub evicted-right : (k : Option CachedFactor) → CachingOk t k → x.series ≡ true → Right s t (recached x k (evicting x Nothing))
   unfolding recached
   evicted-right k o e =
       record { use-right = use-after k x; limit-right = λ y. (u.stood.known e).limit-ok; factor-right = factor-after t x k o u.cached-there }

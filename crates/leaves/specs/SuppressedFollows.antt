@@ -2,18 +2,14 @@
 -- of what the key holds. What an increment admits does not pass the hard limit, and what stays within the soft one is allowed. x is the key's slot,
 -- whose words are told.
 -- Assumes nothing.
-use Rattle.std.specs.Prelude.{◌≡◌, true, false, ℕ}
+use Rattle.std.specs.Prelude.{◌≡◌, true, false, ℕ, Result, Ok, Float}
 use mathlib.Core.List.{List, []}
 use Rattle.answers.specs.HistoryMode.{no_snapshot}
 use Rattle.common.specs.Ranges.{nil}
 use Rattle.common.specs.Refusals.{first}
 use Rattle.settings.specs.Settings.{Proper}
 use Rattle.settings.specs.Clock.{join_ticks}
-use Rattle.answers.specs.declared.FactorAnswer.{FactorAnswer}
-use Rattle.answers.specs.declared.FactorAnswer.TheVariants as factor
 use Rattle.answers.specs.declared.RateLimitDecision.{RateLimitDecision}
-use Rattle.answers.specs.declared.SnapshotAnswer.{SnapshotAnswer}
-use Rattle.answers.specs.declared.SnapshotAnswer.TheVariants as snapshot
 use Rattle.settings.specs.declared.Settings.{Settings}
 use Rattle.common.specs.declared.units.RateLimit.{RateLimit}
 use Rattle.rules.specs.Buckets.{joined}
@@ -34,6 +30,8 @@ use Rattle.plan.specs.Plan.{place_of}
 use Rattle.suppressed_edits.specs.Edits.{factor_after, time_after, use_after}
 use Rattle.leaves.specs.Calls.{Stands}
 use Rattle.leaves.specs.Unit.{SnapshotOk, FactorOk, DecisionOk}
+use Rattle.common.specs.declared.refusal.Refusal.{Refusal}
+use Rattle.answers.specs.declared.SuppressedRateLimitSnapshot.{SuppressedRateLimitSnapshot}
 
 -- the number of a refusal, 0 where there is none
 abbrev pub get_number : Settings → List ℕ → ℕ → Sent → ℕ
@@ -52,20 +50,20 @@ Evicted s w v t key x a ys =
     (use_after a.caching x) ys
 
 -- `get`: a known key's live totals and factor; "on an unknown key gives zeros and takes no slot"
-pub record Gets (s : Settings) (w : List ℕ) (t : ℕ) (key : Sent) (v : Verdict SnapshotAnswer) : Type 0 where
-  pub known-answer : (held_in w key).known ≡ true → v.answer ≡ snapshot.Snapshot (record {
+pub record Gets (s : Settings) (w : List ℕ) (t : ℕ) (key : Sent) (v : Verdict (Result SuppressedRateLimitSnapshot Refusal)) : Type 0 where
+  pub known-answer : (held_in w key).known ≡ true → v.answer ≡ Ok (record {
     total = counts (live_of s t (held_in w key));
     total_declined = declineds (live_of s t (held_in w key));
     suppression_factor = (asking s t true (held_in w key)).factor;
   })
   pub known : (held_in w key).known ≡ true → Evicted s w v.words t key (slot_in s w t key) (asking s t true (held_in w key)) (live_of s t (held_in w key))
-  pub unknown-answer : (held_in w key).known ≡ false → v.answer ≡ snapshot.Snapshot no_snapshot
+  pub unknown-answer : (held_in w key).known ≡ false → v.answer ≡ Ok no_snapshot
   pub unit : SnapshotOk v.answer
   pub unknown : (held_in w key).known ≡ false → v.words ≡ with_reading w t
 
 -- `get_suppression_factor`: "gives a lone cached factor at age below C"; without one it "does take" a slot "and caches 0"
-pub record GivesFactor (s : Settings) (w : List ℕ) (t : ℕ) (key : Sent) (v : Verdict FactorAnswer) : Type 0 where
-  pub answer : v.answer ≡ factor.Factor (asking s t (overdue_in s t (held_in w key)) (held_in w key)).factor
+pub record GivesFactor (s : Settings) (w : List ℕ) (t : ℕ) (key : Sent) (v : Verdict (Result Float Refusal)) : Type 0 where
+  pub answer : v.answer ≡ Ok (asking s t (overdue_in s t (held_in w key)) (held_in w key)).factor
   pub unit : FactorOk v.answer
   pub known : (held_in w key).known ≡ true → Evicted s w v.words t key (looked_in s w t key) (asking s t (overdue_in s t (held_in w key)) (held_in w key))
       (looked_of s t (held_in w key))

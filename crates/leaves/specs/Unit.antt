@@ -1,6 +1,6 @@
 -- The factor of every decision and snapshot that is not refused is a double in 0 to 1 with its sign clear, and so is every factor that is cached.
 -- Assumes nothing.
-use Rattle.std.specs.Prelude.{◌≡◌, Bool, true, false, not, ◌&&◌, ◌||◌, cond, List, ℕ, ◌^◌, ◌≤◌, ◌<◌, T, leb, ltb, eqb, Float}
+use Rattle.std.specs.Prelude.{◌≡◌, Bool, true, false, not, ◌&&◌, ◌||◌, cond, List, ℕ, ◌^◌, ◌≤◌, ◌<◌, T, leb, ltb, eqb, Float, Result, Ok, Err, Option, Some, None}
 use Rattle.std.proofs.Math.Path.{refl}
 use Rattle.std.proofs.Common.{ap, subst, ◌∙◌, arith, ltb-true, ltb-false}
 use Rattle.std.specs.Float.{nan, inf, fin, binary64}
@@ -16,15 +16,9 @@ use Rattle.settings.specs.Clock.{age, ticks_in, cache_ticks}
 use Rattle.settings.specs.declared.Settings.{Settings}
 use Rattle.answers.specs.declared.RateLimitDecision.{RateLimitDecision}
 use Rattle.answers.specs.declared.RateLimitDecision.TheVariants.{Allowed, Rejected, Suppressed, Refused}
-use Rattle.answers.specs.declared.SnapshotAnswer.{SnapshotAnswer}
-use Rattle.answers.specs.declared.SnapshotAnswer.TheVariants as snapshot
-use Rattle.answers.specs.declared.FactorAnswer.{FactorAnswer}
-use Rattle.answers.specs.declared.FactorAnswer.TheVariants as factor
 use Rattle.opened.specs.declared.Slot.{Slot}
 use Rattle.rules.specs.declared.FactorRule.{FactorRule}
 use Rattle.rules.specs.declared.FactorRule.TheVariants.{Nil, One, Worked}
-use Rattle.rules.specs.declared.Caching.{Caching}
-use Rattle.rules.specs.declared.Caching.TheVariants.{Left, Cached}
 use Rattle.rules.specs.declared.Asked.{Asked}
 use Rattle.rules.specs.declared.Reach.{Reach}
 use Rattle.rules.specs.declared.Reach.TheVariants.{Hard, Soft, Over, Between}
@@ -32,6 +26,9 @@ use Rattle.factor_opened.specs.Opened.{left, stays_at, usable_at, rule_at, secon
 use Rattle.forecast_opened.specs.Forecast.{accepted_at, outcome_at}
 use Rattle.rules.specs.Suppressed.{fresh_by, as_cached, reach_of, drawn, outcome_of}
 use Rattle.suppressed_verdicts.specs.Standing.{Sums}
+use Rattle.common.specs.declared.refusal.Refusal.{Refusal}
+use Rattle.answers.specs.declared.SuppressedRateLimitSnapshot.{SuppressedRateLimitSnapshot}
+use Rattle.suppression.specs.declared.CachedFactor.{CachedFactor}
 
 -- ---- 0 and 1
 
@@ -114,9 +111,9 @@ module _ (n : ℕ) (w : List ℕ) (t : ℕ) (x : Slot) (o : Sums n w t x) (W : �
 -- ---- the factor that is asked for
 
 -- what is cached is sound at reading t
-abbrev pub CachingOk : ℕ → Caching → Type 0
-CachingOk t Left = Unit {0}
-CachingOk t (Cached k) = (factor_word_ok (to_bits binary64 k.suppression_factor) ≡ true) × (k.time ≤ t)
+abbrev pub CachingOk : ℕ → Option CachedFactor → Type 0
+CachingOk t None = Unit {0}
+CachingOk t (Some k) = (factor_word_ok (to_bits binary64 k.suppression_factor) ≡ true) × (k.time ≤ t)
 
 pub record AskedOk (t : ℕ) (a : Asked) : Type 0 where
   pub within : Within01 a.factor
@@ -148,13 +145,13 @@ module _ (s : Settings) (p : Proper s) (w : List ℕ) (t : ℕ) (x : Slot) (o : 
 
 -- ---- "It lies in 0 to 1": of what each call answers that is not refused
 
-abbrev pub SnapshotOk : SnapshotAnswer → Type 0
-SnapshotOk (snapshot.Snapshot x) = Within01 x.suppression_factor
-SnapshotOk (snapshot.Refused n) = ⊥
+abbrev pub SnapshotOk : Result SuppressedRateLimitSnapshot Refusal → Type 0
+SnapshotOk (Ok x) = Within01 x.suppression_factor
+SnapshotOk (Err n) = ⊥
 
-abbrev pub FactorOk : FactorAnswer → Type 0
-FactorOk (factor.Factor f) = Within01 f
-FactorOk (factor.Refused n) = ⊥
+abbrev pub FactorOk : Result Float Refusal → Type 0
+FactorOk (Ok f) = Within01 f
+FactorOk (Err n) = ⊥
 
 -- the suppressed limiter rejects nothing: it suppresses
 abbrev pub DecisionOk : RateLimitDecision → Type 0

@@ -12,20 +12,16 @@ use Rattle.fields.specs.Numbers.{show_number, show-length}
 use Rattle.lines.specs.Shown.{window_text, bucket_text, factor_text, cache_text, t_text, op_text, key_text, rate_text, n_text, draw_text}
 use Rattle.fields.specs.Ranges.{largest, exact_largest, Key}
 use Rattle.lines.specs.Shown.{show_settings, SettingsFit, show_call, CallFits, key_start}
-use Rattle.lines.specs.Reading.{op_at, numbers_at, tail_at, is_exact, read_settings, read_call}
+use Rattle.std.specs.Prelude.{Option, Some, None}
+use Rattle.lines.specs.declared.Tail.{Tail}
+use Rattle.lines.specs.declared.CallLine.{CallLine}
+use Rattle.lines.specs.declared.SettingsLine.{SettingsLine}
+use Rattle.lines.specs.Reading.{keyed, settings_line, call_line, op_at, numbers_at, tail_at, is_exact, read_settings, read_call}
 use Rattle.fields.specs.Parts.{field_at, text_at, key_at}
 use Rattle.lines.specs.ReadLaws.{Stops, Field, KeyRead, each_number, each-place, each-name, each-numbers, each_tail, each-test, past-part, past-field}
 use Rattle.lines.specs.ReadLaws.{text-shown, text-read, field-shown, field-read, key-shown, key-read, op-shown, op-read}
 use Rattle.lines.specs.declared.Op.{Op}
 use Rattle.lines.specs.declared.Op.TheVariants.{AbsoluteInc, AbsoluteGet, SuppressedInc, SuppressedGet}
-use Rattle.lines.specs.declared.Numbers.{Numbers}
-use Rattle.lines.specs.declared.Numbers.TheVariants.{Are, NoNumbers}
-use Rattle.lines.specs.declared.Tail.{Tail}
-use Rattle.lines.specs.declared.Tail.TheVariants.{Keyed, NoTail}
-use Rattle.lines.specs.declared.CallLine.{CallLine}
-use Rattle.lines.specs.declared.CallLine.TheVariants as call
-use Rattle.lines.specs.declared.SettingsLine.{SettingsLine}
-use Rattle.lines.specs.declared.SettingsLine.TheVariants as settings
 
 -- ---- where a number and a key end, and where a line does
 
@@ -88,9 +84,9 @@ pub record ReadNumbers (line : List ℕ) (at : ℕ) (first second third : List �
   pub shows : drop at line ≡ show_numbers first x second y third z
 
 module _ (line first second third : List ℕ) where
-  abbrev NumbersRead : ℕ → Numbers → Type 0
-  NumbersRead at (Are x y z) = ReadNumbers line at first second third x y z
-  NumbersRead at NoNumbers = Unit {0}
+  abbrev NumbersRead : ℕ → Option (ℕ × ℕ × ℕ) → Type 0
+  NumbersRead at (Some p) = ReadNumbers line at first second third p.0 p.1 p.2
+  NumbersRead at None = Unit {0}
 
   numbers-joined : (at x y z a b c : ℕ) → Field line at first x a → Field line a second y b → Field line b third z c → c ≡ length line →
       ReadNumbers line at first second third x y z
@@ -104,23 +100,23 @@ module _ (line first second third : List ℕ) where
   numbers-found : (at : ℕ) → NumbersRead at (numbers_at line at first second third)
   unfolding numbers_at
   numbers-found at =
-      each_number (NumbersRead at) (field_at line at first) NoNumbers _ tt
+      each_number (NumbersRead at) (field_at line at first) None _ tt
       (λ x a p.
-      each_number (NumbersRead at) (field_at line a second) NoNumbers _ tt
+      each_number (NumbersRead at) (field_at line a second) None _ tt
       (λ y b q.
-      each_number (NumbersRead at) (field_at line b third) NoNumbers _ tt
+      each_number (NumbersRead at) (field_at line b third) None _ tt
       (λ z c r.
-      each-test (NumbersRead at) (eqb c (length line)) (Are x y z) NoNumbers tt
+      each-test (NumbersRead at) (eqb c (length line)) (Some (x, y, z)) None tt
       (λ s. numbers-joined at x y z a b c (field-read line first at x a p) (field-read line second a y b q) (field-read line third b z c r)
       (eqb-true c (length line) s)))))
 
   -- what reads as numbers is these numbers shown
-  pub numbers-read : (at x y z : ℕ) → numbers_at line at first second third ≡ Are x y z → ReadNumbers line at first second third x y z
+  pub numbers-read : (at x y z : ℕ) → numbers_at line at first second third ≡ Some (x, y, z) → ReadNumbers line at first second third x y z
   numbers-read at x y z e = subst (NumbersRead at) e (numbers-found at)
 
   -- numbers that are shown read as these numbers
   pub numbers-shown : (at x y z : ℕ) → Spaced second → Spaced third → NumbersFit x y z → drop at line ≡ show_numbers first x second y third z →
-      numbers_at line at first second third ≡ Are x y z
+      numbers_at line at first second third ≡ Some (x, y, z)
   unfolding numbers_at
   numbers-shown at x y z s₁ s₂ f e =
       let r₂ : List ℕ = third ++ show_number z in
@@ -159,9 +155,9 @@ pub record ReadTail (line : List ℕ) (at : ℕ) (text first second third : List
   pub shows : drop at line ≡ text ++ (key_in line start end ++ show_numbers first x second y third z)
 
 module _ (line text first second third : List ℕ) where
-  abbrev TailRead : ℕ → Tail → Type 0
-  TailRead at (Keyed start end x y z) = ReadTail line at text first second third start end x y z
-  TailRead at NoTail = Unit {0}
+  abbrev TailRead : ℕ → Option Tail → Type 0
+  TailRead at (Some x) = ReadTail line at text first second third x.start x.end x.numbers.0 x.numbers.1 x.numbers.2
+  TailRead at None = Unit {0}
 
   tail-joined : (at start end x y z : ℕ) → (start ≡ at + length text) × (drop at line ≡ text ++ drop start line) →
       KeyRead line start end (key_in line start end) → ReadNumbers line end first second third x y z →
@@ -178,23 +174,23 @@ module _ (line text first second third : List ℕ) where
   tail-found : (at : ℕ) → TailRead at (tail_at line at text first second third)
   unfolding tail_at
   tail-found at =
-      each-place (TailRead at) (text_at line at text) NoTail _ tt
+      each-place (TailRead at) (text_at line at text) None _ tt
       (λ start p.
-      each-place (TailRead at) (key_at line start) NoTail _ tt
+      each-place (TailRead at) (key_at line start) None _ tt
       (λ end k.
-      each-numbers (TailRead at) (numbers_at line end first second third) NoTail (λ x y z. Keyed start end x y z) tt
+      each-numbers (TailRead at) (numbers_at line end first second third) None (λ x y z. Some (keyed start end x y z)) tt
       (λ x y z n.
       tail-joined at start end x y z (text-read line text at start p) (key-read line start end k) (numbers-read line first second third end x y z n))))
 
   -- what reads as a key and numbers is these shown, and the key stands where it says
-  pub tail-read : (at start end x y z : ℕ) → tail_at line at text first second third ≡ Keyed start end x y z →
+  pub tail-read : (at start end x y z : ℕ) → tail_at line at text first second third ≡ Some (keyed start end x y z) →
       ReadTail line at text first second third start end x y z
   tail-read at start end x y z e = subst (TailRead at) e (tail-found at)
 
   -- a key and numbers that are shown read as these
   pub tail-shown : (at : ℕ) (key : List ℕ) (x y z : ℕ) → Spaced first → Spaced second → Spaced third → Key key → NumbersFit x y z →
       drop at line ≡ text ++ (key ++ show_numbers first x second y third z) →
-      tail_at line at text first second third ≡ Keyed (at + length text) (at + length text + length key) x y z
+      tail_at line at text first second third ≡ Some (keyed (at + length text) (at + length text + length key) x y z)
   unfolding tail_at
   tail-shown at key x y z s₁ s₂ s₃ k f e =
       let r₂ : List ℕ = show_numbers first x second y third z in
@@ -215,9 +211,9 @@ pub record ReadSettings (line : List ℕ) (window bucket factor cache : ℕ) : T
   pub shows : line ≡ show_settings window bucket factor cache
 
 -- what is found in a settings line
-abbrev pub SettingsRead : List ℕ → SettingsLine → Type 0
-SettingsRead line (settings.Settings window bucket factor cache) = ReadSettings line window bucket factor cache
-SettingsRead line settings.Bad = Unit {0}
+abbrev pub SettingsRead : List ℕ → Option SettingsLine → Type 0
+SettingsRead line (Some l) = ReadSettings line l.window l.bucket l.factor l.cache
+SettingsRead line None = Unit {0}
 
 settings-joined : (line : List ℕ) (window bucket factor cache a : ℕ) → Field line 0 window_text window a →
     ReadNumbers line a bucket_text factor_text cache_text bucket factor cache → factor ≤ exact_largest → ReadSettings line window bucket factor cache
@@ -232,17 +228,17 @@ settings-joined line window bucket factor cache a p n h =
 pub settings-read : (line : List ℕ) → SettingsRead line (read_settings line)
 unfolding read_settings
 settings-read line =
-    each_number (SettingsRead line) (field_at line 0 window_text) settings.Bad _ tt
+    each_number (SettingsRead line) (field_at line 0 window_text) None _ tt
     (λ window a p.
-    each-numbers (SettingsRead line) (numbers_at line a bucket_text factor_text cache_text) settings.Bad _ tt
+    each-numbers (SettingsRead line) (numbers_at line a bucket_text factor_text cache_text) None _ tt
     (λ bucket factor cache n.
-    each-test (SettingsRead line) (is_exact factor) (settings.Settings window bucket factor cache) settings.Bad tt
+    each-test (SettingsRead line) (is_exact factor) (Some (settings_line window bucket factor cache)) None tt
     (λ t.
     settings-joined line window bucket factor cache a (field-read line window_text 0 window a p)
     (numbers-read line bucket_text factor_text cache_text a bucket factor cache n) (exact-is factor t))))
 
 settings-line : (line : List ℕ) (window bucket factor cache : ℕ) → SettingsFit window bucket factor cache → line ≡ show_settings window bucket factor cache →
-    read_settings line ≡ settings.Settings window bucket factor cache
+    read_settings line ≡ Some (settings_line window bucket factor cache)
 unfolding read_settings show_settings
 settings-line line window bucket factor cache f e =
     let r : List ℕ = show_numbers bucket_text bucket factor_text factor cache_text cache in
@@ -258,12 +254,12 @@ settings-line line window bucket factor cache f e =
 
 -- settings that are shown read as these settings
 pub settings-shown : (window bucket factor cache : ℕ) → SettingsFit window bucket factor cache →
-    read_settings (show_settings window bucket factor cache) ≡ settings.Settings window bucket factor cache
+    read_settings (show_settings window bucket factor cache) ≡ Some (settings_line window bucket factor cache)
 settings-shown window bucket factor cache f = settings-line (show_settings window bucket factor cache) window bucket factor cache f refl
 
 -- every settings line is read, and as the settings that it shows
 pub settings-whole : (line : List ℕ) (window bucket factor cache : ℕ) → SettingsFit window bucket factor cache →
-    line ≡ show_settings window bucket factor cache → read_settings line ≡ settings.Bad → ⊥
+    line ≡ show_settings window bucket factor cache → read_settings line ≡ None → ⊥
 settings-whole line window bucket factor cache f e b =
     let s = settings-shown window bucket factor cache f in
     let z : ◌≡◌ {A = ℕ} 0 1 = cc in
@@ -278,9 +274,9 @@ pub record ReadCall (line : List ℕ) (t : ℕ) (op : Op) (start end rate n draw
   pub shows : line ≡ show_call t op (key_in line start end) rate n draw
 
 -- what is found in a call line
-abbrev pub CallRead : List ℕ → CallLine → Type 0
-CallRead line (call.Call t op start end rate n draw) = ReadCall line t op start end rate n draw
-CallRead line call.Bad = Unit {0}
+abbrev pub CallRead : List ℕ → Option CallLine → Type 0
+CallRead line (Some l) = ReadCall line l.t l.op l.start l.end l.rate l.n l.draw
+CallRead line None = Unit {0}
 
 call-joined : (line : List ℕ) (t : ℕ) (op : Op) (start end rate n draw a b : ℕ) → Field line 0 t_text t a →
     (b ≡ a + length (op_text op)) × (drop a line ≡ op_text op ++ drop b line) →
@@ -298,21 +294,21 @@ call-joined line t op start end rate n draw a b p q x h =
 pub call-read : (line : List ℕ) → CallRead line (read_call line)
 unfolding read_call
 call-read line =
-    each_number (CallRead line) (field_at line 0 t_text) call.Bad _ tt
+    each_number (CallRead line) (field_at line 0 t_text) None _ tt
     (λ t a p.
-    each-name (CallRead line) (op_at line a) call.Bad _ tt
+    each-name (CallRead line) (op_at line a) None _ tt
     (λ op b q.
-    each_tail (CallRead line) (tail_at line b key_text rate_text n_text draw_text) call.Bad _ tt
+    each_tail (CallRead line) (tail_at line b key_text rate_text n_text draw_text) None _ tt
     (λ start end rate n draw x.
-    each-test (CallRead line) (is_exact rate) (call.Call t op start end rate n draw) call.Bad tt
+    each-test (CallRead line) (is_exact rate) (Some (call_line t op start end rate n draw)) None tt
     (λ h.
     call-joined line t op start end rate n draw a b (field-read line t_text 0 t a p) (op-read line a op b q)
     (tail-read line key_text rate_text n_text draw_text b start end rate n draw x) (exact-is rate h)))))
 
-call_line : (line : List ℕ) (t : ℕ) (op : Op) (key : List ℕ) (rate n draw : ℕ) → CallFits t key rate n draw → line ≡ show_call t op key rate n draw →
-    read_call line ≡ call.Call t op (key_start t op) (key_start t op + length key) rate n draw
+call-line : (line : List ℕ) (t : ℕ) (op : Op) (key : List ℕ) (rate n draw : ℕ) → CallFits t key rate n draw → line ≡ show_call t op key rate n draw →
+    read_call line ≡ Some (call_line t op (key_start t op) (key_start t op + length key) rate n draw)
 unfolding read_call show_call
-call_line line t op key rate n draw f e =
+call-line line t op key rate n draw f e =
     let r₂ : List ℕ = key_text ++ (key ++ show_numbers rate_text rate n_text n draw_text draw) in
     let r₁ : List ℕ = op_text op ++ r₂ in
     let a : ℕ = 0 + length t_text + length (show_number t) in
@@ -328,16 +324,16 @@ call_line line t op key rate n draw f e =
       tail-shown line key_text rate_text n_text draw_text b key rate n draw refl refl refl f.keys m q,
       is-exact rate f.rates,
     )
-    (ap (λ (i : ℕ). call.Call t op i (i + length key) rate n draw) k)
+    (ap (λ (i : ℕ). Some (call_line t op i (i + length key) rate n draw)) k)
 
 -- a call that is shown reads as this call
 pub call-shown : (t : ℕ) (op : Op) (key : List ℕ) (rate n draw : ℕ) → CallFits t key rate n draw →
-    read_call (show_call t op key rate n draw) ≡ call.Call t op (key_start t op) (key_start t op + length key) rate n draw
-call-shown t op key rate n draw f = call_line (show_call t op key rate n draw) t op key rate n draw f refl
+    read_call (show_call t op key rate n draw) ≡ Some (call_line t op (key_start t op) (key_start t op + length key) rate n draw)
+call-shown t op key rate n draw f = call-line (show_call t op key rate n draw) t op key rate n draw f refl
 
 -- every call line is read
 pub call-whole : (line : List ℕ) (t : ℕ) (op : Op) (key : List ℕ) (rate n draw : ℕ) → CallFits t key rate n draw → line ≡ show_call t op key rate n draw →
-    read_call line ≡ call.Bad → ⊥
+    read_call line ≡ None → ⊥
 call-whole line t op key rate n draw f e b =
     let s = call-shown t op key rate n draw f in
     let z : ◌≡◌ {A = ℕ} 0 1 = cc in

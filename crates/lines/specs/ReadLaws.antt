@@ -1,6 +1,6 @@
 -- Reading undoes showing, part by part: a part that is shown is found, and a part that is found was shown.
 -- Assumes nothing.
-use Rattle.std.specs.Prelude.{◌≡◌, refl, Bool, true, false, cond, ◌&&◌, List, [], ◌∷◌, ◌++◌, ℕ, zero, suc, ◌+◌, ◌-◌, ◌≤◌, ◌<◌, length, get_or, take, drop, leb, ltb, eqb}
+use Rattle.std.specs.Prelude.{◌≡◌, refl, Bool, true, false, cond, ◌&&◌, List, [], ◌∷◌, ◌++◌, ℕ, zero, suc, ◌+◌, ◌-◌, ◌≤◌, ◌<◌, Option, Some, None, length, get_or, take, drop, leb, ltb, eqb}
 use Rattle.std.proofs.Common.{sym, ap, subst, ◌∙◌, arith, take-append-drop, drop-drop, length-take-le, le-leb, leb-true, le-ltb, ltb-false, eq-eqb, ne_eqb, eqb-true}
 use Rattle.std.proofs.lemmas.Bool.{false≢true, eqb-false}
 use Rattle.std.proofs.Math.Decide.{dec_lt}
@@ -10,50 +10,47 @@ use Rattle.fields.specs.Bytes.{counts}
 use Rattle.fields.specs.Numbers.{show_number, value, Each, show-digits, value-show, show-value, show-length, show-first, show-small}
 use Rattle.lines.specs.Shown.{op_text}
 use Rattle.fields.specs.Ranges.{Key, largest}
-use Rattle.lines.specs.Reading.{op_at, on_name, on_numbers, on_tail}
+use Rattle.lines.specs.declared.Tail.{Tail}
+use Rattle.lines.specs.Reading.{keyed, op_at, on_name, on_numbers, on_tail}
 use Rattle.fields.specs.Parts.{run, begins, text_at, number_of, number_at, key_at, field_at, on_number, on_place}
 use Rattle.fields.specs.Turns.{run_length}
-use Rattle.fields.specs.declared.Number.{Number}
-use Rattle.fields.specs.declared.Number.TheVariants.{Found, NoNumber}
-use Rattle.fields.specs.declared.Place.{Place}
-use Rattle.fields.specs.declared.Place.TheVariants.{At, Missing}
 use Rattle.lines.specs.declared.Op.{Op}
 use Rattle.lines.specs.declared.Op.TheVariants.{AbsoluteInc, AbsoluteGet, SuppressedInc, SuppressedGet}
-use Rattle.lines.specs.declared.Numbers.{Numbers}
-use Rattle.lines.specs.declared.Numbers.TheVariants.{Are, NoNumbers}
-use Rattle.lines.specs.declared.Tail.{Tail}
-use Rattle.lines.specs.declared.Tail.TheVariants.{Keyed, NoTail}
-use Rattle.lines.specs.declared.Named.{Named}
-use Rattle.lines.specs.declared.Named.TheVariants.{Is, NoName}
 
 -- ---- what follows a part, by cases
 
-pub each_number : {A : Type 0} (P : A → Type 0) (m : Number) (bad : A) (k : ℕ → ℕ → A) → P bad → ((v n : ℕ) → m ≡ Found v n → P (k v n)) → P (on_number m bad k)
-each_number P (Found v n) bad k b f = f v n refl
-each_number P NoNumber bad k b f = b
+pub each_number : {A : Type 0} (P : A → Type 0) (m : Option (ℕ × ℕ)) (bad : A) (k : ℕ → ℕ → A) → P bad → ((v n : ℕ) → m ≡ Some (v, n) → P (k v n)) → P (on_number m bad k)
+each_number P (Some p) bad k b f = f p.0 p.1 refl
+each_number P None bad k b f = b
 
-pub each-place : {A : Type 0} (P : A → Type 0) (m : Place) (bad : A) (k : ℕ → A) → P bad → ((n : ℕ) → m ≡ At n → P (k n)) → P (on_place m bad k)
-each-place P (At n) bad k b f = f n refl
-each-place P Missing bad k b f = b
+pub each-place : {A : Type 0} (P : A → Type 0) (m : Option ℕ) (bad : A) (k : ℕ → A) → P bad → ((n : ℕ) → m ≡ Some n → P (k n)) → P (on_place m bad k)
+each-place P (Some n) bad k b f = f n refl
+each-place P None bad k b f = b
 
-pub each-name : {A : Type 0} (P : A → Type 0) (m : Named) (bad : A) (k : Op → ℕ → A) → P bad → ((op : Op) (n : ℕ) → m ≡ Is op n → P (k op n)) →
+pub each-name : {A : Type 0} (P : A → Type 0) (m : Option (Op × ℕ)) (bad : A) (k : Op → ℕ → A) → P bad → ((op : Op) (n : ℕ) → m ≡ Some (op, n) → P (k op n)) →
     P (on_name m bad k)
-each-name P (Is op n) bad k b f = f op n refl
-each-name P NoName bad k b f = b
+each-name P (Some p) bad k b f = f p.0 p.1 refl
+each-name P None bad k b f = b
 
-pub each-numbers : {A : Type 0} (P : A → Type 0) (m : Numbers) (bad : A) (k : ℕ → ℕ → ℕ → A) → P bad →
-    ((x y z : ℕ) → m ≡ Are x y z → P (k x y z)) → P (on_numbers m bad k)
-each-numbers P (Are x y z) bad k b f = f x y z refl
-each-numbers P NoNumbers bad k b f = b
+pub each-numbers : {A : Type 0} (P : A → Type 0) (m : Option (ℕ × ℕ × ℕ)) (bad : A) (k : ℕ → ℕ → ℕ → A) → P bad →
+    ((x y z : ℕ) → m ≡ Some (x, y, z) → P (k x y z)) → P (on_numbers m bad k)
+each-numbers P (Some p) bad k b f = f p.0 p.1 p.2 refl
+each-numbers P None bad k b f = b
 
-pub each_tail : {A : Type 0} (P : A → Type 0) (m : Tail) (bad : A) (k : ℕ → ℕ → ℕ → ℕ → ℕ → A) → P bad →
-    ((start end x y z : ℕ) → m ≡ Keyed start end x y z → P (k start end x y z)) → P (on_tail m bad k)
-each_tail P (Keyed start end x y z) bad k b f = f start end x y z refl
-each_tail P NoTail bad k b f = b
+pub each_tail : {A : Type 0} (P : A → Type 0) (m : Option Tail) (bad : A) (k : ℕ → ℕ → ℕ → ℕ → ℕ → A) → P bad →
+    ((start end x y z : ℕ) → m ≡ Some (keyed start end x y z) → P (k start end x y z)) → P (on_tail m bad k)
+each_tail P (Some x) bad k b f = f x.start x.end x.numbers.0 x.numbers.1 x.numbers.2 refl
+each_tail P None bad k b f = b
 
 pub each-test : {A : Type 0} (P : A → Type 0) (t : Bool) (good bad : A) → P bad → (t ≡ true → P good) → P (cond t good bad)
 each-test P true good bad b f = f refl
 each-test P false good bad b f = b
+
+-- what a pair that was found holds
+pub pair_is : {A B : Type 0} (a c : A) (b d : B) → ◌≡◌ {A = Option (A × B)} (Some (a, b)) (Some (c, d)) → (c ≡ a) × (d ≡ b)
+pair_is {A} {B} a c b d e =
+    let p : ◌≡◌ {A = A × B} (a, b) (c, d) = cc in
+    (sym (ap (λ (x : A × B). x.0) p), sym (ap (λ (x : A × B). x.1) p))
 
 pub both : (a b : Bool) → a && b ≡ true → (a ≡ true) × (b ≡ true)
 both true b e = (refl, e)
@@ -88,15 +85,15 @@ begins-read (x ∷ xs) (b ∷ bs) e = joined x xs b bs (both (eqb b x) (begins x
         b ∷ bs ≡ x ∷ (xs ++ drop (length xs) bs)
     joined x xs b bs p f = let h = eqb-true b x p.0 in let k = f p.1 in cc
 
-pub text-shown : (line text rest : List ℕ) (at : ℕ) → drop at line ≡ text ++ rest → text_at line at text ≡ At (at + length text)
+pub text-shown : (line text rest : List ℕ) (at : ℕ) → drop at line ≡ text ++ rest → text_at line at text ≡ Some (at + length text)
 unfolding text_at
 text-shown line text rest at e = rw (e, begins-shown text rest)
 
-pub text-read : (line text : List ℕ) (at next : ℕ) → text_at line at text ≡ At next → (next ≡ at + length text) × (drop at line ≡ text ++ drop next line)
+pub text-read : (line text : List ℕ) (at next : ℕ) → text_at line at text ≡ Some next → (next ≡ at + length text) × (drop at line ≡ text ++ drop next line)
 unfolding text_at
 text-read line text at next e = go (begins text (drop at line)) refl e
   where
-    go : (t : Bool) → begins text (drop at line) ≡ t → cond t (At (at + length text)) Missing ≡ At next →
+    go : (t : Bool) → begins text (drop at line) ≡ t → cond t (Some (at + length text)) None ≡ Some next →
         (next ≡ at + length text) × (drop at line ≡ text ++ drop next line)
     go true q f =
         let k : next ≡ at + length text = cc in
@@ -132,7 +129,7 @@ run-part p line at = sym (take-append-drop (run p (drop at line)) (drop at line)
 -- ---- numbers
 
 pub number-shown : (line rest : List ℕ) (at n : ℕ) → drop at line ≡ show_number n ++ rest → n ≤ largest → Stops (counts false) rest →
-    number_at line at ≡ Found n (at + length (show_number n))
+    number_at line at ≡ Some (n, at + length (show_number n))
 unfolding number_at number_of
 number-shown line rest at n e h s =
     rw (
@@ -167,7 +164,7 @@ digits-read (b ∷ bs) (suc k) h e n z = show-value b (take k bs) e (λ q. alone
         let x : k ≡ 0 = omega (arith, ltb-false 1 (suc k) y) in
         rw x
 
-pub number_read : (line : List ℕ) (at n next : ℕ) → number_at line at ≡ Found n next →
+pub number_read : (line : List ℕ) (at n next : ℕ) → number_at line at ≡ Some (n, next) →
     (n ≤ largest) × (drop at line ≡ show_number n ++ drop next line) × (next ≡ at + length (show_number n))
 unfolding number_at number_of
 number_read line at n next e =
@@ -177,16 +174,17 @@ number_read line at n next e =
     go : (t : Bool) → eqb (run (counts false) (drop at line)) 0 ≡ t → (u : Bool) →
         eqb (get_or (drop at line) 0 0) 48 && ltb 1 (run (counts false) (drop at line)) ≡ u →
         (w : Bool) → leb (value (take (run (counts false) (drop at line)) (drop at line))) largest ≡ w →
-        cond t NoNumber (cond u NoNumber
-        (cond w (Found (value (take (run (counts false) (drop at line)) (drop at line))) (at + run (counts false) (drop at line))) NoNumber)) ≡
-        Found n next →
+        cond {A = Option (ℕ × ℕ)} t None (cond u None
+        (cond w (Some (value (take (run (counts false) (drop at line)) (drop at line)), at + run (counts false) (drop at line))) None)) ≡
+        Some (n, next) →
         (n ≤ largest) × (drop at line ≡ show_number n ++ drop next line) × (next ≡ at + length (show_number n))
     go true a u b w d f = absurd (let z : ◌≡◌ {A = ℕ} 0 1 = cc in omega arith)
     go false a true b w d f = absurd (let z : ◌≡◌ {A = ℕ} 0 1 = cc in omega arith)
     go false a false b false d f = absurd (let z : ◌≡◌ {A = ℕ} 0 1 = cc in omega arith)
     go false a false b true d f =
-        let v : n ≡ value (take (run (counts false) (drop at line)) (drop at line)) = cc in
-        let x : next ≡ at + run (counts false) (drop at line) = cc in
+        let r = pair_is (value (take (run (counts false) (drop at line)) (drop at line))) n (at + run (counts false) (drop at line)) next f in
+        let v = r.0 in
+        let x = r.1 in
         let s : show_number n ≡ take (run (counts false) (drop at line)) (drop at line) =
         ap show_number v ∙ digits-read (drop at line) (run (counts false) (drop at line)) (run_length (counts false) (drop at line))
         (run-each (counts false) (drop at line)) (eqb-false _ _ a) b in
@@ -202,7 +200,7 @@ pub record Field (line : List ℕ) (at : ℕ) (text : List ℕ) (n next : ℕ) :
   pub past : next ≡ at + length text + length (show_number n)
 
 pub field-shown : (line text rest : List ℕ) (at n : ℕ) → drop at line ≡ text ++ (show_number n ++ rest) → n ≤ largest → Stops (counts false) rest →
-    field_at line at text ≡ Found n (at + length text + length (show_number n))
+    field_at line at text ≡ Some (n, at + length text + length (show_number n))
 unfolding field_at
 field-shown line text rest at n e h s =
     rw (text-shown line text (show_number n ++ rest) at e) (number-shown line rest (at + length text) n (past-part line text (show_number n ++ rest) at e) h s)
@@ -211,20 +209,20 @@ pub past-field : (line text rest : List ℕ) (at n : ℕ) → drop at line ≡ t
     drop (at + length text + length (show_number n)) line ≡ rest
 past-field line text rest at n e = past-part line (show_number n) rest (at + length text) (past-part line text (show_number n ++ rest) at e)
 
-pub field-read : (line text : List ℕ) (at n next : ℕ) → field_at line at text ≡ Found n next → Field line at text n next
+pub field-read : (line text : List ℕ) (at n next : ℕ) → field_at line at text ≡ Some (n, next) → Field line at text n next
 unfolding field_at
 field-read line text at n next e = go (text_at line at text) refl e
   where
-    go : (m : Place) → text_at line at text ≡ m → on_place m NoNumber (λ k. number_at line k) ≡ Found n next → Field line at text n next
-    go (At k) q f =
+    go : (m : Option ℕ) → text_at line at text ≡ m → on_place m None (λ k. number_at line k) ≡ Some (n, next) → Field line at text n next
+    go (Some k) q f =
         let a = text-read line text at k q in
         let b = number_read line k n next f in
         record { fits = b.0; shows = a.1 ∙ ap (λ (l : List ℕ). text ++ l) b.1; past = omega (arith, a.0, b.2) }
-    go Missing q f = absurd (let z : ◌≡◌ {A = ℕ} 0 1 = cc in omega arith)
+    go None q f = absurd (let z : ◌≡◌ {A = ℕ} 0 1 = cc in omega arith)
 
 -- ---- keys
 
-pub key-shown : (line key rest : List ℕ) (at : ℕ) → drop at line ≡ key ++ rest → Key key → Stops (counts true) rest → key_at line at ≡ At (at + length key)
+pub key-shown : (line key rest : List ℕ) (at : ℕ) → drop at line ≡ key ++ rest → Key key → Stops (counts true) rest → key_at line at ≡ Some (at + length key)
 unfolding key_at
 key-shown line key rest at e h s = rw (e, run-shown (counts true) key rest h.plain s, le-leb _ _ h.some, le-leb _ _ h.short)
 
@@ -233,12 +231,12 @@ pub record KeyRead (line : List ℕ) (at next : ℕ) (key : List ℕ) : Type 0 w
   pub shows : drop at line ≡ key ++ drop next line
   pub past : next ≡ at + length key
 
-pub key-read : (line : List ℕ) (at next : ℕ) → key_at line at ≡ At next → KeyRead line at next (take (next - at) (drop at line))
+pub key-read : (line : List ℕ) (at next : ℕ) → key_at line at ≡ Some next → KeyRead line at next (take (next - at) (drop at line))
 unfolding key_at
 key-read line at next e = go (leb 1 (run (counts true) (drop at line)) && leb (run (counts true) (drop at line)) 32) refl e
   where
     go : (t : Bool) → leb 1 (run (counts true) (drop at line)) && leb (run (counts true) (drop at line)) 32 ≡ t →
-        cond t (At (at + run (counts true) (drop at line))) Missing ≡ At next → KeyRead line at next (take (next - at) (drop at line))
+        cond t (Some (at + run (counts true) (drop at line))) None ≡ Some next → KeyRead line at next (take (next - at) (drop at line))
     go true q f =
         let b = both (leb 1 (run (counts true) (drop at line))) (leb (run (counts true) (drop at line)) 32) q in
         let o : 1 ≤ run (counts true) (drop at line) = leb-true _ _ b.0 in
@@ -257,28 +255,28 @@ key-read line at next e = go (leb 1 (run (counts true) (drop at line)) && leb (r
 
 -- ---- operations
 
-pub op-shown : (line rest : List ℕ) (at : ℕ) (op : Op) → drop at line ≡ op_text op ++ rest → op_at line at ≡ Is op (at + length (op_text op))
+pub op-shown : (line rest : List ℕ) (at : ℕ) (op : Op) → drop at line ≡ op_text op ++ rest → op_at line at ≡ Some (op, at + length (op_text op))
 unfolding op_at text_at begins
 op-shown line rest at AbsoluteInc e = rw e
 op-shown line rest at AbsoluteGet e = rw e
 op-shown line rest at SuppressedInc e = rw e
 op-shown line rest at SuppressedGet e = rw e
 
-abbrev OpRead : List ℕ → ℕ → Named → Type 0
-OpRead line at (Is op next) = (next ≡ at + length (op_text op)) × (drop at line ≡ op_text op ++ drop next line)
-OpRead line at NoName = Unit {0}
+abbrev OpRead : List ℕ → ℕ → Option (Op × ℕ) → Type 0
+OpRead line at (Some p) = (p.1 ≡ at + length (op_text p.0)) × (drop at line ≡ op_text p.0 ++ drop p.1 line)
+OpRead line at None = Unit {0}
 
-op-if : (line : List ℕ) (at : ℕ) (op : Op) (other : Named) → OpRead line at other →
-    OpRead line at (on_place (text_at line at (op_text op)) other (λ next. Is op next))
+op-if : (line : List ℕ) (at : ℕ) (op : Op) (other : Option (Op × ℕ)) → OpRead line at other →
+    OpRead line at (on_place (text_at line at (op_text op)) other (λ next. Some (op, next)))
 op-if line at op other h = go (text_at line at (op_text op)) refl
   where
-    go : (m : Place) → text_at line at (op_text op) ≡ m → OpRead line at (on_place m other (λ next. Is op next))
-    go (At k) q = text-read line (op_text op) at k q
-    go Missing q = h
+    go : (m : Option ℕ) → text_at line at (op_text op) ≡ m → OpRead line at (on_place m other (λ next. Some (op, next)))
+    go (Some k) q = text-read line (op_text op) at k q
+    go None q = h
 
-pub op-read : (line : List ℕ) (at : ℕ) (op : Op) (next : ℕ) → op_at line at ≡ Is op next →
+pub op-read : (line : List ℕ) (at : ℕ) (op : Op) (next : ℕ) → op_at line at ≡ Some (op, next) →
     (next ≡ at + length (op_text op)) × (drop at line ≡ op_text op ++ drop next line)
 unfolding op_at
 op-read line at op next e =
-    subst (λ (m : Named). OpRead line at m) e
-    (op-if line at AbsoluteInc _ (op-if line at AbsoluteGet _ (op-if line at SuppressedInc _ (op-if line at SuppressedGet NoName tt))))
+    subst (λ (m : Option (Op × ℕ)). OpRead line at m) e
+    (op-if line at AbsoluteInc _ (op-if line at AbsoluteGet _ (op-if line at SuppressedInc _ (op-if line at SuppressedGet None tt))))

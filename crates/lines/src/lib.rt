@@ -5,7 +5,7 @@
 ghost use Rattle.std.specs.Prelude.{◌≡◌};
 ghost use Rattle.lines.specs.Reading.{op_at, numbers_at, tail_at, is_exact, read_settings, read_call};
 
-use fields::{Number, Place, field_at, key_at, text_at};
+use fields::{field_at, key_at, text_at};
 
 // ---- the lines that are read
 
@@ -18,75 +18,57 @@ pub enum Op {
     SuppressedGet,
 }
 
-// An operation that was read, and the place past it.
-#[derive(Clone, Copy)]
-pub enum Named {
-    Is(Op, usize),
-    NoName,
-}
-
-fn op_at(line: &[u8], at: usize) -> Named
+// An operation, and the place past it.
+#[tactic(auto, unfolding(crate::specs::Reading::op_at))]
+fn op_at(line: &[u8], at: usize) -> Option<(Op, usize)>
     ensures { result ≡ op_at line.now at }
 {
-    if let Place::At(next) = text_at(line, at, b" op=ainc") {
-        return Named::Is(Op::AbsoluteInc, next);
+    if let Some(next) = text_at(line, at, b" op=ainc") {
+        return Some((Op::AbsoluteInc, next));
     }
-    if let Place::At(next) = text_at(line, at, b" op=aget") {
-        return Named::Is(Op::AbsoluteGet, next);
+    if let Some(next) = text_at(line, at, b" op=aget") {
+        return Some((Op::AbsoluteGet, next));
     }
-    if let Place::At(next) = text_at(line, at, b" op=sinc") {
-        return Named::Is(Op::SuppressedInc, next);
+    if let Some(next) = text_at(line, at, b" op=sinc") {
+        return Some((Op::SuppressedInc, next));
     }
-    if let Place::At(next) = text_at(line, at, b" op=sget") {
-        return Named::Is(Op::SuppressedGet, next);
+    if let Some(next) = text_at(line, at, b" op=sget") {
+        return Some((Op::SuppressedGet, next));
     }
-    Named::NoName
+    None
 }
 
-// The three numbers that end a line.
-#[derive(Clone, Copy)]
-pub enum Numbers {
-    Are { first: u64, second: u64, third: u64 },
-    NoNumbers,
-}
-
-// Those at `at`, each after its text, up to the line's end.
-pub fn numbers_at(line: &[u8], at: usize, first: &[u8], second: &[u8], third: &[u8]) -> Numbers
+// The three numbers that end a line: those at `at`, each after its text.
+#[tactic(auto, unfolding(crate::specs::Reading::numbers_at))]
+pub fn numbers_at(
+    line: &[u8],
+    at: usize,
+    first: &[u8],
+    second: &[u8],
+    third: &[u8],
+) -> Option<(u64, u64, u64)>
     ensures { result ≡ numbers_at line.now at first.now second.now third.now }
 {
-    let Number::Found { value: x, next: a } = field_at(line, at, first) else {
-        return Numbers::NoNumbers;
-    };
-    let Number::Found { value: y, next: b } = field_at(line, a, second) else {
-        return Numbers::NoNumbers;
-    };
-    let Number::Found { value: z, next: c } = field_at(line, b, third) else {
-        return Numbers::NoNumbers;
-    };
-    if c != line.len() {
-        return Numbers::NoNumbers;
-    }
-    Numbers::Are {
-        first: x,
-        second: y,
-        third: z,
+    let (x, a) = field_at(line, at, first)?;
+    let (y, b) = field_at(line, a, second)?;
+    let (z, c) = field_at(line, b, third)?;
+    if c == line.len() {
+        Some((x, y, z))
+    } else {
+        None
     }
 }
 
 // A key and the three numbers that end its line. The key is the part of the line from `start` up to `end`.
 #[derive(Clone, Copy)]
-pub enum Tail {
-    Keyed {
-        start: usize,
-        end: usize,
-        first: u64,
-        second: u64,
-        third: u64,
-    },
-    NoTail,
+pub struct Tail {
+    pub start: usize,
+    pub end: usize,
+    pub numbers: (u64, u64, u64),
 }
 
 // Those at `at`, each after its text.
+#[tactic(auto, unfolding(crate::specs::Reading::tail_at))]
 pub fn tail_at(
     line: &[u8],
     at: usize,
@@ -94,33 +76,21 @@ pub fn tail_at(
     first: &[u8],
     second: &[u8],
     third: &[u8],
-) -> Tail
+) -> Option<Tail>
     ensures { result ≡ tail_at line.now at key.now first.now second.now third.now }
 {
-    let Place::At(start) = text_at(line, at, key) else {
-        return Tail::NoTail;
-    };
-    let Place::At(end) = key_at(line, start) else {
-        return Tail::NoTail;
-    };
-    let Numbers::Are {
-        first: x,
-        second: y,
-        third: z,
-    } = numbers_at(line, end, first, second, third)
-    else {
-        return Tail::NoTail;
-    };
-    Tail::Keyed {
+    let start = text_at(line, at, key)?;
+    let end = key_at(line, start)?;
+    let numbers = numbers_at(line, end, first, second, third)?;
+    Some(Tail {
         start,
         end,
-        first: x,
-        second: y,
-        third: z,
-    }
+        numbers,
+    })
 }
 
 // Whether a rate or factor is at most 2^53.
+#[tactic(auto, unfolding(crate::specs::Reading::is_exact))]
 pub fn is_exact(n: u64) -> bool
     ensures { result ≡ is_exact n }
 {
@@ -129,89 +99,60 @@ pub fn is_exact(n: u64) -> bool
 
 // A settings line: `window=10 bucket=100 factor=2 cache=100`.
 #[derive(Clone, Copy)]
-pub enum SettingsLine {
-    Settings {
-        window: u64,
-        bucket: u64,
-        factor: u64,
-        cache: u64,
-    },
-    Bad,
+pub struct SettingsLine {
+    pub window: u64,
+    pub bucket: u64,
+    pub factor: u64,
+    pub cache: u64,
 }
 
-pub fn read_settings(line: &[u8]) -> SettingsLine
+#[tactic(auto, unfolding(crate::specs::Reading::read_settings))]
+pub fn read_settings(line: &[u8]) -> Option<SettingsLine>
     ensures { result ≡ read_settings line.now }
 {
-    let Number::Found {
-        value: window,
-        next: a,
-    } = field_at(line, 0, b"window=")
-    else {
-        return SettingsLine::Bad;
-    };
-    let Numbers::Are {
-        first: bucket,
-        second: factor,
-        third: cache,
-    } = numbers_at(line, a, b" bucket=", b" factor=", b" cache=")
-    else {
-        return SettingsLine::Bad;
-    };
+    let (window, a) = field_at(line, 0, b"window=")?;
+    let (bucket, factor, cache) = numbers_at(line, a, b" bucket=", b" factor=", b" cache=")?;
     if !is_exact(factor) {
-        return SettingsLine::Bad;
+        return None;
     }
-    SettingsLine::Settings {
+    Some(SettingsLine {
         window,
         bucket,
         factor,
         cache,
-    }
+    })
 }
 
 // A call line: `t=0 op=sinc key=a rate=60 n=8 draw=0`. The key is the part of the line from `start` up to `end`.
 #[derive(Clone, Copy)]
-pub enum CallLine {
-    Call {
-        t: u64,
-        op: Op,
-        start: usize,
-        end: usize,
-        rate: u64,
-        n: u64,
-        draw: u64,
-    },
-    Bad,
+pub struct CallLine {
+    pub t: u64,
+    pub op: Op,
+    pub start: usize,
+    pub end: usize,
+    pub rate: u64,
+    pub n: u64,
+    pub draw: u64,
 }
 
-pub fn read_call(line: &[u8]) -> CallLine
+#[tactic(auto, unfolding(crate::specs::Reading::read_call))]
+pub fn read_call(line: &[u8]) -> Option<CallLine>
     ensures { result ≡ read_call line.now }
 {
-    let Number::Found { value: t, next: a } = field_at(line, 0, b"t=") else {
-        return CallLine::Bad;
-    };
-    let Named::Is(op, b) = op_at(line, a) else {
-        return CallLine::Bad;
-    };
-    let Tail::Keyed {
-        start,
-        end,
-        first: rate,
-        second: n,
-        third: draw,
-    } = tail_at(line, b, b" key=", b" rate=", b" n=", b" draw=")
-    else {
-        return CallLine::Bad;
-    };
+    let (t, a) = field_at(line, 0, b"t=")?;
+    let (op, b) = op_at(line, a)?;
+    let tail = tail_at(line, b, b" key=", b" rate=", b" n=", b" draw=")?;
+    let (rate, n, draw) = tail.numbers;
     if !is_exact(rate) {
-        return CallLine::Bad;
+        return None;
     }
-    CallLine::Call {
+    Some(CallLine {
         t,
         op,
-        start,
-        end,
+        start: tail.start,
+        end: tail.end,
         rate,
         n,
         draw,
-    }
+    })
 }

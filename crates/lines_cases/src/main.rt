@@ -4,11 +4,9 @@
 // So is a shot, with its own number in n's place.
 #![tactic(auto)]
 
-use lines::{CallLine, Op, SettingsLine};
+use lines::Op;
 use printing::{Answer, AnswerLine};
-use shot_lines::ShotLine;
 use std::io;
-use told::LineAnswer;
 
 fn write(rt: &impl Print, out: &[u8], n: usize) -> io::Result<()> {
     if n <= out.len() {
@@ -35,84 +33,64 @@ fn number_of(op: Op) -> u64 {
 
 fn call(rt: &impl Print, line: &[u8]) -> io::Result<()> {
     match lines::read_call(line) {
-        CallLine::Call {
-            t,
-            op,
-            start,
-            end,
-            rate,
-            n,
-            draw,
-        } => {
+        Some(l) => {
             say(
                 rt,
                 AnswerLine {
-                    t,
-                    code: number_of(op),
+                    t: l.t,
+                    code: number_of(l.op),
                     answer: Answer::Value,
-                    factor: draw,
-                    wait: rate,
-                    left: n,
-                    total: start as u64,
-                    declined: end as u64,
+                    factor: l.draw,
+                    wait: l.rate,
+                    left: l.n,
+                    total: l.start as u64,
+                    declined: l.end as u64,
                 },
             )
         }
-        CallLine::Bad => { println!(rt; "bad") }
+        None => { println!(rt; "bad") }
     }
 }
 
 fn shot(rt: &impl Print, line: &[u8]) -> io::Result<()> {
     match shot_lines::read_shot(line) {
-        ShotLine::Shot {
-            t,
-            start,
-            end,
-            number,
-            rate,
-            draw,
-        } => {
+        Some(l) => {
             say(
                 rt,
                 AnswerLine {
-                    t,
+                    t: l.t,
                     code: 0,
                     answer: Answer::Value,
-                    factor: draw,
-                    wait: rate,
-                    left: number,
-                    total: start as u64,
-                    declined: end as u64,
+                    factor: l.draw,
+                    wait: l.rate,
+                    left: l.number,
+                    total: l.start as u64,
+                    declined: l.end as u64,
                 },
             )
         }
-        ShotLine::Bad => { println!(rt; "bad") }
+        None => { println!(rt; "bad") }
     }
 }
 
 fn settings(rt: &impl Print, line: &[u8]) -> io::Result<()> {
     match lines::read_settings(line) {
-        SettingsLine::Settings {
-            window,
-            bucket,
-            factor,
-            cache,
-        } => {
+        Some(l) => {
             say(
                 rt,
                 AnswerLine {
-                    t: window,
+                    t: l.window,
                     code: 0,
                     answer: Answer::Value,
                     factor: 0,
-                    wait: bucket,
-                    left: factor,
-                    total: cache,
+                    wait: l.bucket,
+                    left: l.factor,
+                    total: l.cache,
                     declined: 0,
                 },
             )
         }
-        SettingsLine::Bad => { println!(rt; "bad") }
+        None => { println!(rt; "bad") }
     }
 }
 
@@ -241,8 +219,8 @@ fn answers(rt: &impl Print) -> io::Result<()> {
 
 fn back(rt: &impl Print, line: &[u8]) -> io::Result<()> {
     match readback::read_line(line) {
-        LineAnswer::Line(l) => { say(rt, told::line_of(l)) }
-        LineAnswer::Refused(_) => { println!(rt; "14") }
+        Ok(l) => { say(rt, told::line_of(l)) }
+        Err(_) => { println!(rt; "14") }
     }
 }
 

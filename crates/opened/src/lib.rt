@@ -50,30 +50,19 @@ pub fn no_slot(at: usize) -> Slot
 pub fn has_slot(x: Slot) -> bool
     ensures { result ≡ has_slot x }
 {
-    let series = x.series;
-    let cached = x.cached;
-    if series {
-        return true;
-    }
-    cached
+    x.series || x.cached
 }
 
 pub fn has_series(u: u64) -> bool
     ensures { result ≡ has_series u }
 {
-    if u == layout::SERIES {
-        return true;
-    }
-    u == layout::BOTH
+    u == layout::SERIES || u == layout::BOTH
 }
 
 fn has_cached(u: u64) -> bool
     ensures { result ≡ has_cached u }
 {
-    if u == layout::CACHED {
-        return true;
-    }
-    u == layout::BOTH
+    u == layout::CACHED || u == layout::BOTH
 }
 
 fn series_pass(
@@ -87,10 +76,11 @@ fn series_pass(
 ) -> Pass
     ensures { result ≡ pick_pass series (looked_pass look reading b.now (pass_of r b.now last reading window)) }
 {
-    if !series {
-        return sweep::no_pass();
+    if series {
+        sweep::pass(b, r, last, reading, window, look)
+    } else {
+        sweep::no_pass()
     }
-    sweep::pass(b, r, last, reading, window, look)
 }
 
 // The body of slot `at`, of use `u`, opened: the one pass over its buckets is made here.
@@ -144,18 +134,7 @@ pub fn open_at(w: &[u64], at: usize, reading: u64, window: u64, look: u64) -> Sl
 fn with_pass(x: Slot, pass: Pass) -> Slot
     ensures { result ≡ passing pass x }
 {
-    Slot {
-        at: x.at,
-        used: x.used,
-        series: x.series,
-        cached: x.cached,
-        limit: x.limit,
-        total: x.total,
-        declined: x.declined,
-        factor: x.factor,
-        factor_time: x.factor_time,
-        pass,
-    }
+    Slot { pass, ..x }
 }
 
 // The same, built anew.
@@ -172,17 +151,12 @@ fn again(x: Mark) -> Mark
 fn all_stay(x: Slot) -> Slot
     ensures { result ≡ all_stay x }
 {
-    let pass = x.pass;
-    let eldest = pass.eldest;
     let pass = Pass {
-        sound: pass.sound,
-        buckets: pass.buckets,
         expired: 0,
         live_total: x.total,
         live_declined: x.declined,
-        newest_time: pass.newest_time,
-        oldest: eldest,
-        eldest,
+        oldest: x.pass.eldest,
+        ..x.pass
     };
     with_pass(x, pass)
 }
@@ -209,13 +183,7 @@ pub fn rebuilt(x: Slot) -> Slot
 fn leaves_expired(look: u64, reading: u64, x: Slot) -> bool
     ensures { result ≡ leaves_expired look reading x }
 {
-    let pass = x.pass;
-    let expired = pass.expired;
-    let eldest = pass.eldest;
-    if expired == 0 {
-        return false;
-    }
-    ring::less(reading, eldest.time) <= look
+    x.pass.expired != 0 && reading.saturating_sub(x.pass.eldest.time) <= look
 }
 
 // The slot as a first look leaves it.
@@ -223,9 +191,10 @@ pub fn first_look(look: u64, reading: u64, x: Slot) -> Slot
     ensures { result ≡ first_look look reading x }
 {
     if leaves_expired(look, reading, x) {
-        return all_stay(x);
+        all_stay(x)
+    } else {
+        x
     }
-    x
 }
 
 // The slot as a first look leaves it, unless a call goes on without one.
@@ -233,9 +202,10 @@ pub fn looked_unless(without: bool, look: u64, reading: u64, x: Slot) -> Slot
     ensures { result ≡ pick_slot without x (first_look look reading x) }
 {
     if without {
-        return x;
+        x
+    } else {
+        first_look(look, reading, x)
     }
-    first_look(look, reading, x)
 }
 
 pub fn divisor(kind: RoomKind, factor: f64) -> f64
@@ -261,60 +231,29 @@ fn use_right(kind: RoomKind, u: u64) -> bool
 {
     match kind {
         RoomKind::Absolute => u == layout::SERIES,
-        RoomKind::Suppressed => {
-            if has_series(u) {
-                return true;
-            }
-            has_cached(u)
-        }
+        RoomKind::Suppressed => has_series(u) || has_cached(u),
     }
 }
 
 fn series_right(kind: RoomKind, settings: Settings, x: Slot) -> bool
     ensures { result ≡ series_right kind settings x }
 {
-    let series = x.series;
-    let pass = x.pass;
-    let sound = pass.sound;
-    if !series {
-        return true;
-    }
-    if !sound {
-        return false;
-    }
-    if !declined_right(kind, x.declined) {
-        return false;
-    }
-    common::is_limit(
-        x.limit,
-        settings.window_size,
-        divisor(kind, settings.hard_limit_factor),
-    )
+    let divisor = divisor(kind, settings.hard_limit_factor);
+    !x.series
+        || (x.pass.sound
+            && declined_right(kind, x.declined)
+            && common::is_limit(x.limit, settings.window_size, divisor))
 }
 
 fn cached_right(last: u64, x: Slot) -> bool
     ensures { result ≡ cached_right last x }
 {
-    let cached = x.cached;
-    let time = x.factor_time;
-    if !cached {
-        return true;
-    }
-    if !suppression::is_factor(x.factor) {
-        return false;
-    }
-    time <= last
+    !x.cached || (suppression::is_factor(x.factor) && x.factor_time <= last)
 }
 
 // Whether an opened slot is sound; its key is judged elsewhere.
 pub fn slot_right(kind: RoomKind, settings: Settings, last: u64, u: u64, x: Slot) -> bool
     ensures { result ≡ slot_right kind settings last u x }
 {
-    if !use_right(kind, u) {
-        return false;
-    }
-    if !series_right(kind, settings, x) {
-        return false;
-    }
-    cached_right(last, x)
+    use_right(kind, u) && series_right(kind, settings, x) && cached_right(last, x)
 }

@@ -14,7 +14,7 @@ use Rattle.std.proofs.Math.Pow.{high, ones_lt, ones_split}
 use Rattle.std.specs.Int.Bits.{bit_and}
 use Rattle.std.proofs.lemmas.Nat.{and_mask, and_block, ones_cat}
 use Rattle.std.specs.Int.Count.{ones, ones_in, ones-ones}
-use Rattle.common.specs.Refusals.{first}
+use Rattle.common.specs.Refusals.{first, ruled}
 use Rattle.base.specs.Bits.{bit_at, bit-lt, low_bits}
 use Rattle.base.specs.Decides.{and-true, true-and, not_so}
 use Rattle.base.specs.Every.{every, every-at}
@@ -266,26 +266,13 @@ turns-not-five w c = go (not (is_party c.party)) (overdrawn w c)
 
 module _ (w : List ℕ) (c : Caller) (z : Standing) where
   -- 5 where a slot is neither party's, and only there
-  pub standing-stray : z ≡ standing_of w c → ours w ≡ false → z.code ≡ 5
-  unfolding standing_of first
-  standing-stray e q = ap (λ (y : Standing). y.code) e ∙ rw q
+  pub standing-ours : z ≡ standing_of w c → z.ours ≡ ours w
+  unfolding standing_of
+  standing-ours e = ap (λ (y : Standing). y.ours) e
 
-  pub standing-turns : z ≡ standing_of w c → ours w ≡ true → z.code ≡ first (turns w c)
-  unfolding standing_of first
-  standing-turns e q = ap (λ (y : Standing). y.code) e ∙ rw q
-
-  pub standing-not-five : z ≡ standing_of w c → ours w ≡ true → z.code ≢ 5
-  standing-not-five e q p = turns-not-five w c (sym (standing-turns e q) ∙ p)
-
-  pub standing-ours : z ≡ standing_of w c → z.code ≢ 5 → ours w ≡ true
-  standing-ours e n = not-no (ours w) (λ q. n (standing-stray e q))
-    where
-      not-no : (t : Bool) → t ≢ false → t ≡ true
-      not-no true h = refl
-      not-no false h = absurd (h refl)
-
-  pub standing-not-ours : z ≡ standing_of w c → z.code ≡ 5 → ours w ≡ false
-  standing-not-ours e p = not_so (ours w) (λ q. standing-not-five e q p)
+  pub standing-turns : z ≡ standing_of w c → ours w ≡ true → z.turned ≡ ruled (first (turns w c))
+  unfolding standing_of
+  standing-turns e q = ap (λ (y : Standing). y.turned) e ∙ rw q
 
   pub standing-none : z ≡ standing_of w c → ours w ≡ true → z.none ≡ none_left w c
   unfolding standing_of

@@ -1,13 +1,13 @@
 -- Two parties share a room (document 02, ticket 6): whose a slot is, how many slots each holds, and what is refused by that. A call comes with its party
 -- and the two promises; a key belongs to the party that sends it.
 -- Assumes nothing.
-use Rattle.std.specs.Prelude.{Bool, false, cond, not, ◌||◌, List, [], ◌∷◌, ℕ, zero, suc, ◌+◌, leb, ltb, eqb}
+use Rattle.std.specs.Prelude.{Ok, Bool, false, cond, not, ◌||◌, List, [], ◌∷◌, ℕ, zero, suc, ◌+◌, leb, ltb, eqb}
 use Rattle.base.specs.Every.{every}
 use Rattle.layout.specs.Layout.{nobody, first_mark, second_mark}
 use Rattle.keys.specs.declared.Key.{Key}
 use Rattle.keys.specs.Keys.{key_of}
 use Rattle.room.specs.Room.{slots_of, holder_of}
-use Rattle.common.specs.Refusals.{first}
+use Rattle.common.specs.Refusals.{first, ruled}
 use Rattle.parties.specs.declared.Caller.{Caller}
 use Rattle.parties.specs.declared.Standing.{Standing}
 
@@ -73,6 +73,10 @@ turns w c = (15, not (is_party c.party)) ∷ (16, overdrawn w c) ∷ []
 unfoldable pub none_left : List ℕ → Caller → Bool
 none_left w c = leb (promised c) (holding w c)
 
--- what is judged of the parties alone: 5 where "a slot in use is neither party's", then 15 and 16; and whether no slot is left
+-- what is judged of the parties alone: whether none of the slots in use "is neither party's" (5); where so, 15 and 16, and whether no slot is left
 unfoldable pub standing_of : List ℕ → Caller → Standing
-standing_of w c = record { code = first ((5, not (ours w)) ∷ turns w c); none = cond (ours w) (none_left w c) false }
+standing_of w c = record {
+  ours = ours w;
+  turned = cond (ours w) (ruled (first (turns w c))) (Ok tt);
+  none = cond (ours w) (none_left w c) false;
+}

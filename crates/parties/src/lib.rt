@@ -2,12 +2,14 @@
 #![tactic(auto)]
 
 ghost use Rattle.std.specs.Prelude.{◌≡◌, true, ◌%◌, ◌^◌, ◌≤◌};
-ghost use Rattle.common.specs.Refusals.{first};
+ghost use Rattle.common.specs.Refusals.{first, ruled};
 ghost use Rattle.room.specs.Room.{Room, slots_of};
 ghost use Rattle.parties.specs.Parties.{is_party, mark_of, none_left, turns, standing_of};
 ghost use Rattle.parties.specs.Census.{census_of, overdrawn_by, Counts};
 
-// Who calls: a party, 1 or 2, and how many slots each of the two is promised.
+use common::Refusal;
+
+// Who calls: a party, 1 or 2, and how many slots each of the two is promised. Any number may be handed over, and 15 turns others away.
 #[derive(Clone, Copy)]
 pub struct Caller {
     pub party: u64,
@@ -23,10 +25,11 @@ pub struct Holdings {
     pub second: u64,
 }
 
-// The first of 5 for a slot that is neither party's, 15 and 16, or 0; and whether the caller's party already holds all slots that it is promised.
+// Whether every slot in use is a party's; where it is, what 15 and 16 say, and whether the caller's party already holds all slots that it is promised.
 #[derive(Clone, Copy)]
 pub struct Standing {
-    pub code: u64,
+    pub ours: bool,
+    pub turned: Result<(), Refusal>,
     pub none: bool,
 }
 
@@ -40,10 +43,7 @@ pub fn mark(party: u64) -> u64
 pub fn is_party(party: u64) -> bool
     ensures { result ≡ is_party party }
 {
-    if party == 1 {
-        return true;
-    }
-    party == 2
+    party == 1 || party == 2
 }
 
 // The bits of a word that are of the room's own slots.
@@ -51,7 +51,7 @@ fn own_bits(slots: u64, x: u64) -> u64
     requires { (1 ≤ slots) × (slots ≤ 64) }
     ensures { result ≡ x % 2 ^ slots }
 {
-    x & (18446744073709551615 >> (64 - slots))
+    x & (u64::MAX >> (64 - slots))
 }
 
 // Two words tell it of all slots: no slot is both parties', and each word's bits are counted.
@@ -73,32 +73,24 @@ pub fn census(w: &[u64]) -> Holdings
 fn is_overdrawn(slots: u64, caller: Caller, held: Holdings) -> bool
     ensures { result ≡ overdrawn_by slots caller held }
 {
-    let first = caller.first;
-    let second = caller.second;
-    if slots < first {
-        return true;
-    }
-    if slots - first < second {
-        return true;
-    }
-    if first < held.first {
-        return true;
-    }
-    second < held.second
+    slots < caller.first
+        || slots - caller.first < caller.second
+        || caller.first < held.first
+        || caller.second < held.second
 }
 
-// The first of refusals 15 and 16 that applies, or 0.
-pub fn refusal(w: &[u64], caller: Caller, held: Holdings) -> u64
+// Turned away with the first of 15 and 16 that applies.
+pub fn check(w: &[u64], caller: Caller, held: Holdings) -> Result<(), Refusal>
     requires { Room w.now × Counts w.now held }
-    ensures { result ≡ first (turns w.now caller) }
+    ensures { result ≡ ruled (first (turns w.now caller)) }
 {
     if !is_party(caller.party) {
-        return 15;
+        return Err(Refusal::BAD_PARTY);
     }
     if is_overdrawn(w[layout::SLOTS], caller, held) {
-        return 16;
+        return Err(Refusal::BAD_PROMISE);
     }
-    0
+    Ok(())
 }
 
 // Whether the caller's party already holds its promised number of slots.
@@ -107,9 +99,10 @@ pub fn none_left(w: &[u64], caller: Caller, held: Holdings) -> bool
     ensures { result ≡ none_left w.now caller }
 {
     if caller.party == 1 {
-        return caller.first <= held.first;
+        caller.first <= held.first
+    } else {
+        caller.second <= held.second
     }
-    caller.second <= held.second
 }
 
 // All at once, of a call with a key.
@@ -120,12 +113,14 @@ pub fn standing_of(w: &[u64], caller: Caller) -> Standing
     let held = census(w);
     if !held.ours {
         return Standing {
-            code: 5,
+            ours: false,
+            turned: Ok(()),
             none: false,
         };
     }
     Standing {
-        code: refusal(w, caller, held),
+        ours: true,
+        turned: check(w, caller, held),
         none: none_left(w, caller, held),
     }
 }

@@ -13,67 +13,50 @@ use opened::Slot;
 // ---- where
 
 // The key's slot, or the lowest free one, or the number of slots where none is free.
+#[tactic(auto, unfolding(crate::specs::Plan::place_of))]
 pub fn place(w: &[u64], x: Slot) -> usize
     requires { Room w.now }
     ensures { result ≡ place_of w.now x }
 {
     if opened::has_slot(x) {
-        return x.at;
+        x.at
+    } else {
+        room::vacant(w)
     }
-    room::vacant(w)
 }
 
 // Whether a slot is needed and the party has none left.
+#[tactic(auto, unfolding(crate::specs::Plan::lacks_at))]
 pub fn lacks_slot(none: bool, x: Slot) -> bool
     ensures { result ≡ lacks_at none x }
 {
-    if opened::has_slot(x) {
-        return false;
-    }
-    none
+    !opened::has_slot(x) && none
 }
 
 // ---- whether an increment fits
 
 // Whether a total with the count passes 2^53; no sum wraps.
+#[tactic(auto, unfolding(rules::specs::Both::passes))]
 pub fn passes(count: u64, total: u64) -> bool
     ensures { result ≡ passes count total }
 {
-    if layout::MOST_TOTAL < count {
-        return true;
-    }
-    layout::MOST_TOTAL - count < total
+    layout::MOST_TOTAL < total.saturating_add(count)
 }
 
 // Whether an increment joins the newest bucket, once `gone` of the oldest are out.
+#[tactic(auto, unfolding(crate::specs::Plan::joins_after))]
 fn joins_after(size: u64, reading: u64, gone: usize, x: Slot) -> bool
     ensures { result ≡ joins_after size reading gone x }
 {
-    let pass = x.pass;
-    let buckets = pass.buckets;
-    if buckets <= gone {
-        return false;
-    }
-    ring::less(reading, pass.newest_time) <= size
-}
-
-// The difference, or 0.
-fn fewer(a: usize, b: usize) -> usize
-    ensures { result ≡ a - b }
-{
-    if a < b { 0 } else { a - b }
+    gone < x.pass.buckets && ring::less(reading, x.pass.newest_time) <= size
 }
 
 // Whether a bucket must be added to a full ring of `r`, once `gone` of the oldest are out.
+#[tactic(auto, unfolding(crate::specs::Plan::full_after))]
 pub fn is_ring_full(r: usize, size: u64, reading: u64, gone: usize, x: Slot) -> bool
     ensures { result ≡ full_after r size reading gone x }
 {
-    let pass = x.pass;
-    let buckets = pass.buckets;
-    if joins_after(size, reading, gone, x) {
-        return false;
-    }
-    r <= fewer(buckets, gone)
+    !joins_after(size, reading, gone, x) && r <= x.pass.buckets.saturating_sub(gone)
 }
 
 // ---- edits

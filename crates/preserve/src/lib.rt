@@ -37,10 +37,9 @@ fn grow(b: &mut [u64], r: usize, p: HistoryPreservation, reading: u64, surplus: 
     let n = ring::len(b, r);
     if n == 0 {
         ring::push(b, r, surplus, 0, reading);
-        return;
+    } else {
+        history::raise(b, r, kept_end(p, n), surplus, 0);
     }
-    let i = kept_end(p, n);
-    history::raise(b, r, i, surplus, 0);
 }
 
 // Where the `k`th of `n` buckets stands, from the end that a shortage is taken from.
@@ -60,10 +59,9 @@ fn walk(b: &[u64], r: usize, p: HistoryPreservation, m: u64) -> Cut
     ensures { Walked p r b.now m result }
 {
     let n = ring::len(b, r);
-    let mut k = 0;
     let mut rest = m;
     let mut declined = b[layout::DECLINED];
-    while k < n {
+    for k in 0..n {
         if rest == 0 {
             return Cut {
                 whole: k,
@@ -72,21 +70,18 @@ fn walk(b: &[u64], r: usize, p: HistoryPreservation, m: u64) -> Cut
             };
         }
         let x = ring::nth(b, r, lost(p, n, k));
-        let c = x.count;
-        let d = x.declined;
-        if rest < c {
+        if rest < x.count {
             return Cut {
                 whole: k,
                 rest,
                 declined,
             };
         }
-        rest -= c;
-        declined = ring::less(declined, d);
-        k += 1;
+        rest -= x.count;
+        declined = declined.saturating_sub(x.declined);
     }
     Cut {
-        whole: k,
+        whole: n,
         rest,
         declined,
     }
@@ -111,10 +106,8 @@ fn part(b: &mut [u64], r: usize, p: HistoryPreservation, reading: u64, q: u64)
     let n = ring::len(b, r);
     let i = lost(p, n, 0);
     let x = ring::nth(b, r, i);
-    let c = x.count;
-    let d = x.declined;
-    let retained = c - q;
-    let kept = share::mul_div(d, retained, c);
+    let retained = x.count - q;
+    let kept = share::mul_div(x.declined, retained, x.count);
     ring::rewrite(b, r, i, retained, kept);
 }
 
@@ -125,14 +118,10 @@ fn shrink(b: &mut [u64], r: usize, p: HistoryPreservation, reading: u64, m: u64)
 {
     let total = b[layout::TOTAL];
     let x = walk(b, r, p, m);
-    let k = x.whole;
-    let rest = x.rest;
-    let declined = x.declined;
-    take_out(b, r, p, k, total - (m - rest), declined);
-    if rest == 0 {
-        return;
+    take_out(b, r, p, x.whole, total - (m - x.rest), x.declined);
+    if x.rest != 0 {
+        part(b, r, p, reading, x.rest);
     }
-    part(b, r, p, reading, rest);
 }
 
 // Makes the live buckets count `n`, keeping the end that is to be preserved.
@@ -143,7 +132,7 @@ pub fn preserve(b: &mut [u64], r: usize, p: HistoryPreservation, reading: u64, n
     let total = b[layout::TOTAL];
     if total < n {
         grow(b, r, p, reading, n - total);
-        return;
+    } else {
+        shrink(b, r, p, reading, total - n);
     }
-    shrink(b, r, p, reading, total - n);
 }

@@ -96,19 +96,6 @@ put-append old xs mid ys new at n m p q h = record { past = past'; is = is' }
     is' : new ≡ pasted old at (xs ++ ys)
     is' = q.is ∙ ap (λ (l : List ℕ). pasted l n ys) p.is ∙ ap (λ (k : ℕ). pasted (pasted old at xs) k ys) p.past ∙ whole
 
--- a text byte by byte: a turn of the copy, and its end
-pub copy-byte : (old text mid : List ℕ) (at next j : ℕ) → next ≡ at + j → mid ≡ paste old at text j → at + j < length old → j < length text →
-    set mid next (get_or text j 0) ≡ paste old at text (j + 1)
-copy-byte old text mid at next j e f h k =
-    ap (λ (m : List ℕ). set m next (get_or text j 0)) f ∙ ap (λ (n : ℕ). set (paste old at text j) n (get_or text j 0)) e ∙ paste-suc old at text j 0 h k ∙
-    ap (λ (n : ℕ). paste old at text n) (sym (add-one j))
-
-pub put_copy : (old text : List ℕ) (at next j : ℕ) (new : List ℕ) → next ≡ at + j → new ≡ paste old at text j → length text ≤ j → j ≤ length text →
-    Put old at text new next
-put_copy old text at next j new e f h k =
-    let l : j ≡ length text = omega arith in
-    record { past = omega arith; is = f ∙ ap (λ (i : ℕ). paste old at text i) l ∙ rw take-length }
-
 -- a number, and a hex number: its last digit after the others
 pub put-digit : (old new : List ℕ) (at next b n : ℕ) → n < 10 → b ≡ 48 + n → at < length old → new ≡ set old at b → next ≡ at + 1 →
     Put old at (show_number n) new next
@@ -183,3 +170,16 @@ print-whole l old mid new n r h p q =
     let w = put-append old _ mid _ new 0 n r p.put q.put (omega (arith, p.put.past, p.short)) in
     let z : 0 + length (show_answer l) ≡ length (show_answer l) = omega arith in
     record { long = rw (le-ltb _ _ h) (w.past ∙ z); bytes = rw (le-ltb _ _ h) (w.is ∙ ap (λ (k : ℕ). show_answer l ++ drop k old) z) }
+
+-- a text byte by byte: a turn of the copy, and its end
+pub copy-byte : (old text mid : List ℕ) (at next j : ℕ) → next ≡ at + j → mid ≡ paste old at text j → at + j < length old → j < length text →
+    set mid next (get_or text j 0) ≡ paste old at text (j + 1)
+copy-byte old text mid at next j e f h k =
+    ap (λ (m : List ℕ). set m next (get_or text j 0)) f ∙ ap (λ (n : ℕ). set (paste old at text j) n (get_or text j 0)) e ∙ paste-suc old at text j 0 h k ∙
+    ap (λ (n : ℕ). paste old at text n) (sym (add-one j))
+
+pub put_copy : (old text : List ℕ) (at next j : ℕ) (new : List ℕ) → next ≡ at + j → new ≡ paste old at text j → length text ≤ j → j ≤ length text →
+    Put old at text new next
+put_copy old text at next j new e f h k =
+    let l : j ≡ length text = omega arith in
+    record { past = omega arith; is = f ∙ ap (λ (i : ℕ). paste old at text i) l ∙ rw take-length }

@@ -8,7 +8,7 @@ ghost use Rattle.printing.specs.Answers.{show_field, answer_text, show_hex16, he
 ghost use Rattle.printing.specs.Printing.{Put, PutField, PutFour, Printed};
 
 // The words of an answer.
-#[derive(Clone, Copy)]
+#[derive(Clone, Copy, PartialEq, Eq)]
 pub enum Answer {
     Allowed,
     Rejected,
@@ -20,7 +20,7 @@ pub enum Answer {
 }
 
 // What a line says. `factor` is the factor's bits.
-#[derive(Clone, Copy)]
+#[derive(Clone, Copy, PartialEq, Eq)]
 pub struct AnswerLine {
     pub t: u64,
     pub code: u64,
@@ -37,14 +37,9 @@ fn put_text(out: &mut [u8], at: usize, text: &[u8]) -> usize
     requires { at + length text.now ≤ length out.old }
     ensures { Put out.old at text.now out.new result }
 {
-    let mut i = 0;
-    let mut o = at;
-    while i < text.len() {
-        out[o] = text[i];
-        o += 1;
-        i += 1;
-    }
-    o
+    let end = at + text.len();
+    out[at..end].copy_from_slice(text);
+    end
 }
 
 fn decimal_digit(d: u64) -> u8
@@ -67,6 +62,7 @@ fn put_number(out: &mut [u8], at: usize, n: u64) -> usize
     next + 1
 }
 
+#[tactic(auto, unfolding(crate::specs::Answers::hex_digit))]
 fn hex_digit(d: u64) -> u8
     requires { d < 16 }
     ensures { result ≡ hex_digit d }
@@ -123,25 +119,25 @@ fn put_factor(out: &mut [u8], at: usize, factor: u64) -> usize
 }
 
 // The first four fields.
-fn put_verdict(out: &mut [u8], t: u64, code: u64, answer: Answer, factor: u64) -> usize
+fn put_verdict(out: &mut [u8], line: AnswerLine) -> usize
     requires { longest ≤ length out.old }
-    ensures { PutFour out.old 0 (show_verdict t code answer factor) out.new result }
+    ensures { PutFour out.old 0 (show_verdict line.t line.code line.answer line.factor) out.new result }
 {
-    let a = put_field(out, 0, b"t=", t);
-    let b = put_field(out, a, b" code=", code);
-    let c = put_answer(out, b, answer);
-    put_factor(out, c, factor)
+    let a = put_field(out, 0, b"t=", line.t);
+    let b = put_field(out, a, b" code=", line.code);
+    let c = put_answer(out, b, line.answer);
+    put_factor(out, c, line.factor)
 }
 
 // The last four.
-fn put_counts(out: &mut [u8], at: usize, wait: u64, left: u64, total: u64, declined: u64) -> usize
+fn put_counts(out: &mut [u8], at: usize, line: AnswerLine) -> usize
     requires { at + 120 ≤ length out.old }
-    ensures { PutFour out.old at (show_counts wait left total declined) out.new result }
+    ensures { PutFour out.old at (show_counts line.wait line.left line.total line.declined) out.new result }
 {
-    let a = put_field(out, at, b" wait=", wait);
-    let b = put_field(out, a, b" left=", left);
-    let c = put_field(out, b, b" total=", total);
-    put_field(out, c, b" declined=", declined)
+    let a = put_field(out, at, b" wait=", line.wait);
+    let b = put_field(out, a, b" left=", line.left);
+    let c = put_field(out, b, b" total=", line.total);
+    put_field(out, c, b" declined=", line.declined)
 }
 
 // Room enough for any line.
@@ -154,14 +150,6 @@ pub fn print(line: AnswerLine, out: &mut [u8]) -> usize
     if out.len() < LONGEST {
         return 0;
     }
-    let t = line.t;
-    let code = line.code;
-    let answer = line.answer;
-    let factor = line.factor;
-    let wait = line.wait;
-    let left = line.left;
-    let total = line.total;
-    let declined = line.declined;
-    let next = put_verdict(out, t, code, answer, factor);
-    put_counts(out, next, wait, left, total, declined)
+    let next = put_verdict(out, line);
+    put_counts(out, next, line)
 }

@@ -3,15 +3,8 @@
 use Rattle.std.specs.Prelude.{◌≡◌, Bool, cond, List, ℕ}
 use Rattle.std.proofs.Common.{ap, ◌∙◌, eq-eqb}
 use Rattle.answers.specs.Rows.{row, decision_row, total_row, snapshot_row, factor_row, old_rate_row, delete_row, set_row, done_row}
-use Rattle.answers.specs.declared.DeleteAnswer.TheVariants as delete_answer
-use Rattle.answers.specs.declared.DoneAnswer.TheVariants as done
-use Rattle.answers.specs.declared.FactorAnswer.TheVariants as factor
-use Rattle.answers.specs.declared.OldRateAnswer.TheVariants as old_rate
 use Rattle.answers.specs.declared.RateLimitDecision.TheVariants as decision
-use Rattle.answers.specs.declared.SetAnswer.TheVariants as set_answer
-use Rattle.answers.specs.declared.SnapshotAnswer.TheVariants as snapshot_answer
-use Rattle.answers.specs.declared.TotalAnswer.TheVariants as total
-use Rattle.common.specs.Refusals.{first}
+use Rattle.common.specs.Refusals.{first, refuse}
 use Rattle.settings.specs.declared.Settings.{Settings}
 use Rattle.parties.specs.declared.Caller.{Caller}
 use Rattle.rules.specs.declared.RoomKind.{RoomKind}
@@ -48,13 +41,13 @@ unfolding OnAbsolute.inc OnAbsolute.is_allowed OnAbsolute.get OnSuppressed.inc O
     Cleanup.cleanup total_row snapshot_row factor_row done_row
 answered kind s w t (inc key rate count) e = row_done decision_row decision.Refused _ w _ e
 answered kind s w t (is_allowed key) e = row_done decision_row decision.Refused _ w _ e
-answered kind s w t (get key) e = row_done total_row total.Refused _ w _ e
+answered kind s w t (get key) e = row_done total_row refuse _ w _ e
 answered kind s w t (draws key rate count draw) e = row_done decision_row decision.Refused _ w _ e
-answered kind s w t (snapshot key) e = row_done snapshot_row snapshot_answer.Refused _ w _ e
-answered kind s w t (get_factor key) e = row_done factor_row factor.Refused _ w _ e
-answered kind s w t (set_rate key rate) e = row_done old_rate_row old_rate.Refused _ w _ e
-answered kind s w t (set key rate comparator count mode) e = row_done set_row set_answer.Refused _ w _ e
-answered kind s w t (delete key) e = row_done delete_row delete_answer.Refused _ w _ e
-answered kind s w t (cleanup who stale) e = row_done done_row done.Refused _ w _ e
+answered kind s w t (snapshot key) e = row_done snapshot_row refuse _ w _ e
+answered kind s w t (get_factor key) e = row_done factor_row refuse _ w _ e
+answered kind s w t (set_rate key rate) e = row_done old_rate_row refuse _ w _ e
+answered kind s w t (set key rate comparator count mode) e = row_done set_row refuse _ w _ e
+answered kind s w t (delete key) e = row_done delete_row refuse _ w _ e
+answered kind s w t (cleanup who stale) e = row_done done_row refuse _ w _ e
 answered kind s w t (cleanup_both who other whose stale) e = both-done kind s w t who other whose stale e
-answered kind s w t (clear who) e = row_done done_row done.Refused _ w _ e
+answered kind s w t (clear who) e = row_done done_row refuse _ w _ e

@@ -1,9 +1,8 @@
 -- Non-interference reaches the read-out: after two histories as `Apart` speaks of them, each of the party's keys is read out the same.
 -- Assumes nothing.
-use Rattle.std.specs.Prelude.{◌≡◌, refl, Bool, true, false, not, ◌&&◌, cond, List, [], ◌∷◌, ◌++◌, ℕ, eqb, ltb, length}
+use Rattle.std.specs.Prelude.{◌≡◌, refl, Bool, true, false, not, ◌&&◌, cond, List, [], ◌∷◌, ◌++◌, ℕ, eqb, ltb, length, Ok}
 use Rattle.std.proofs.Common.{sym, ap, ◌∙◌}
-use Rattle.common.specs.Refusals.{first}
-use Rattle.answers.specs.declared.ReadOutAnswer.TheVariants.{Buckets, Refused}
+use Rattle.common.specs.Refusals.{first, refuse}
 use Rattle.settings.specs.Settings.{faults}
 use Rattle.settings.specs.declared.Settings.{Settings}
 use Rattle.ring.specs.declared.Bucket.{Bucket}
@@ -43,7 +42,7 @@ same_read : (k : RoomKind) (s : Settings) (w v : List ℕ) (key : Sent) (row : L
 unfolding read_out
 same_read k s w v key row e f =
     λ i. record {
-      answer = cond (eqb (e i) 0) (Buckets (length (f i))) (Refused (e i));
+      answer = cond (eqb (e i) 0) (Ok (length (f i))) (refuse (e i));
       row = cond (eqb (e i) 0) (laid (f i) row) row;
     }
 

@@ -1,7 +1,7 @@
 -- Each public contract leaves one result: whatever two results it allows, answers and everything lent, are equal. Demand 1 says what a refusal is, and
 -- this that there is nothing else a caller could be told, refusals included.
 -- Assumes nothing.
-use Rattle.std.specs.Prelude.{◌≡◌, refl, Bool, true, false, List, ℕ, ◌+◌, length, take}
+use Rattle.std.specs.Prelude.{◌≡◌, refl, Bool, true, false, List, ℕ, ◌+◌, length, take, Result}
 use Rattle.std.proofs.Common.{sym, ap, subst, ◌∙◌}
 use Rattle.base.specs.Decides.{Decides}
 use Rattle.ring.specs.Ring.{Shape}
@@ -9,8 +9,9 @@ use Rattle.room.specs.Room.{Room}
 use Rattle.judge.specs.Verdict.{Verdict, verdict, Told}
 use Rattle.gateway.specs.Gateway as Gateway
 use Rattle.rows.specs.Lines.{LineGiven}
+use Rattle.common.specs.declared.refusal.Refusal.{Refusal}
+use Rattle.told.specs.declared.ToldLine.{ToldLine}
 use Rattle.told.specs.Rows.{line_row}
-use Rattle.told.specs.declared.LineAnswer.{LineAnswer}
 use Rattle.readback.specs.ReadBack.{one-meaning}
 use Rattle.answers.specs.Rows.{number_of}
 use Rattle.desk_feed.specs.declared.Progress.{Progress}
@@ -58,7 +59,7 @@ feeding-one w block out x y p q =
 line-one : (line : List ℕ) → Once {R = ℕ × List ℕ} (λ x. LineGiven line x.0 x.1)
 line-one line x y p q =
     let same : p.answer ≡ q.answer = one-meaning line p.answer q.answer p.reads q.reads in
-    let number : x.0 ≡ y.0 = p.given.number ∙ ap (λ (r : LineAnswer). number_of (line_row r)) same ∙ sym q.given.number in
+    let number : x.0 ≡ y.0 = p.given.number ∙ ap (λ (r : Result ToldLine Refusal). number_of (line_row r)) same ∙ sym q.given.number in
     let row : x.1 ≡ y.1 = p.given.answer ∙ ap line_row same ∙ sym q.given.answer in
     λ i. (number i, row i)
 

@@ -2,7 +2,7 @@
 -- holds, exactly then, and leaves every word as it was. That there is an answer for every input is what each function's own proof says: none of these functions
 -- has a `requires`, and each is proved to end without fault and with the verdict below. Here the verdicts are held against the table.
 -- Assumes nothing.
-use Rattle.std.specs.Prelude.{◌≡◌, refl, List, ℕ}
+use Rattle.std.specs.Prelude.{◌≡◌, refl, Option, Some, None, List, ℕ}
 use Rattle.std.proofs.Common.{arith, eq-eqb, ne_eqb}
 use Rattle.answers.specs.Rows.{refused_row, read_out_row, ring_row}
 use Rattle.common.specs.Refusals.{first}
@@ -16,10 +16,8 @@ use Rattle.rules.specs.declared.RoomKind.{RoomKind}
 use Rattle.judge.specs.Judge.{misfits}
 use Rattle.readout.specs.ReadOut as ReadOut
 use Rattle.finding.specs.Finding as Finding
-use Rattle.inputs.specs.declared.Comparison.{Comparison}
-use Rattle.inputs.specs.declared.Comparison.TheVariants as compared
-use Rattle.inputs.specs.declared.Mode.{Mode}
-use Rattle.inputs.specs.declared.Mode.TheVariants as chosen
+use Rattle.common.specs.declared.comparator.RateLimitComparator.{RateLimitComparator}
+use Rattle.answers.specs.declared.HistoryUpdateMode.{HistoryUpdateMode}
 use Rattle.unnamed_set.specs.Unnamed as Unnamed
 use Rattle.unnamed_set.specs.Unnamed.{unnamed}
 use Rattle.abi.specs.Faces.{shown_set}
@@ -62,13 +60,14 @@ unnamed-turned : (kind : RoomKind) (s : Settings) (w : List ℕ) (t : ℕ) (key 
 unfolding Unnamed.refusal faults misfits turns
 unnamed-turned kind s w t key rate count = turned_by (unnamed kind s w t key rate count) _ w w (omega arith) (λ z. refl) (λ z. z) (λ z. refl)
 
-set-turned : (kind : RoomKind) (s : Settings) (w : List ℕ) (t : ℕ) (key : Sent) (rate : RateLimit) (comparison : Comparison) (count : ℕ) (mode : Mode) →
+set-turned : (kind : RoomKind) (s : Settings) (w : List ℕ) (t : ℕ) (key : Sent) (rate : RateLimit) (comparison : Option RateLimitComparator)
+    (count : ℕ) (mode : Option HistoryUpdateMode) →
     TurnedBy (sets_shown kind s w t key rate comparison count mode) (shown_set kind s w t key rate comparison count mode).row w
     (shown_set kind s w t key rate comparison count mode).words
 unfolding shown_set
-set-turned kind s w t key rate (compared.Named c) count (chosen.Named m) = turned kind s w t (Ops.set key rate c count m)
-set-turned kind s w t key rate (compared.Named c) count chosen.Unnamed = unnamed-turned kind s w t key rate count
-set-turned kind s w t key rate compared.Unnamed count m = unnamed-turned kind s w t key rate count
+set-turned kind s w t key rate (Some c) count (Some m) = turned kind s w t (Ops.set key rate c count m)
+set-turned kind s w t key rate (Some c) count None = unnamed-turned kind s w t key rate count
+set-turned kind s w t key rate None count m = unnamed-turned kind s w t key rate count
 
 pub demand1 : Demand1
 demand1 = record {

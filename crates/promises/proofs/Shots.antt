@@ -9,8 +9,7 @@ use native.Mathlib.Omega.{arith}
 use Rattle.parties.specs.Parties as Parties
 use Rattle.parties.specs.Parties.{Sent}
 use Rattle.answers.specs.Rows.{decision_row, shot_row, done_row, number_of}
-use Rattle.answers.specs.declared.DoneAnswer.TheVariants as done
-use Rattle.common.specs.Refusals.{first, first-none, first-both}
+use Rattle.common.specs.Refusals.{first, first-none, first-both, refuse}
 use Rattle.common.specs.declared.units.RateLimit.{RateLimit}
 use Rattle.settings.specs.Settings.{faults}
 use Rattle.settings.specs.declared.Settings.{Settings}
@@ -63,7 +62,7 @@ module _ (s : Settings) (w r : List ℕ) (t : ℕ) (key : Sent) (number : ℕ) (
 
 season-turned : (w : List ℕ) → TurnedBy (season_turns w) (done_row (new_season w).answer) w (new_season w).words
 unfolding new_season done_row
-season-turned w = judge-turned done_row done.Refused (season_turns w) _ w _ refl (λ n. refl) (omega arith) refl
+season-turned w = judge-turned done_row refuse (season_turns w) _ w _ refl (λ n. refl) (omega arith) refl
 
 pub turns-shots : TurnsShots
 turns-shots = record { shots = shot-turned; new-season = season-turned }

@@ -1,8 +1,7 @@
 -- What each call that is not turned away answers, in document 01's numbers and values: a line for each call, by the rules on what the key holds.
 -- Assumes nothing.
-use Rattle.std.specs.Prelude.{true, List, ℕ}
+use Rattle.std.specs.Prelude.{true, List, ℕ, Ok}
 use Rattle.answers.specs.Rows.{row, bits, decision_row, old_rate_row, delete_row, set_row}
-use Rattle.answers.specs.declared.SetAnswer.TheVariants as set_answer
 use Rattle.settings.specs.declared.Settings.{Settings}
 use Rattle.ring.specs.Ring.{counts}
 use Rattle.rules.specs.declared.RoomKind.{RoomKind}
@@ -23,10 +22,10 @@ rule_row kind s w t (snapshot key) =
     let x = suppressed.snapshot_of s t (held_in w key) (suppressed.asking s t true (held_in w key)).factor in
     row 0 1 x.total x.total_declined (bits x.suppression_factor)
 rule_row kind s w t (get_factor key) = row 0 1 (bits (suppressed.asking s t (overdue_in s t (held_in w key)) (held_in w key)).factor) 0 0
-rule_row kind s w t (set_rate key rate) = old_rate_row (rules.old_rate kind s (held_in w key))
+rule_row kind s w t (set_rate key rate) = old_rate_row (Ok (rules.old_rate kind s (held_in w key)))
 rule_row kind s w t (set key rate comparator count mode) =
-    set_row (set_answer.Set (rules.outcome s t (rules.still_for kind s t rate comparator count mode (held_in w key)) comparator count (held_in w key)))
-rule_row kind s w t (delete key) = delete_row (rules.deleted s t (held_in w key))
+    set_row (Ok (rules.outcome s t (rules.still_for kind s t rate comparator count mode (held_in w key)) comparator count (held_in w key)))
+rule_row kind s w t (delete key) = delete_row (Ok (rules.deleted s t (held_in w key)))
 rule_row kind s w t (cleanup who stale) = row 0 1 0 0 0
 rule_row kind s w t (cleanup_both who other whose stale) = row 0 1 0 0 0
 rule_row kind s w t (clear who) = row 0 1 0 0 0

@@ -1,16 +1,12 @@
 -- Document 01's boundary values, its lines marked P, in a single table. Every line is computed by the checker from the definitions that the contracts
 -- name; a line that speaks of calls is computed by the calls, one after the other, on the words of an empty room (`Cases.antt`).
 -- Assumes nothing.
-use Rattle.std.specs.Prelude.{◌≡◌, true, false, [], ◌∷◌, ◌≢◌, ℕ, ◌^◌, ◌+◌, set, replicate}
+use Rattle.std.specs.Prelude.{◌≡◌, true, false, [], ◌∷◌, ◌≢◌, ℕ, ◌^◌, ◌+◌, set, replicate, Ok}
 use Rattle.common.specs.Ranges.{nil, one}
-use Rattle.common.specs.Refusals.{first}
+use Rattle.common.specs.Refusals.{first, refuse}
 use Rattle.settings.specs.Settings.{defaults, ten_seconds, with_window}
-use Rattle.answers.specs.declared.DoneAnswer.TheVariants as done
-use Rattle.answers.specs.declared.FactorAnswer.TheVariants as factor
 use Rattle.answers.specs.declared.RateLimitDecision.TheVariants.{Allowed, Rejected, Suppressed, Refused}
 use Rattle.answers.specs.HistoryMode.{no_snapshot}
-use Rattle.answers.specs.declared.SnapshotAnswer.TheVariants as snapshot
-use Rattle.answers.specs.declared.TotalAnswer.TheVariants as total
 use Rattle.ring.specs.Ring.{bucket}
 use Rattle.room.specs.Room.{holder_of, used_at, vacant}
 use Rattle.parties.specs.Parties.{sent}
@@ -32,18 +28,18 @@ use Rattle.promises.specs.Cases.{inc_at, most, full, single, in_slot, seven_five
 
 pub record Boundary : Type 0 where
   -- "age 10,000 live; 10,001 expired"
-  pub live-10000 : (aget 10000 ten).answer ≡ total.Total 10
-  pub expired-10001 : (aget 10001 ten).answer ≡ total.Total 0
+  pub live-10000 : (aget 10000 ten).answer ≡ Ok 10
+  pub expired-10001 : (aget 10001 ten).answer ≡ Ok 0
   -- "age 100 joins; 101 adds"
   pub joins-100 : buckets_of (ainc 100 2 (ainc 0 3 room).words).words key ≡ bucket 5 0 0 ∷ []
   pub adds-101 : buckets_of (ainc 101 2 (ainc 0 3 room).words).words key ≡ bucket 3 0 0 ∷ bucket 2 0 101 ∷ []
   -- "cached age 99 used; 100 worked out afresh": 0.5 is cached at 2450, a fresh one is 0
-  pub cached-2450 : (factor_at 2450 eight_and_two).answer ≡ factor.Factor half
-  pub used-99 : (factor_at 2549 (factor_at 2450 eight_and_two).words).answer ≡ factor.Factor half
-  pub afresh-100 : (factor_at 2550 (factor_at 2450 eight_and_two).words).answer ≡ factor.Factor nil
+  pub cached-2450 : (factor_at 2450 eight_and_two).answer ≡ Ok half
+  pub used-99 : (factor_at 2549 (factor_at 2450 eight_and_two).words).answer ≡ Ok half
+  pub afresh-100 : (factor_at 2550 (factor_at 2450 eight_and_two).words).answer ≡ Ok nil
   -- "age 1,000 in the last second; 1,001 not": of the 2 at 1500
-  pub second-1000 : (factor_at 2500 eight_and_two).answer ≡ factor.Factor half
-  pub second-1001 : (factor_at 2501 eight_and_two).answer ≡ factor.Factor nil
+  pub second-1000 : (factor_at 2500 eight_and_two).answer ≡ Ok half
+  pub second-1001 : (factor_at 2501 eight_and_two).answer ≡ Ok nil
   -- "H = 20, S = 10: forecast 20 Allowed, 21 not admitted, 19 asks the factor", which is 0 for a new key
   pub forecast-20 : (sinc 0 20 0 room).answer ≡ Allowed
   pub forecast-21 : (sinc 0 21 0 room).answer ≡ Suppressed one false
@@ -53,7 +49,7 @@ pub record Boundary : Type 0 where
   pub three-two : buckets_of (preserve 3 seven_five).words key ≡ bucket 3 2 0 ∷ []
   -- "absolute limit 10, total 9, count 100: Allowed, total 109"
   pub nine-allowed : (ainc 1 100 (ainc 0 9 room).words).answer ≡ Allowed
-  pub nine-total : (aget 1 (ainc 1 100 (ainc 0 9 room).words).words).answer ≡ total.Total 109
+  pub nine-total : (aget 1 (ainc 1 100 (ainc 0 9 room).words).words).answer ≡ Ok 109
   -- "absolute limit 10, 10 at reading 0: at 50 Rejected 9950, 10; at 10,000 Rejected 0, 10; at 10,001 Allowed"
   pub rejected-50 : (ainc 50 1 ten).answer ≡ Rejected (record { 0 = 10 }) 9950 10
   pub rejected-10000 : (ainc 10000 1 ten).answer ≡ Rejected (record { 0 = 10 }) 0 10
@@ -65,7 +61,7 @@ pub record Boundary : Type 0 where
   pub draw-admits : (sinc 1700 5 4503599627370495 eight_and_two).answer ≡ Suppressed half true
   pub draw-declines : (sinc 1700 5 4503599627370496 eight_and_two).answer ≡ Suppressed half false
   -- "total 2^53 taken; 2^53 + 1 gives 10"
-  pub most-taken : (aget 1 (ainc 1 (2 ^ 53) (ainc 0 0 room).words).words).answer ≡ total.Total (2 ^ 53)
+  pub most-taken : (aget 1 (ainc 1 (2 ^ 53) (ainc 0 0 room).words).words).answer ≡ Ok (2 ^ 53)
   pub most-passed : (ainc 1 (2 ^ 53 + 1) (ainc 0 0 room).words).answer ≡ Refused 10
   -- "cleanup 500: newest bucket and cached factor both aged 500: series stays, factor goes": the slot's use, 3 for both and 1 for a series
   pub both-before : used_at twenty 0 ≡ 3
@@ -74,13 +70,13 @@ pub record Boundary : Type 0 where
 -- the boundary values with readings in nanoseconds (document 02, ticket 8): `at m n` is m milliseconds and n nanoseconds
 pub record NanoBoundary : Type 0 where
   -- at 10,000 ms a bucket is live for all, and none takes it out
-  pub live-get : (nget (at 10000 0) nten).answer ≡ total.Total 10
+  pub live-get : (nget (at 10000 0) nten).answer ≡ Ok 10
   pub live-left : buckets_of (nget (at 10000 0) nten).words key ≡ bucket 10 0 0 ∷ []
   pub live-rejected : (ninc (at 10000 0) 1 nten).answer ≡ Rejected (record { 0 = 10 }) 0 10
   -- at 10,000 ms and 1 ns it is gone for `get`
-  pub gone-get : (nget (at 10000 1) nten).answer ≡ total.Total 0
+  pub gone-get : (nget (at 10000 1) nten).answer ≡ Ok 0
   pub gone-left : buckets_of (nget (at 10000 1) nten).words key ≡ []
-  pub gone-snapshot : (nsnapshot (at 10000 1) ntwenty).answer ≡ snapshot.Snapshot no_snapshot
+  pub gone-snapshot : (nsnapshot (at 10000 1) ntwenty).answer ≡ Ok no_snapshot
   pub gone-after : buckets_of (nsnapshot (at 10000 1) ntwenty).words key ≡ []
   -- and left by an increment, by `is_allowed` and by `get_suppression_factor`, up to 10,000 ms and 999,999 ns
   pub left-inc : buckets_of (ninc (at 10000 1) 2 nthree).words key ≡ bucket 3 0 0 ∷ bucket 2 0 (at 10000 1) ∷ []
@@ -98,16 +94,16 @@ pub record NanoBoundary : Type 0 where
   pub joins-100 : buckets_of (ninc (at 100 999999) 2 nthree).words key ≡ bucket 5 0 0 ∷ []
   pub adds-101 : buckets_of (ninc (at 101 0) 2 nthree).words key ≡ bucket 3 0 0 ∷ bucket 2 0 (at 101 0) ∷ []
   -- a factor that is cached at 2450 ms is used a nanosecond before 100 ms, and not at 100 ms
-  pub cached-2450 : (nfactor (at 2450 0) neight).answer ≡ factor.Factor half
-  pub used-99 : (nfactor (at 2549 999999) (nfactor (at 2450 0) neight).words).answer ≡ factor.Factor half
-  pub afresh-100 : (nfactor (at 2550 0) (nfactor (at 2450 0) neight).words).answer ≡ factor.Factor nil
+  pub cached-2450 : (nfactor (at 2450 0) neight).answer ≡ Ok half
+  pub used-99 : (nfactor (at 2549 999999) (nfactor (at 2450 0) neight).words).answer ≡ Ok half
+  pub afresh-100 : (nfactor (at 2550 0) (nfactor (at 2450 0) neight).words).answer ≡ Ok nil
   -- 1,000 ms and 999,999 ns are in the last second, 1,001 ms are not
-  pub second-1000 : (nfactor (at 2500 999999) neight).answer ≡ factor.Factor half
-  pub second-1001 : (nfactor (at 2501 0) neight).answer ≡ factor.Factor nil
+  pub second-1000 : (nfactor (at 2500 999999) neight).answer ≡ Ok half
+  pub second-1001 : (nfactor (at 2501 0) neight).answer ≡ Ok nil
   -- a rejection's wait is in milliseconds
   pub waits-50 : (ninc (at 50 999999) 1 nten).answer ≡ Rejected (record { 0 = 10 }) 9950 10
   -- 6 compares nanoseconds
-  pub back-1 : (nget 0 (ninc 1 3 room).words).answer ≡ total.Refused 6
+  pub back-1 : (nget 0 (ninc 1 3 room).words).answer ≡ refuse 6
   -- cleanup 500: both stay a nanosecond before 500 ms, the series up to 500 ms and 999,999 ns
   pub both-499 : used_at (nclean (at 499 999999) 500 ntwenty).words 0 ≡ 3
   pub series-500 : used_at (nclean (at 500 999999) 500 ntwenty).words 0 ≡ 1
@@ -137,7 +133,7 @@ pub record PartyBoundary : Type 0 where
   pub promise-first : (pinc (sent_by 1 1 2 97) (2 ^ 53 + 1) pair).answer ≡ Refused 16
   -- 5 "where a slot in use is neither party's", "by clear too": slot 0 has its bit in both words, 3 and 4
   pub stray : (pinc (sent_by 1 1 1 97) 1 (set (set pair 3 1) 4 1)).answer ≡ Refused 5
-  pub stray-clear : (pclear 1 (set (set pair 3 1) 4 1)).answer ≡ done.Refused 5
+  pub stray-clear : (pclear 1 (set (set pair 3 1) 4 1)).answer ≡ refuse 5
   -- "Clear removes the caller's keys only"
   pub clear-frees : holder_of (pclear 1 of_both).words 0 ≡ 0
   pub clear-leaves : buckets_of (pclear 1 of_both).words (sent_by 2 1 1 97) ≡ bucket 5 0 0 ∷ []
@@ -177,13 +173,13 @@ pub record Further : Type 0 where
   pub soft-10 : soft_of (hard_by 2) (per_second one) ≡ 10
   pub twenty-full : (sinc 50 1 0 twenty).answer ≡ Suppressed one false
   -- the factor after the link test, by the two calls that give it
-  pub link-factor : (SuppressedCalls.get_factor (hard_by 4) link_tested 1 key).answer ≡ factor.Factor nil
-  pub link-snapshot : (SuppressedCalls.get (hard_by 4) link_tested 1 key).answer ≡ snapshot.Snapshot no_snapshot
+  pub link-factor : (SuppressedCalls.get_factor (hard_by 4) link_tested 1 key).answer ≡ Ok nil
+  pub link-snapshot : (SuppressedCalls.get (hard_by 4) link_tested 1 key).answer ≡ Ok no_snapshot
   -- the totals that `get` gives; and a total, word 12 of the room, that is not the sum, which is unsound
   pub twenty-known : (held_in twenty key).known ≡ true
-  pub twenty-given : (sget 0 twenty).answer ≡ snapshot.Snapshot (record { total = 20; total_declined = 0; suppression_factor = one })
-  pub made_up : (n : ℕ) → n ≢ 20 → (sget 0 (set twenty 12 n)).answer ≡ snapshot.Refused 5
-  pub absolute-made-up : (n : ℕ) → n ≢ 10 → (aget 0 (set ten 12 n)).answer ≡ total.Refused 5
+  pub twenty-given : (sget 0 twenty).answer ≡ Ok (record { total = 20; total_declined = 0; suppression_factor = one })
+  pub made_up : (n : ℕ) → n ≢ 20 → (sget 0 (set twenty 12 n)).answer ≡ refuse 5
+  pub absolute-made-up : (n : ℕ) → n ≢ 10 → (aget 0 (set ten 12 n)).answer ≡ refuse 5
 
 pub record Computed : Type 0 where
   pub table : Boundary

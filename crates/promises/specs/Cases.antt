@@ -1,17 +1,12 @@
 -- Small rooms and short calls on them, for promises that are told by an example: one slot with a ring of three, W = 10, b = C = 100.
 -- Assumes nothing.
-use Rattle.std.specs.Prelude.{false, List, [], ◌∷◌, ℕ, ◌+◌, ◌*◌, pos, negsuc, Float}
+use Rattle.std.specs.Prelude.{false, List, [], ◌∷◌, ℕ, ◌+◌, ◌*◌, pos, negsuc, Float, Result}
 use Rattle.std.specs.Float.{fin, binary64}
 use Rattle.std.specs.Float.Ieee.{div, of_int}
 use Rattle.common.specs.Ranges.{one}
 use Rattle.settings.specs.Settings.{ten_seconds, with_factor, with_clock}
 use Rattle.settings.specs.declared.ClockMode.TheVariants.{Nanoseconds}
-use Rattle.answers.specs.declared.DoneAnswer.{DoneAnswer}
-use Rattle.answers.specs.declared.FactorAnswer.{FactorAnswer}
 use Rattle.answers.specs.declared.RateLimitDecision.{RateLimitDecision}
-use Rattle.answers.specs.declared.SetAnswer.{SetAnswer}
-use Rattle.answers.specs.declared.SnapshotAnswer.{SnapshotAnswer}
-use Rattle.answers.specs.declared.TotalAnswer.{TotalAnswer}
 use Rattle.common.specs.declared.comparator.RateLimitComparator.TheVariants as comparator
 use Rattle.answers.specs.declared.HistoryPreservation.TheVariants.{PreserveNewest}
 use Rattle.answers.specs.declared.HistoryUpdateMode.TheVariants as mode
@@ -31,6 +26,9 @@ use Rattle.cleanup.specs.Cleanup as Cleanup
 use Rattle.absolute_verdicts.specs.Calls as Absolute
 use Rattle.suppressed_verdicts.specs.Calls as Suppressed
 use Rattle.promises.specs.Rules.{Inc, inc_of}
+use Rattle.common.specs.declared.refusal.Refusal.{Refusal}
+use Rattle.answers.specs.declared.ConditionalSetOutcome.{ConditionalSetOutcome}
+use Rattle.answers.specs.declared.SuppressedRateLimitSnapshot.{SuppressedRateLimitSnapshot}
 
 -- ---- settings, rates, the room, the caller and the key
 
@@ -66,7 +64,7 @@ key = sent who (97 ∷ [])
 abbrev pub ainc : ℕ → ℕ → List ℕ → Verdict RateLimitDecision
 ainc t count w = Absolute.inc ten_seconds w t key (per_second one) count
 
-abbrev pub aget : ℕ → List ℕ → Verdict TotalAnswer
+abbrev pub aget : ℕ → List ℕ → Verdict (Result ℕ Refusal)
 aget t w = Absolute.get ten_seconds w t key
 
 -- 10 at reading 0
@@ -78,10 +76,10 @@ ten = (ainc 0 10 room).words
 abbrev pub sinc : ℕ → ℕ → ℕ → List ℕ → Verdict RateLimitDecision
 sinc t count draw w = Suppressed.inc (hard_by 2) w t key (per_second one) count draw
 
-abbrev pub factor_at : ℕ → List ℕ → Verdict FactorAnswer
+abbrev pub factor_at : ℕ → List ℕ → Verdict (Result Float Refusal)
 factor_at t w = Suppressed.get_factor (hard_by 2) w t key
 
-abbrev pub sget : ℕ → List ℕ → Verdict SnapshotAnswer
+abbrev pub sget : ℕ → List ℕ → Verdict (Result SuppressedRateLimitSnapshot Refusal)
 sget t w = Suppressed.get (hard_by 2) w t key
 
 -- 8 at reading 0 and 2 at 1500: while the 2 are in the last second the fresh factor is 0.5, and later 0
@@ -92,7 +90,7 @@ eight_and_two = (sinc 1500 2 0 (sinc 0 8 0 room).words).words
 abbrev pub twenty : List ℕ
 twenty = (sinc 0 20 0 room).words
 
-abbrev pub clean : ℕ → ℕ → List ℕ → Verdict DoneAnswer
+abbrev pub clean : ℕ → ℕ → List ℕ → Verdict (Result (Unit {0}) Refusal)
 clean t stale w = Cleanup.cleanup kind.Suppressed (hard_by 2) w t who stale
 
 -- ---- either limiter at rate 1, and any function in its place, by words, reading and count
@@ -132,7 +130,7 @@ abbrev pub seven_five : List ℕ
 seven_five = (quarter 5 (quarter 2 room).words).words
 
 -- a set that makes the total n and preserves the newest
-abbrev pub preserve : ℕ → List ℕ → Verdict SetAnswer
+abbrev pub preserve : ℕ → List ℕ → Verdict (Result ConditionalSetOutcome Refusal)
 preserve n w = Sets.set kind.Suppressed ten_seconds w 0 key (per_second (ratio 1 4)) comparator.Always n (mode.Preserve PreserveNewest)
 
 -- ---- the suppressed limiter at rate 1/20 and F = 4: H = 2, S = 0
@@ -160,19 +158,19 @@ ninc t count w = Absolute.inc (nano ten_seconds) w t key (per_second one) count
 abbrev pub nask : ℕ → List ℕ → Verdict RateLimitDecision
 nask t w = Absolute.is_allowed (nano ten_seconds) w t key
 
-abbrev pub nget : ℕ → List ℕ → Verdict TotalAnswer
+abbrev pub nget : ℕ → List ℕ → Verdict (Result ℕ Refusal)
 nget t w = Absolute.get (nano ten_seconds) w t key
 
 abbrev pub ndraws : ℕ → ℕ → List ℕ → Verdict RateLimitDecision
 ndraws t count w = Suppressed.inc (nano (hard_by 2)) w t key (per_second one) count 0
 
-abbrev pub nfactor : ℕ → List ℕ → Verdict FactorAnswer
+abbrev pub nfactor : ℕ → List ℕ → Verdict (Result Float Refusal)
 nfactor t w = Suppressed.get_factor (nano (hard_by 2)) w t key
 
-abbrev pub nsnapshot : ℕ → List ℕ → Verdict SnapshotAnswer
+abbrev pub nsnapshot : ℕ → List ℕ → Verdict (Result SuppressedRateLimitSnapshot Refusal)
 nsnapshot t w = Suppressed.get (nano (hard_by 2)) w t key
 
-abbrev pub nclean : ℕ → ℕ → List ℕ → Verdict DoneAnswer
+abbrev pub nclean : ℕ → ℕ → List ℕ → Verdict (Result (Unit {0}) Refusal)
 nclean t stale w = Cleanup.cleanup kind.Suppressed (nano (hard_by 2)) w t who stale
 
 -- 3 and 10 of the absolute limiter, and 20 of the suppressed one, at reading 0
@@ -202,7 +200,7 @@ abbrev pub pinc : Sent → ℕ → List ℕ → Verdict RateLimitDecision
 pinc k count w = Absolute.inc ten_seconds w 0 k (per_second one) count
 
 -- a clear by a party with promises of one slot each
-abbrev pub pclear : ℕ → List ℕ → Verdict DoneAnswer
+abbrev pub pclear : ℕ → List ℕ → Verdict (Result (Unit {0}) Refusal)
 pclear party w = Clear.clear ten_seconds w 0 (record { party = party; first = 1; second = 1 })
 
 -- 3 of party 1, and 5 of party 2 under the same byte

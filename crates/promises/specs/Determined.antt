@@ -1,7 +1,7 @@
 -- Each public contract leaves one result: whatever two results it allows, answers and everything lent, are equal. Demand 1 says what a refusal is, and
 -- this that there is nothing else a caller could be told, refusals included.
 -- Assumes nothing.
-use Rattle.std.specs.Prelude.{◌≡◌, Bool, List, ℕ, Float}
+use Rattle.std.specs.Prelude.{◌≡◌, Bool, List, ℕ, Float, Result}
 use Rattle.base.specs.Decides.{Decides}
 use Rattle.common.specs.Limits.{rate_back}
 use Rattle.settings.specs.declared.Settings.{Settings}
@@ -19,8 +19,9 @@ use Rattle.gateway.specs.Gateway as Gateway
 use Rattle.readout.specs.ReadOut as ReadOut
 use Rattle.rows.specs.Plain.{Given}
 use Rattle.rows.specs.Lines.{LineGiven}
+use Rattle.common.specs.declared.refusal.Refusal.{Refusal}
+use Rattle.told.specs.declared.ToldLine.{ToldLine}
 use Rattle.told.specs.Range.{Reads}
-use Rattle.told.specs.declared.LineAnswer.{LineAnswer}
 use Rattle.abi.specs.Faces.{Face, Faced}
 use Rattle.desk_lines.specs.Step.{Step, Answered}
 use Rattle.desk_feed.specs.declared.Progress.{Progress}
@@ -53,19 +54,20 @@ pub record Determined : Type 1 where
   -- the row
   pub read_out : (kind : RoomKind) (s : Settings) (w : List ℕ) (key : Sent) (row : List Bucket) →
       Once {R = ReadOut.Filled} (λ x. ReadOut.Shown (ReadOut.read_out kind s w key row) x.answer x.row)
-  -- making a room: yes or no, and the words
-  pub make : (slots ring : ℕ) (w : List ℕ) → Once {R = Bool × List ℕ} (λ x. Made slots ring w x.0 x.1)
+  -- making a room: done or refused, and the words
+  pub make : (slots ring : ℕ) (w : List ℕ) → Once {R = Result (Unit {0}) Refusal × List ℕ} (λ x. Made slots ring w x.0 x.1)
   -- a gateway's shot: table and room; its new season; making a table
   pub shot : (s : Settings) (w r : List ℕ) (t : ℕ) (key : Sent) (number : ℕ) (rate : RateLimit) (draw : ℕ) →
       Once {R = Gateway.Verdict} (λ x. Gateway.Told (Gateway.shot s w r t key number rate draw) x.answer x.table x.room)
   pub new-season : (w : List ℕ) → TellsOne (Gateway.new_season w)
-  pub make-table : (w : List ℕ) → Once {R = Bool × List ℕ} (λ x. TableMade w x.0 x.1)
+  pub make-table : (w : List ℕ) → Once {R = Result (Unit {0}) Refusal × List ℕ} (λ x. TableMade w x.0 x.1)
   -- the faces for C and Rust: the number, the answer row and the words of the room, or of both; and a row that is handed over
   pub faces : {W : Type 0} (f : Face W) → Once {R = ℕ × Face W} (λ x. Faced f x.0 x.1.row x.1.words)
   pub give : (row : List ℕ) → Once {R = ℕ × List ℕ} (λ x. Given row x.0 x.1)
   -- the bytes of `desk` and of `shots`: both memories made; a block taken, of which as much goes in as there is room to print for; the last line; each
   -- with what is printed and kept
-  pub desk-memories : (g : Program) (a b : List ℕ) → Once {R = Bool × List ℕ × List ℕ} (λ x. BothMade g a b x.0 x.1 x.2)
+  pub desk-memories : (g : Program) (a b : List ℕ) → Once {R = Result (Unit {0}) Refusal × List ℕ × List ℕ}
+      (λ x. BothMade g a b x.0 x.1 x.2)
   pub desk-feed : (w : Whole) (block out : List ℕ) → Once {R = Progress × List ℕ × List ℕ × List ℕ × List ℕ}
       (λ x. Feeding w block out x.0 x.1 x.2 x.3 x.4)
   pub desk-finish : (v : Effect) (out : List ℕ) (at : ℕ) → Once {R = Turn × List ℕ × List ℕ × List ℕ} (λ x. Took v out at x.0 x.1 x.2 x.3)
@@ -74,7 +76,7 @@ pub record Determined : Type 1 where
   -- printing an answer: how long, and the bytes
   pub print : (line : AnswerLine) (out : List ℕ) → Once {R = ℕ × List ℕ} (λ x. Printed line out x.1 x.0)
   -- reading a line back, and its face's number and row
-  pub read-line : (line : List ℕ) → Once {R = LineAnswer} (λ x. Reads line x)
+  pub read-line : (line : List ℕ) → Once {R = Result ToldLine Refusal} (λ x. Reads line x)
   pub face-line : (line : List ℕ) → Once {R = ℕ × List ℕ} (λ x. LineGiven line x.0 x.1)
   -- whether words are a room's, and a body a ring's; where a body starts
   pub sized : (w : List ℕ) → Once {R = Bool} (λ x. Decides x (Room w))

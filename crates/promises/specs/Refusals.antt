@@ -2,7 +2,7 @@
 -- holds, exactly then, and leaves every word as it was. That there is an answer for every input is what each function's own proof says: none of these functions
 -- has a `requires`, and each is proved to end without fault and with the verdict below. Here the verdicts are held against the table.
 -- Assumes nothing.
-use Rattle.std.specs.Prelude.{Bool, not, ◌&&◌, List, [], ◌∷◌, ◌++◌, ℕ, ltb, length}
+use Rattle.std.specs.Prelude.{Bool, Option, Some, None, not, ◌&&◌, List, [], ◌∷◌, ◌++◌, ℕ, ltb, length}
 use Rattle.answers.specs.Rows.{done_row, read_out_row, ring_row}
 use Rattle.settings.specs.Settings.{faults}
 use Rattle.settings.specs.declared.Settings.{Settings}
@@ -16,10 +16,8 @@ use Rattle.rules.specs.declared.RoomKind.{RoomKind}
 use Rattle.opened.specs.Sound.{addressed, sound_at}
 use Rattle.provider.specs.Provider as Provider
 use Rattle.readout.specs.ReadOut as ReadOut
-use Rattle.inputs.specs.declared.Comparison.{Comparison}
-use Rattle.inputs.specs.declared.Comparison.TheVariants as compared
-use Rattle.inputs.specs.declared.Mode.{Mode}
-use Rattle.inputs.specs.declared.Mode.TheVariants as chosen
+use Rattle.common.specs.declared.comparator.RateLimitComparator.{RateLimitComparator}
+use Rattle.answers.specs.declared.HistoryUpdateMode.{HistoryUpdateMode}
 use Rattle.unnamed_set.specs.Unnamed.{unnamed}
 use Rattle.abi.specs.Faces.{shown_set}
 use Rattle.steps.specs.Order.{TurnedBy}
@@ -39,10 +37,10 @@ reads kind s w key =
 -- ---- the table of a set over a face for C or Rust
 
 -- as of any set; where comparator or mode is not named, all of it that can be judged without them, and else 14
-abbrev pub sets_shown : RoomKind → Settings → List ℕ → ℕ → Sent → RateLimit → Comparison → ℕ → Mode → List (ℕ × Bool)
-sets_shown kind s w t key rate (compared.Named c) count (chosen.Named m) = sets kind s w t key rate c count m
-sets_shown kind s w t key rate (compared.Named c) count chosen.Unnamed = unnamed kind s w t key rate count
-sets_shown kind s w t key rate compared.Unnamed count m = unnamed kind s w t key rate count
+abbrev pub sets_shown : RoomKind → Settings → List ℕ → ℕ → Sent → RateLimit → Option RateLimitComparator → ℕ → Option HistoryUpdateMode → List (ℕ × Bool)
+sets_shown kind s w t key rate (Some c) count (Some m) = sets kind s w t key rate c count m
+sets_shown kind s w t key rate (Some c) count None = unnamed kind s w t key rate count
+sets_shown kind s w t key rate None count m = unnamed kind s w t key rate count
 
 -- ---- the promise
 
@@ -62,7 +60,8 @@ pub record Demand1 : Type 0 where
   -- the constructors of units: 1, 2, 3 and 8
   pub units : Makes
   -- the sets over a face
-  pub set-shown : (kind : RoomKind) (s : Settings) (w : List ℕ) (t : ℕ) (key : Sent) (rate : RateLimit) (comparison : Comparison) (count : ℕ) (mode : Mode) →
+  pub set-shown : (kind : RoomKind) (s : Settings) (w : List ℕ) (t : ℕ) (key : Sent) (rate : RateLimit) (comparison : Option RateLimitComparator)
+      (count : ℕ) (mode : Option HistoryUpdateMode) →
       TurnedBy (sets_shown kind s w t key rate comparison count mode) (shown_set kind s w t key rate comparison count mode).row w
       (shown_set kind s w t key rate comparison count mode).words
   -- a gateway's shots, and its new season

@@ -2,12 +2,9 @@
 -- field for each call; what the rules are stands in the records that the fields name. Of increments and of `get` it is said of any function with their
 -- inputs and results, and the limiters' own are such functions. (On the other side the original Rust is run beside the calls: docs/DIFFERENCES.md.)
 -- Assumes nothing.
-use Rattle.std.specs.Prelude.{◌≡◌, Bool, List, ℕ}
+use Rattle.std.specs.Prelude.{◌≡◌, Bool, List, ℕ, Result, Ok}
 use Rattle.common.specs.Refusals.{first}
-use Rattle.answers.specs.declared.DoneAnswer.TheVariants as done
 use Rattle.answers.specs.declared.RateLimitDecision.{RateLimitDecision}
-use Rattle.answers.specs.declared.SnapshotAnswer.{SnapshotAnswer}
-use Rattle.answers.specs.declared.TotalAnswer.{TotalAnswer}
 use Rattle.common.specs.declared.comparator.RateLimitComparator.{RateLimitComparator}
 use Rattle.answers.specs.declared.HistoryUpdateMode.{HistoryUpdateMode}
 use Rattle.settings.specs.declared.Settings.{Settings}
@@ -40,15 +37,17 @@ use Rattle.steps.specs.Table.{table_of, absolute_inc, plain, suppressed_inc, sup
 use Rattle.promises.specs.Answers.{rule_row}
 use Rattle.promises.specs.Refusals.{reads}
 use Rattle.leaves.specs.Shared.{RateRule, DeleteRule, SetRule, ClearRule, CleanRule}
+use Rattle.common.specs.declared.refusal.Refusal.{Refusal}
+use Rattle.answers.specs.declared.SuppressedRateLimitSnapshot.{SuppressedRateLimitSnapshot}
 
 -- cleanup of one room
 pub record CleansRoom (kind : RoomKind) (s : Settings) (w : List ℕ) (t : ℕ) (who : Caller) (stale : ℕ) : Type 0 where
-  pub answer : (Cleanup.cleanup kind s w t who stale).answer ≡ done.Done
+  pub answer : (Cleanup.cleanup kind s w t who stale).answer ≡ Ok tt
   pub room : CleanRule kind s w (Cleanup.cleanup kind s w t who stale).words t stale
 
 -- "The provider's cleanup cleans both rooms or neither"
 pub record CleansBoth (s : Settings) (a b : List ℕ) (t : ℕ) (c d : Caller) (stale : ℕ) : Type 0 where
-  pub answer : (Provider.cleanup s a b t c d stale).answer ≡ done.Done
+  pub answer : (Provider.cleanup s a b t c d stale).answer ≡ Ok tt
   pub absolute : CleanRule kind.Absolute s a (Provider.cleanup s a b t c d stale).absolute t stale
   pub suppressed : CleanRule kind.Suppressed s b (Provider.cleanup s a b t c d stale).suppressed t stale
 
@@ -81,10 +80,10 @@ IncByRules kind f =
 
 -- ---- `get`, whatever function makes it: the absolute limiter's, and the suppressed one's
 
-abbrev pub TotalByRules : (Settings → List ℕ → ℕ → Sent → Verdict TotalAnswer) → Type 0
+abbrev pub TotalByRules : (Settings → List ℕ → ℕ → Sent → Verdict (Result ℕ Refusal)) → Type 0
 TotalByRules f = (s : Settings) (w : List ℕ) (t : ℕ) (key : Sent) → first (plain kind.Absolute s w t key) ≡ 0 → GetLaw s w t key (f s w t key)
 
-abbrev pub SnapshotByRules : (Settings → List ℕ → ℕ → Sent → Verdict SnapshotAnswer) → Type 0
+abbrev pub SnapshotByRules : (Settings → List ℕ → ℕ → Sent → Verdict (Result SuppressedRateLimitSnapshot Refusal)) → Type 0
 SnapshotByRules f =
     (s : Settings) (w : List ℕ) (t : ℕ) (key : Sent) → Bytes key.bytes → first (plain kind.Suppressed s w t key) ≡ 0 → Gets s w t key (f s w t key)
 

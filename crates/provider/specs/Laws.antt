@@ -1,6 +1,6 @@
 -- What the code has tested, turned into what the definition says; that the definition leaves nothing open; and which number is the lowest.
 -- Assumes nothing.
-use Rattle.std.specs.Prelude.{◌≡◌, refl, Bool, not, ◌&&◌, ◌||◌, cond, List, [], ◌∷◌, ◌++◌, ◌≢◌, ℕ, ◌≤◌, ◌<◌, ltb}
+use Rattle.std.specs.Prelude.{◌≡◌, refl, Bool, not, ◌&&◌, ◌||◌, cond, List, [], ◌∷◌, ◌++◌, ◌≢◌, ℕ, ◌≤◌, ◌<◌, ltb, Result, Ok, Err}
 use Rattle.std.proofs.Math.Path.{sym, ap}
 use Rattle.std.proofs.Common.{ap₂, ◌∙◌, le_of_lt, arith}
 use Rattle.std.proofs.Math.Bool.{true, false}
@@ -8,11 +8,9 @@ use Rattle.std.proofs.Math.Nat.{min-eq_left, min-eq_right}
 use Rattle.std.proofs.Math.Decide.{ℕ_discrete}
 use Rattle.std.proofs.Math.Dec.{eqb}
 use borrow.Author.Tests.{eq-eqb, ne_eqb, eqb-true, eqb-false, ltb-true, ltb-false}
-use Rattle.common.specs.Refusals.{first, first_found, first-none}
+use Rattle.common.specs.Refusals.{first, first_found, first-none, refuse, ruled}
 use Rattle.settings.specs.Settings.{faults}
 use Rattle.settings.specs.Clock.{ticks_in}
-use Rattle.answers.specs.declared.DoneAnswer.{DoneAnswer}
-use Rattle.answers.specs.declared.DoneAnswer.TheVariants.{Done, Refused}
 use Rattle.settings.specs.declared.Settings.{Settings}
 use Rattle.room.specs.Room.{sized, last_of}
 use Rattle.parties.specs.declared.Caller.{Caller}
@@ -22,10 +20,11 @@ use Rattle.rules.specs.declared.RoomKind.TheVariants.{Absolute, Suppressed}
 use Rattle.cleanup.specs.Cleanup.{all_pass, misfits, refusal}
 use Rattle.stale.specs.Uses.{cleaned, Ready}
 use Rattle.cleanup.specs.Laws.{Passed, passed, passed-ready}
-use Rattle.provider.specs.Provider.{lowest, refusal_of_both, Verdict, decided, cleanup, Told}
+use Rattle.provider.specs.Provider.{lowest, lower, refusal_of_both, Verdict, decided, cleanup, Told}
+use Rattle.common.specs.declared.refusal.Refusal.{Refusal}
 
 -- two results that a verdict allows are one
-pub told-once : (v : Verdict) (r r' : DoneAnswer) (a a' b b' : List ℕ) → Told v r a b → Told v r' a' b' → (r ≡ r') × (a ≡ a') × (b ≡ b')
+pub told-once : (v : Verdict) (r r' : Result (Unit {0}) Refusal) (a a' b b' : List ℕ) → Told v r a b → Told v r' a' b' → (r ≡ r') × (a ≡ a') × (b ≡ b')
 told-once v r r' a a' b b' x y = (x.answer ∙ sym y.answer, x.absolute ∙ sym y.absolute, x.suppressed ∙ sym y.suppressed)
 
 -- ---- the lowest
@@ -45,6 +44,17 @@ lowest-less m n h k l = sym (rw (ne_eqb m 0 h, ne_eqb n 0 k) (min-eq_left (le_of
 pub lowest-more : (m n : ℕ) → m ≢ 0 → n ≢ 0 → n ≤ m → n ≡ lowest m n
 unfolding lowest
 lowest-more m n h k l = sym (rw (ne_eqb m 0 h, ne_eqb n 0 k) (min-eq_right l))
+
+-- the lower of two judgements is that of the lower number
+pub lower-is : (m n : ℕ) → lower (ruled m) (ruled n) ≡ ruled (lowest m n)
+unfolding lower lowest
+lower-is m n = go (ℕ_discrete m 0) (ℕ_discrete n 0) (ltb m n) refl
+  where
+    go : Dec (m ≡ 0) → Dec (n ≡ 0) → (z : Bool) → ltb m n ≡ z → lower (ruled m) (ruled n) ≡ ruled (lowest m n)
+    go (yes p) d z e = rw p
+    go (no p) (yes q) z e = rw (q, ne_eqb m 0 p, ne_eqb m 0 p)
+    go (no p) (no q) true e = rw (ne_eqb m 0 p, ne_eqb n 0 q, e, min-eq_left (le_of_lt (ltb-true m n e)), ne_eqb m 0 p)
+    go (no p) (no q) false e = rw (ne_eqb m 0 p, ne_eqb n 0 q, e, min-eq_right (ltb-false m n e), ne_eqb n 0 q)
 
 -- 0 exactly where both are
 pub lowest-none : (m n : ℕ) → lowest m n ≡ 0 → (m ≡ 0) × (n ≡ 0)
@@ -80,14 +90,14 @@ module _ (s : Settings) (a b : List ℕ) (t : ℕ) (c d : Caller) where
       (passed-ready Absolute s a t c p.0, passed-ready Suppressed s b t d p.1)
 
 module _ (s : Settings) (a b : List ℕ) (t : ℕ) (c d : Caller) (stale : ℕ) where
-  pub both-refused : (n : ℕ) → n ≡ refusal_of_both s a b t c d → n ≢ 0 → Told (cleanup s a b t c d stale) (Refused n) a b
+  pub both-refused : (n : ℕ) → n ≡ refusal_of_both s a b t c d → n ≢ 0 → Told (cleanup s a b t c d stale) (refuse n) a b
   unfolding decided
   both-refused n e z =
       let p : eqb (refusal_of_both s a b t c d) 0 ≡ false = ap (λ (k : ℕ). eqb k 0) (sym e) ∙ ne_eqb n 0 z in
       record { answer = sym (rw (p, sym e)); absolute = sym (rw p); suppressed = sym (rw p) }
 
   pub both-done : (x y : List ℕ) → refusal_of_both s a b t c d ≡ 0 → x ≡ cleaned a t (ticks_in s) stale → y ≡ cleaned b t (ticks_in s) stale →
-      Told (cleanup s a b t c d stale) Done x y
+      Told (cleanup s a b t c d stale) (Ok tt) x y
   unfolding decided
   both-done x y e f g =
       let p : eqb (refusal_of_both s a b t c d) 0 ≡ true = eq-eqb (refusal_of_both s a b t c d) 0 e in

@@ -2,30 +2,32 @@
 #![tactic(auto)]
 
 ghost use Rattle.std.specs.Prelude.{◌≡◌};
-ghost use Rattle.provider.specs.Provider.{lowest, refusal_of_both, cleanup, Told};
+ghost use Rattle.common.specs.Refusals.{ruled};
+ghost use Rattle.provider.specs.Provider.{lower, refusal_of_both, cleanup, Told};
 
-use answers::DoneAnswer;
+use common::Refusal;
 use parties::Caller;
 use rules::RoomKind;
 use settings::Settings;
 
-// The lower of two refusals, where 0 is none.
-fn lowest(m: u64, n: u64) -> u64
-    ensures { result ≡ lowest m n }
+// The lower of two refusals, where there are two.
+#[tactic(auto, unfolding(crate::specs::Provider::lower))]
+fn lower(a: Result<(), Refusal>, b: Result<(), Refusal>) -> Result<(), Refusal>
+    ensures { result ≡ lower a b }
 {
-    if m == 0 {
-        return n;
+    let Err(m) = a else {
+        return b;
+    };
+    let Err(n) = b else {
+        return a;
+    };
+    if m.0 < n.0 {
+        return a;
     }
-    if n == 0 {
-        return m;
-    }
-    if m < n {
-        return m;
-    }
-    n
+    b
 }
 
-// The lowest refusal over both rooms, or 0.
+// Turned away with the lowest refusal over both rooms.
 fn judge_both(
     settings: Settings,
     absolute: &[u64],
@@ -33,8 +35,8 @@ fn judge_both(
     reading: u64,
     absolutes: Caller,
     suppresseds: Caller,
-) -> u64
-    ensures { result ≡ refusal_of_both settings absolute.now suppressed.now reading absolutes suppresseds }
+) -> Result<(), Refusal>
+    ensures { result ≡ ruled (refusal_of_both settings absolute.now suppressed.now reading absolutes suppresseds) }
 {
     let m = cleanup::judge_all(RoomKind::Absolute, settings, absolute, reading, absolutes);
     let n = cleanup::judge_all(
@@ -44,7 +46,7 @@ fn judge_both(
         reading,
         suppresseds,
     );
-    lowest(m, n)
+    lower(m, n)
 }
 
 // Cleans both rooms or neither. Each room has a caller of its own: its promises are those of that room.
@@ -56,24 +58,20 @@ pub fn cleanup(
     absolutes: Caller,
     suppresseds: Caller,
     stale: u64,
-) -> DoneAnswer
+) -> Result<(), Refusal>
     ensures { Told (cleanup settings absolute.old suppressed.old reading absolutes suppresseds stale) result
         absolute.new suppressed.new }
 {
-    let code = judge_both(
+    judge_both(
         settings,
         absolute,
         suppressed,
         reading,
         absolutes,
         suppresseds,
-    );
-    if code != 0 {
-        return DoneAnswer::Refused(code);
-    }
-    let clock = settings.clock_mode;
-    let ticks = clock.ticks_per_millisecond();
+    )?;
+    let ticks = settings.clock_mode.ticks_per_millisecond();
     stale::clean(absolute, reading, ticks, stale);
     stale::clean(suppressed, reading, ticks, stale);
-    DoneAnswer::Done
+    Ok(())
 }

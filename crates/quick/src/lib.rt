@@ -3,14 +3,16 @@
 #![tactic(auto)]
 
 ghost use Rattle.std.specs.Prelude.{◌≡◌, false, ◌+◌, ◌<◌, ◌≤◌, length};
-ghost use Rattle.ring.specs.Ring.{bucket, wrap, buckets, Shape};
+ghost use Rattle.ring.specs.Ring.{wrap, buckets, Shape};
 ghost use Rattle.quick.specs.Quick.{minus, plus, full_turn, plain_turn, turn_of, run_of, rows, cells, plainly, met_of, shown};
 
+use ring::Bucket;
+
 // 2^54: the sums of 512 words below it do not wrap.
-const SMALL: u64 = 18014398509481984;
+const SMALL: u64 = 1 << 54;
 
 // 2^63: an oldest time below it leaves 512 gaps of 2^54 to come.
-const EARLY: u64 = 9223372036854775808;
+const EARLY: u64 = 1 << 63;
 
 // Up to so many buckets a walk from one to the next is the quicker pass.
 const FEW: usize = 24;
@@ -28,61 +30,49 @@ pub struct Acc {
 fn minus(a: u64, b: u64) -> u64
     ensures { result ≡ minus a b }
 {
-    if b <= a {
-        a - b
-    } else {
-        a + (u64::MAX - b) + 1
-    }
+    a.wrapping_sub(b)
 }
 
 // The sum, as a word.
 fn plus(a: u64, b: u64) -> u64
     ensures { result ≡ plus a b }
 {
-    if a <= u64::MAX - b {
-        a + b
-    } else {
-        a - (u64::MAX - b) - 1
-    }
+    a.wrapping_add(b)
 }
 
 // One bucket further, where each declined is taken for 0 and their bits are kept apart.
-fn plain_turn(a: Acc, c: u64, d: u64, t: u64) -> Acc
-    ensures { result ≡ plain_turn a (bucket c d t) }
+fn plain_turn(a: Acc, x: Bucket) -> Acc
+    ensures { result ≡ plain_turn a x }
 {
-    let g = minus(t, a.lo);
-    let kept = plus(a.kept, c);
     Acc {
-        lo: t,
-        kept,
-        declined: a.declined | d,
-        bits: a.bits | c | g,
+        lo: x.time,
+        kept: plus(a.kept, x.count),
+        declined: a.declined | x.declined,
+        bits: a.bits | x.count | minus(x.time, a.lo),
     }
 }
 
 // One bucket further.
-fn full_turn(a: Acc, c: u64, d: u64, t: u64) -> Acc
-    ensures { result ≡ full_turn a (bucket c d t) }
+fn full_turn(a: Acc, x: Bucket) -> Acc
+    ensures { result ≡ full_turn a x }
 {
-    let g = minus(t, a.lo);
-    let e = minus(c, d);
-    let kept = plus(a.kept, e);
-    let declined = plus(a.declined, d);
+    let e = minus(x.count, x.declined);
     Acc {
-        lo: t,
-        kept,
-        declined,
-        bits: a.bits | d | e | g,
+        lo: x.time,
+        kept: plus(a.kept, e),
+        declined: plus(a.declined, x.declined),
+        bits: a.bits | x.declined | e | minus(x.time, a.lo),
     }
 }
 
-fn turn(plain: bool, a: Acc, c: u64, d: u64, t: u64) -> Acc
-    ensures { result ≡ turn_of plain a (bucket c d t) }
+fn turn(plain: bool, a: Acc, x: Bucket) -> Acc
+    ensures { result ≡ turn_of plain a x }
 {
     if plain {
-        return plain_turn(a, c, d, t);
+        plain_turn(a, x)
+    } else {
+        full_turn(a, x)
     }
-    full_turn(a, c, d, t)
 }
 
 // All of three lists. The compiler makes two loops of it, one for each kind of turn.
@@ -91,10 +81,13 @@ fn run<'a>(plain: bool, cs: &'a [u64], ds: &'a [u64], ts: &'a [u64], a0: Acc) ->
     ensures { result ≡ run_of plain a0 (rows cs.now ds.now ts.now) }
 {
     let mut a = a0;
-    let mut k = 0;
-    while k < cs.len() {
-        a = turn(plain, a, cs[k], ds[k], ts[k]);
-        k += 1;
+    for k in 0..cs.len() {
+        let x = Bucket {
+            count: cs[k],
+            declined: ds[k],
+            time: ts[k],
+        };
+        a = turn(plain, a, x);
     }
     a
 }
@@ -113,13 +106,6 @@ fn part(plain: bool, b: &[u64], r: usize, j: usize, m: usize, a: Acc) -> Acc
     run(plain, &b[c0..c1], &b[d0..d1], &b[t0..t1], a)
 }
 
-// How many of `n` buckets stand before the ring's end, where `room` is left.
-fn before_end(n: usize, room: usize) -> usize
-    ensures { (result ≤ n) × (result ≤ room) × (result < n → result ≡ room) }
-{
-    if n < room { n } else { room }
-}
-
 // The two parts of a ring, behind the head and before it.
 fn both_parts(plain: bool, b: &[u64], r: usize, a: Acc) -> Acc
     requires { Shape r b.now }
@@ -127,7 +113,7 @@ fn both_parts(plain: bool, b: &[u64], r: usize, a: Acc) -> Acc
 {
     let n = ring::len(b, r);
     let h = b[layout::HEAD] as usize;
-    let m = before_end(n, r - h);
+    let m = n.min(r - h);
     let y = part(plain, b, r, h, m, a);
     part(plain, b, r, 0, n - m, y)
 }
@@ -148,12 +134,9 @@ fn walk(b: &[u64], r: usize, a0: Acc) -> Acc
     let n = ring::len(b, r);
     let mut a = a0;
     let mut j = b[layout::HEAD] as usize;
-    let mut k = 0;
-    while k < n {
-        let x = ring::at(b, r, j);
-        a = full_turn(a, x.count, x.declined, x.time);
+    for k in 0..n {
+        a = full_turn(a, ring::at(b, r, j));
         j = next(r, j);
-        k += 1;
     }
     a
 }
@@ -164,31 +147,22 @@ fn over(b: &[u64], r: usize, a: Acc) -> Acc
     ensures { result ≡ run_of (plainly b.now) a (buckets r b.now) }
 {
     if ring::len(b, r) <= FEW {
-        return walk(b, r, a);
+        walk(b, r, a)
+    } else {
+        both_parts(b[layout::DECLINED] == 0, b, r, a)
     }
-    both_parts(b[layout::DECLINED] == 0, b, r, a)
 }
 
 // Whether a pass shows that all is sound.
 fn met(a: Acc, first: u64, last: u64, total: u64, declined: u64) -> bool
     ensures { result ≡ met_of a first last total declined }
 {
-    if SMALL <= a.bits {
-        return false;
-    }
-    if EARLY <= first {
-        return false;
-    }
-    if last < a.lo {
-        return false;
-    }
-    if plus(a.kept, a.declined) != total {
-        return false;
-    }
-    if a.declined != declined {
-        return false;
-    }
-    total <= layout::MOST_TOTAL
+    a.bits < SMALL
+        && first < EARLY
+        && a.lo <= last
+        && plus(a.kept, a.declined) == total
+        && a.declined == declined
+        && total <= layout::MOST_TOTAL
 }
 
 // Whether a pass shows that a key's buckets are sound. Where it does not they may be so all the same: a gap of 2^54 is.

@@ -1,6 +1,6 @@
 -- What is found is what the line tells: a line with these fields prints what is found, and what prints as it is found.
 -- Assumes nothing.
-use Rattle.std.specs.Prelude.{◌≡◌, Bool, true, false, ◌&&◌, cond, List, ◌≢◌, ℕ, ◌≤◌, leb, eqb, Float}
+use Rattle.std.specs.Prelude.{◌≡◌, Bool, true, false, ◌&&◌, cond, List, ◌≢◌, ℕ, ◌≤◌, leb, eqb, Float, Option, Some, None, Result, Ok, Err}
 use Rattle.std.proofs.Math.Path.{refl}
 use Rattle.std.proofs.Common.{sym, ap, subst, ◌∙◌, arith, le-leb, leb-true, eq-eqb, eqb-true}
 use Rattle.std.proofs.lemmas.Bool.{false≢true}
@@ -9,6 +9,8 @@ use Rattle.std.specs.Float.Ieee.{of_bits, to_bits}
 use Rattle.std.specs.Float.Ieee.Bits.{of_bits-to_bits, of_bits-fits, to_bits-lt}
 use Rattle.fields.specs.Ranges.{largest, exact_largest}
 use Rattle.lines.specs.ReadLaws.{both}
+use Rattle.common.specs.declared.refusal.Refusal.{Refusal}
+use Rattle.common.specs.Refusals.{refusal}
 use Rattle.suppression.specs.Factor.{factor_word_ok}
 use Rattle.printing.specs.Answers.{show_answer}
 use Rattle.printing.specs.declared.Answer.{Answer}
@@ -20,12 +22,8 @@ use Rattle.told.specs.declared.Stored.{Stored}
 use Rattle.told.specs.declared.Told.{Told}
 use Rattle.told.specs.declared.Told.TheVariants.{Allowed, Rejected, Suppressed, Value, Refused}
 use Rattle.told.specs.declared.ToldLine.{ToldLine}
-use Rattle.told.specs.declared.LineAnswer.{LineAnswer}
-use Rattle.told.specs.declared.LineAnswer.TheVariants as answer
 use Rattle.answer_lines.specs.Laws.{AnswerFits, ReadLine, PrintedRead, answer-read, answer-shown}
 use Rattle.answer_lines.specs.Reading.{read_answer}
-use Rattle.answer_lines.specs.declared.Printed.{Printed}
-use Rattle.answer_lines.specs.declared.Printed.TheVariants as printed
 use Rattle.readback.specs.Meaning.{totals_fit, refusal_fits, is_fit, stored_in, told_as, told_by, line_by, same_numbers, meaning_of, meaning_in, read_back}
 
 -- ---- the tests are the ranges
@@ -87,18 +85,18 @@ module _ (l : AnswerLine) (f : AnswerFits l) where
   is-fit word.Held e = refusal_is l.t 0 e
   is-fit word.Refused e = refusal_is l.t l.code e
 
-  -- the word is kept
-  word-is : (w : Answer) → is_fit l.t (told_as w l) ≡ true → (line_for l.t (told_as w l)).answer ≡ w
-  unfolding is_fit
-  word-is word.Allowed e = refl
-  word-is word.Rejected e = refl
-  word-is word.Yes e = refl
-  word-is word.No e = refl
-  word-is word.Value e = refl
-  word-is word.Held e = absurd (false≢true e)
-  word-is word.Refused e = refl
+-- the word is kept
+pub word-is : (l : AnswerLine) (w : Answer) → is_fit l.t (told_as w l) ≡ true → (line_for l.t (told_as w l)).answer ≡ w
+unfolding is_fit
+word-is l word.Allowed e = refl
+word-is l word.Rejected e = refl
+word-is l word.Yes e = refl
+word-is l word.No e = refl
+word-is l word.Value e = refl
+word-is l word.Held e = absurd (false≢true e)
+word-is l word.Refused e = refl
 
-time-is : (t : ℕ) (told : Told) → (line_for t told).t ≡ t
+pub time-is : (t : ℕ) (told : Told) → (line_for t told).t ≡ t
 time-is t (Allowed x) = refl
 time-is t (Rejected wait left x) = refl
 time-is t (Suppressed factor admitted x) = refl
@@ -140,7 +138,7 @@ unfolding told_by line_of
 found line l r fit same =
     record {
       in-range = record { time = r.fits.verdicts.times; told = is-fit l r.fits l.answer fit };
-      prints = r.shows ∙ ap show_answer (sym (same_line (line_of (line_by l)) l (time-is l.t (told_by l)) (word-is l r.fits l.answer fit) same));
+      prints = r.shows ∙ ap show_answer (sym (same_line (line_of (line_by l)) l (time-is l.t (told_by l)) (word-is l l.answer fit) same));
     }
 
 -- ---- what prints as a line is found
@@ -158,14 +156,14 @@ line-back : (l : ToldLine) → Fits l → line_by (line_of l) ≡ l
 unfolding line_of
 line-back l f = λ i. record { t = time-is l.t l.told i; told = told_back l.t l.told f.told i }
 
-pub meaning-back : (l : ToldLine) → Fits l → meaning_of (line_of l) ≡ answer.Line l
+pub meaning-back : (l : ToldLine) → Fits l → meaning_of (line_of l) ≡ Ok l
 unfolding meaning_of
 meaning-back l f =
     let back = line-back l f in
     let fit : is_fit (line_of l).t (told_by (line_of l)) ≡ true = ap (λ (k : ToldLine). is_fit k.t k.told) back ∙ fit_is l.t l.told f.told in
     let same : same_numbers (line_of (line_by (line_of l))) (line_of l) ≡ true =
     ap (λ (k : ToldLine). same_numbers (line_of k) (line_of l)) back ∙ same_self (line_of l) in
-    rw (fit, same) (ap answer.Line back)
+    rw (fit, same) (ap Ok back)
 
 small-factor : (x : Float) → FactorFits x → to_bits binary64 x ≤ largest
 small-factor x f = omega (arith, to_bits-lt binary64 x f.double)
@@ -197,28 +195,28 @@ answer-fits t (Refused n) h f = record {
   counts = record { firsts = omega arith; seconds = omega arith; thirds = omega arith };
 }
 
-pub printed-back : (line : List ℕ) (l : ToldLine) → Fits l → line ≡ text_of l → read_answer line ≡ printed.Answer (line_of l)
+pub printed-back : (line : List ℕ) (l : ToldLine) → Fits l → line ≡ text_of l → read_answer line ≡ Some (line_of l)
 unfolding line_of
 printed-back line l f e = answer-shown line (line_of l) (answer-fits l.t l.told f.time f.told) e
 
 -- ---- the reader answers what the line tells
 
-pub reads-back : (line : List ℕ) (l : ToldLine) → Fits l → line ≡ text_of l → read_back line ≡ answer.Line l
+pub reads-back : (line : List ℕ) (l : ToldLine) → Fits l → line ≡ text_of l → read_back line ≡ Ok l
 unfolding read_back
 reads-back line l f e = rw (printed-back line l f e) (meaning-back l f)
 
-line-or-not : (l : ToldLine) (n : ℕ) → answer.Line l ≢ answer.Refused n
+line-or-not : (l : ToldLine) (n : Refusal) → ◌≢◌ {A = Result ToldLine Refusal} (Ok l) (Err n)
 line-or-not l n e = let z : ◌≡◌ {A = ℕ} 0 1 = cc in omega arith
 
-nothing : (line : List ℕ) → read_back line ≡ answer.Refused bad_line → Unread line bad_line
-nothing line e = record { number = refl; other = λ l f p. line-or-not l bad_line (sym (reads-back line l f p) ∙ e) }
+nothing : (line : List ℕ) → read_back line ≡ Err (refusal bad_line) → Unread line bad_line
+nothing line e = record { number = refl; other = λ l f p. line-or-not l (refusal bad_line) (sym (reads-back line l f p) ∙ e) }
 
-met : (line : List ℕ) (l : AnswerLine) → read_answer line ≡ printed.Answer l → ReadLine line l → Reads line (meaning_of l)
+met : (line : List ℕ) (l : AnswerLine) → read_answer line ≡ Some l → ReadLine line l → Reads line (meaning_of l)
 unfolding meaning_of read_back
 met line l q r = go (is_fit l.t (told_by l)) refl (same_numbers (line_of (line_by l)) l) refl
   where
     go : (a : Bool) → is_fit l.t (told_by l) ≡ a → (b : Bool) → same_numbers (line_of (line_by l)) l ≡ b →
-        Reads line (cond (a && b) (answer.Line (line_by l)) (answer.Refused bad_line))
+        Reads line (cond (a && b) (Ok (line_by l)) (Err (refusal bad_line)))
     go true p true s = found line l r p s
     go true p false s = nothing line (rw (q, p, s))
     go false p b s = nothing line (rw (q, p))
@@ -227,15 +225,15 @@ pub meaning : (line : List ℕ) → Reads line (read_back line)
 unfolding read_back
 meaning line = go (read_answer line) refl (answer-read line)
   where
-    go : (p : Printed) → read_answer line ≡ p → PrintedRead line p → Reads line (meaning_in p)
-    go (printed.Answer l) q r = met line l q r
-    go printed.Bad q r = nothing line (rw q)
+    go : (p : Option AnswerLine) → read_answer line ≡ p → PrintedRead line p → Reads line (meaning_in p)
+    go (Some l) q r = met line l q r
+    go None q r = nothing line (rw q)
 
 -- by what the reader of answers finds
-pub read_none : (line : List ℕ) → read_answer line ≡ printed.Bad → Reads line (answer.Refused bad_line)
+pub read_none : (line : List ℕ) → read_answer line ≡ None → Reads line (Err (refusal bad_line))
 unfolding read_back
-read_none line e = subst (λ (p : Printed). Reads line (meaning_in p)) e (meaning line)
+read_none line e = subst (λ (p : Option AnswerLine). Reads line (meaning_in p)) e (meaning line)
 
-pub read_some : (line : List ℕ) (l : AnswerLine) (r : LineAnswer) → read_answer line ≡ printed.Answer l → r ≡ meaning_of l → Reads line r
+pub read_some : (line : List ℕ) (l : AnswerLine) (r : Result ToldLine Refusal) → read_answer line ≡ Some l → r ≡ meaning_of l → Reads line r
 unfolding read_back
-read_some line l r e f = subst (Reads line) (sym f) (subst (λ (p : Printed). Reads line (meaning_in p)) e (meaning line))
+read_some line l r e f = subst (Reads line) (sym f) (subst (λ (p : Option AnswerLine). Reads line (meaning_in p)) e (meaning line))

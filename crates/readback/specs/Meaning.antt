@@ -1,9 +1,11 @@
 -- How it is found what a line tells: what its word alone would say, tried by its range and by what it prints. `Laws` says that this is what the line tells.
 -- Assumes nothing.
-use Rattle.std.specs.Prelude.{Bool, true, false, ◌&&◌, cond, List, ℕ, leb, eqb, Float}
+use Rattle.std.specs.Prelude.{Bool, true, false, ◌&&◌, cond, List, ℕ, leb, eqb, Float, Option, Some, None, Result, Ok, Err}
 use Rattle.std.specs.Float.{binary64}
 use Rattle.std.specs.Float.Ieee.{of_bits, to_bits}
 use Rattle.fields.specs.Ranges.{exact_largest}
+use Rattle.common.specs.declared.refusal.Refusal.{Refusal}
+use Rattle.common.specs.Refusals.{refusal}
 use Rattle.suppression.specs.Factor.{factor_word_ok}
 use Rattle.printing.specs.declared.Answer.{Answer}
 use Rattle.printing.specs.declared.Answer.TheVariants as word
@@ -14,11 +16,7 @@ use Rattle.told.specs.declared.Stored.{Stored}
 use Rattle.told.specs.declared.Told.{Told}
 use Rattle.told.specs.declared.Told.TheVariants.{Allowed, Rejected, Suppressed, Value, Refused}
 use Rattle.told.specs.declared.ToldLine.{ToldLine}
-use Rattle.told.specs.declared.LineAnswer.{LineAnswer}
-use Rattle.told.specs.declared.LineAnswer.TheVariants as answer
 use Rattle.answer_lines.specs.Reading.{read_answer}
-use Rattle.answer_lines.specs.declared.Printed.{Printed}
-use Rattle.answer_lines.specs.declared.Printed.TheVariants as printed
 
 -- ---- `Fits`, as it is tested
 
@@ -64,12 +62,12 @@ same_numbers a b =
     eqb a.code b.code && (eqb a.factor b.factor && (eqb a.wait b.wait && (eqb a.left b.left &&
     (eqb a.total b.total && eqb a.declined b.declined))))
 
-unfoldable pub meaning_of : AnswerLine → LineAnswer
-meaning_of l = cond (is_fit l.t (told_by l) && same_numbers (line_of (line_by l)) l) (answer.Line (line_by l)) (answer.Refused bad_line)
+unfoldable pub meaning_of : AnswerLine → Result ToldLine Refusal
+meaning_of l = cond (is_fit l.t (told_by l) && same_numbers (line_of (line_by l)) l) (Ok (line_by l)) (Err (refusal bad_line))
 
-abbrev pub meaning_in : Printed → LineAnswer
-meaning_in (printed.Answer l) = meaning_of l
-meaning_in printed.Bad = answer.Refused bad_line
+abbrev pub meaning_in : Option AnswerLine → Result ToldLine Refusal
+meaning_in (Some l) = meaning_of l
+meaning_in None = Err (refusal bad_line)
 
-unfoldable pub read_back : List ℕ → LineAnswer
+unfoldable pub read_back : List ℕ → Result ToldLine Refusal
 read_back line = meaning_in (read_answer line)

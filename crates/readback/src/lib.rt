@@ -3,11 +3,12 @@
 
 ghost use Rattle.std.specs.Prelude.{◌≡◌};
 ghost use Rattle.told.specs.Range.{timeless, Reads};
-ghost use Rattle.readback.specs.Meaning.{told_by, totals_fit, factor_fits, refusal_fits, is_fit, same_numbers, meaning_of};
+ghost use Rattle.readback.specs.Meaning.{told_by, totals_fit, factor_fits, refusal_fits, is_fit, meaning_of};
 
-use answer_lines::{Printed, read_answer};
+use answer_lines::read_answer;
+use common::Refusal;
 use printing::{Answer, AnswerLine};
-use told::{BAD_LINE, LineAnswer, Stored, Told, ToldLine, line_of};
+use told::{BAD_LINE, Stored, Told, ToldLine, line_of};
 
 const MOST_TOTAL: u64 = 9007199254740992;
 
@@ -16,10 +17,7 @@ const MOST_TOTAL: u64 = 9007199254740992;
 fn totals_fit(x: Stored) -> bool
     ensures { result ≡ totals_fit x }
 {
-    if MOST_TOTAL < x.total {
-        return false;
-    }
-    x.declined <= x.total
+    x.total <= MOST_TOTAL && x.declined <= x.total
 }
 
 fn factor_fits(factor: f64) -> bool
@@ -32,52 +30,23 @@ fn factor_fits(factor: f64) -> bool
 fn is_timeless(code: u64) -> bool
     ensures { result ≡ timeless code }
 {
-    if code <= 4 {
-        return true;
-    }
-    code == BAD_LINE
+    code <= 4 || code == BAD_LINE
 }
 
 fn refusal_fits(t: u64, code: u64) -> bool
     ensures { result ≡ refusal_fits t code }
 {
-    if code < 1 {
-        return false;
-    }
-    if BAD_LINE < code {
-        return false;
-    }
-    if is_timeless(code) {
-        return t == 0;
-    }
-    true
+    1 <= code && code <= BAD_LINE && (!is_timeless(code) || t == 0)
 }
 
+#[tactic(auto, unfolding(crate::specs::Meaning::is_fit))]
 fn is_fit(t: u64, told: Told) -> bool
     ensures { result ≡ is_fit t told }
 {
     match told {
-        Told::Allowed(stored) => totals_fit(stored),
-        Told::Rejected {
-            wait: _,
-            left: _,
-            stored,
-        } => totals_fit(stored),
-        Told::Suppressed {
-            factor,
-            is_allowed: _,
-            stored,
-        } => {
-            if !factor_fits(factor) {
-                return false;
-            }
-            totals_fit(stored)
-        }
-        Told::Value { factor, stored } => {
-            if !factor_fits(factor) {
-                return false;
-            }
-            totals_fit(stored)
+        Told::Allowed(stored) | Told::Rejected { stored, .. } => totals_fit(stored),
+        Told::Suppressed { factor, stored, .. } | Told::Value { factor, stored } => {
+            factor_fits(factor) && totals_fit(stored)
         }
         Told::Refused(code) => refusal_fits(t, code),
     }
@@ -86,6 +55,7 @@ fn is_fit(t: u64, told: Told) -> bool
 // ---- what a line tells
 
 // By its word alone. `held` is no answer of `desk`, and 0 no refusal.
+#[tactic(auto, unfolding(crate::specs::Meaning::told_by))]
 fn told_by(l: AnswerLine) -> Told
     ensures { result ≡ told_by l }
 {
@@ -94,8 +64,7 @@ fn told_by(l: AnswerLine) -> Told
         declined: l.declined,
     };
     let factor = common::double_of(l.factor);
-    let answer = l.answer;
-    match answer {
+    match l.answer {
         Answer::Allowed => Told::Allowed(stored),
         Answer::Rejected => Told::Rejected {
             wait: l.wait,
@@ -118,47 +87,23 @@ fn told_by(l: AnswerLine) -> Told
     }
 }
 
-fn same_numbers(a: AnswerLine, b: AnswerLine) -> bool
-    ensures { result ≡ same_numbers a b }
-{
-    if a.code != b.code {
-        return false;
-    }
-    if a.factor != b.factor {
-        return false;
-    }
-    if a.wait != b.wait {
-        return false;
-    }
-    if a.left != b.left {
-        return false;
-    }
-    if a.total != b.total {
-        return false;
-    }
-    a.declined == b.declined
-}
-
-// What its word says, where that is in range and prints with the same numbers.
-fn meaning_of(l: AnswerLine) -> LineAnswer
+// What its word says, where that is in range and prints as the same line.
+fn meaning_of(l: AnswerLine) -> Result<ToldLine, Refusal>
     ensures { result ≡ meaning_of l }
 {
-    let t = l.t;
-    let told = told_by(l);
-    if !is_fit(t, told) {
-        return LineAnswer::Refused(BAD_LINE);
+    let line = ToldLine {
+        t: l.t,
+        told: told_by(l),
+    };
+    if is_fit(line.t, line.told) && line_of(line) == l {
+        Ok(line)
+    } else {
+        Err(Refusal::NO_CALL)
     }
-    if !same_numbers(line_of(ToldLine { t, told }), l) {
-        return LineAnswer::Refused(BAD_LINE);
-    }
-    LineAnswer::Line(ToldLine { t, told })
 }
 
-pub fn read_line(line: &[u8]) -> LineAnswer
+pub fn read_line(line: &[u8]) -> Result<ToldLine, Refusal>
     ensures { Reads line.now result }
 {
-    let Printed::Answer(l) = read_answer(line) else {
-        return LineAnswer::Refused(BAD_LINE);
-    };
-    meaning_of(l)
+    meaning_of(read_answer(line).ok_or(Refusal::NO_CALL)?)
 }

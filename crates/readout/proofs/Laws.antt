@@ -1,69 +1,68 @@
--- What `decide` says, and the row place by place.
+-- What is read of what was found, and the row place by place.
 -- Assumes nothing.
-use Rattle.std.specs.Prelude.{◌≡◌, Bool, List, ℕ, ◌+◌, ◌≤◌, ◌<◌, min, length, get_or, set, eqb}
+use Rattle.std.specs.Prelude.{◌≡◌, ◌≢◌, List, ℕ, ◌+◌, ◌≤◌, ◌<◌, min, length, get_or, set, Ok, Err}
 use Rattle.std.proofs.Math.Path.{refl}
-use Rattle.std.proofs.Common.{ap, ◌∙◌, arith}
-use Rattle.std.proofs.Math.Bool.{true, false}
+use Rattle.std.proofs.Common.{ap, sym, ◌∙◌, arith, ne_eqb, eq-eqb}
+use Rattle.common.specs.declared.refusal.Refusal.{Refusal}
+use Rattle.common.proofs.Ruled.{unless-err, unless-ok}
 use Rattle.settings.specs.declared.Settings.{Settings}
 use Rattle.rules.specs.declared.RoomKind.{RoomKind}
 use Rattle.ring.specs.declared.Bucket.{Bucket}
 use Rattle.ring.specs.Ring.{no_bucket, buckets}
 use Rattle.room.specs.Room.{ring_of, body_of}
+use Rattle.opened.specs.Sound.{addressed}
 use Rattle.parties.specs.Parties.{Sent}
 use Rattle.finding.specs.declared.Found.{Found}
-use Rattle.readout.specs.declared.Plan.{Plan}
-use Rattle.answers.specs.declared.ReadOutAnswer.{ReadOutAnswer}
-use Rattle.readout.specs.Row.{laid}
-use Rattle.readout.proofs.Row.{laid-nothing, up_to-length, up_to-more}
-use Rattle.readout.specs.ReadOut.{read_out, Shown, answer_of, plan_of, row_at}
-use Rattle.finding.specs.Finding.{refusal, shown, found, Readable, Reads}
+use Rattle.finding.specs.Finding.{refusal, buckets_of, found, Readable, Reads}
 use Rattle.finding.proofs.FindingLaws.{readable}
-
-plan-path : {r r' : ReadOutAnswer} {at n n' : ℕ} → r ≡ r' → n ≡ n' →
-    ◌≡◌ {A = Plan} (record { answer = r; slot = at; fitting = n }) (record { answer = r'; slot = at; fitting = n' })
-plan-path {at = at} p q = λ i. record { answer = p i; slot = at; fitting = q i }
+use Rattle.readout.proofs.Row.{up_to-length, up_to-more}
+use Rattle.readout.specs.ReadOut.{read_out, Shown, row_at}
 
 module _ (kind : RoomKind) (s : Settings) (w : List ℕ) (key : Sent) where
-  -- ---- what `decide` says
+  -- a refusal leaves the row
+  pub row-refused : (row : List Bucket) (r : Refusal) → Err r ≡ found kind s w key → Shown (read_out kind s w key row) (Err r) row
+  unfolding read_out found
+  row-refused row r e =
+      let o = unless-err _ _ r e in
+      record { answer = sym (rw (ne_eqb _ 0 o.0, sym o.1)); row = sym (rw (ne_eqb _ 0 o.0)) }
 
-  pub plan-is : (x : Found) → x ≡ found kind s w key → (r : ReadOutAnswer) → r ≡ answer_of x → (n m : ℕ) → m ≡ min x.count n →
-      record { answer = r; slot = x.slot; fitting = m } ≡ plan_of (found kind s w key) n
-  plan-is x e r f n m g = plan-path f g ∙ ap (λ (y : Found). plan_of y n) e
+  -- ---- what was found
 
-  -- ---- the row, place by place
-
-  module _ (row : List Bucket) where
-    abbrev pub fitting : ℕ
-    fitting = min (found kind s w key).count (length row)
-
-    count-is : (found kind s w key).count ≡ length (shown kind s w key)
+  module _ (x : Found) (e : Ok x ≡ found kind s w key) where
+    fine : refusal kind s w key ≡ 0
     unfolding found
-    count-is = refl
+    fine = (unless-ok _ _ x e).0
 
-    -- while a bucket fits, the slot can be read
-    reads : (i : ℕ) → i < fitting → Reads w (found kind s w key).slot (shown kind s w key)
-    reads i h = readable kind s w key _ _ _ refl refl refl (omega (arith, count-is))
+    count-is : x.count ≡ length (buckets_of w key)
+    unfolding found
+    count-is = ap (λ (y : Found). y.count) (unless-ok _ _ x e).1
 
-    pub row-readable : (i : ℕ) → i < fitting → Readable w (found kind s w key).slot
-    row-readable i h = (reads i h).readable
+    slot_is : x.slot ≡ addressed w key
+    unfolding found
+    slot_is = ap (λ (y : Found). y.slot) (unless-ok _ _ x e).1
 
-    pub row-length : (i : ℕ) → i ≤ fitting → length (row_at kind s w key row i) ≡ length row
-    row-length i h = up_to-length (shown kind s w key) row i (omega (arith, count-is)) (omega arith)
+    -- while there is a bucket, the slot can be read
+    reads : 0 < x.count → Reads w x.slot (buckets_of w key)
+    reads h = rw slot_is (readable kind s w key _ _ fine refl refl (omega (arith, count-is)))
 
-    -- and writing it makes the row of one more
-    pub row_more : (i : ℕ) (x : Bucket) → i < fitting → x ≡ get_or (buckets (ring_of w) (body_of w (found kind s w key).slot)) i no_bucket →
-        set (row_at kind s w key row i) i x ≡ row_at kind s w key row (i + 1)
-    row_more i x h e =
-        up_to-more (shown kind s w key) row i x no_bucket (e ∙ ap (λ (xs : List Bucket). get_or xs i no_bucket) (reads i h).view) (omega (arith, count-is))
-        (omega arith)
+    pub slot-readable : (i : ℕ) → i < x.count → Readable w x.slot
+    slot-readable i h = (reads (omega arith)).readable
+
+    -- ---- the row, place by place
+
+    pub row-length : (row : List Bucket) (i : ℕ) → i ≤ min x.count (length row) → length (row_at w key row i) ≡ length row
+    row-length row i h = up_to-length (buckets_of w key) row i (omega (arith, count-is)) (omega arith)
+
+    -- writing a bucket makes the row of one more
+    pub row_more : (row : List Bucket) (i : ℕ) (b : Bucket) → i < min x.count (length row) →
+        b ≡ get_or (buckets (ring_of w) (body_of w x.slot)) i no_bucket → set (row_at w key row i) i b ≡ row_at w key row (i + 1)
+    row_more row i b h f =
+        up_to-more (buckets_of w key) row i b no_bucket (f ∙ ap (λ (xs : List Bucket). get_or xs i no_bucket) (reads (omega arith)).view)
+        (omega (arith, count-is)) (omega arith)
 
     -- all that fit are the row to leave
-    shown-as : (b : Bool) → eqb (refusal kind s w key) 0 ≡ b → Shown (read_out kind s w key row) (answer_of (found kind s w key)) (laid (shown kind s w key) row)
-    unfolding read_out found shown
-    shown-as true e = rw e (record { answer = refl; row = refl })
-    shown-as false e = rw e (record { answer = refl; row = laid-nothing row })
-
-    pub row-shown : (i : ℕ) → i ≡ fitting → Shown (read_out kind s w key row) (answer_of (found kind s w key)) (row_at kind s w key row i)
-    row-shown i e =
-        let o = shown-as _ refl in
-        record { answer = o.answer; row = ap (λ (n : ℕ). row_at kind s w key row n) (e ∙ ap (λ (n : ℕ). min n (length row)) count-is) ∙ o.row }
+    pub row-shown : (row : List Bucket) (i : ℕ) → i ≡ min x.count (length row) → Shown (read_out kind s w key row) (Ok x.count) (row_at w key row i)
+    unfolding read_out
+    row-shown row i q =
+        let n : i ≡ min (length (buckets_of w key)) (length row) = q ∙ ap (λ (k : ℕ). min k (length row)) count-is in
+        record { answer = ap Ok count-is ∙ sym (rw fine); row = ap (λ (k : ℕ). row_at w key row k) n ∙ sym (rw fine) }

@@ -1,15 +1,13 @@
 -- The read-out by document 01's rule: what it answers, and every place of the row, told by what the key holds. The rule tells all: what keeps it is what
 -- the definition gives.
 -- Assumes nothing.
-use Rattle.std.specs.Prelude.{◌≡◌, false, ℕ, ◌≤◌, ◌<◌}
+use Rattle.std.specs.Prelude.{◌≡◌, false, ℕ, ◌≤◌, ◌<◌, Result, Ok, Err}
 use Rattle.std.proofs.Common.{sym, ◌∙◌, arith, ext_get_or, eq-eqb}
 use Rattle.std.proofs.Math.Path.{ap, subst}
 use mathlib.Core.List.{List, []}
 use Rattle.std.proofs.Math.Decide.{dec_lt}
 use Rattle.std.proofs.Math.ListN.{length, get_or}
 use Rattle.answers.specs.Rows.{row, read_out_row}
-use Rattle.answers.specs.declared.ReadOutAnswer.{ReadOutAnswer}
-use Rattle.answers.specs.declared.ReadOutAnswer.TheVariants.{Buckets, Refused}
 use Rattle.settings.specs.declared.Settings.{Settings}
 use Rattle.rules.specs.declared.RoomKind.{RoomKind}
 use Rattle.ring.specs.declared.Bucket.{Bucket}
@@ -22,6 +20,7 @@ use Rattle.readout.specs.Row.{laid}
 use Rattle.readout.proofs.Row.{laid-length, laid-written, laid-left}
 use Rattle.readout.specs.ReadOut.{Filled, read_out}
 use Rattle.readout.specs.Rule.{ReadsOut}
+use Rattle.common.specs.declared.refusal.Refusal.{Refusal}
 
 none-unknown : (w : List ℕ) (key : Sent) → (held_in w key).known ≡ false → (held_in w key).buckets ≡ []
 unfolding held_in
@@ -31,7 +30,7 @@ module _ (kind : RoomKind) (s : Settings) (w : List ℕ) (key : Sent) (cells : L
   abbrev xs : List Bucket
   xs = (held_in w key).buckets
 
-  given_is : (read_out kind s w key cells).answer ≡ Buckets (length (held_in w key).buckets)
+  given_is : (read_out kind s w key cells).answer ≡ Ok (length (held_in w key).buckets)
   unfolding read_out
   given_is = rw (eq-eqb (refusal kind s w key) 0 n, buckets-held kind s w key)
 
@@ -55,10 +54,10 @@ module _ (kind : RoomKind) (s : Settings) (w : List ℕ) (key : Sent) (cells : L
 
 -- ---- what keeps the rule is one answer and one row
 
-buckets-row : (a : ReadOutAnswer) (n : ℕ) → read_out_row a ≡ row 0 1 n 0 0 → a ≡ Buckets n
+buckets-row : (a : Result ℕ Refusal) (n : ℕ) → read_out_row a ≡ row 0 1 n 0 0 → a ≡ Ok n
 unfolding read_out_row
-buckets-row (Buckets m) n e = ap Buckets (ap (λ (ys : List ℕ). get_or ys 2 0) e)
-buckets-row (Refused m) n e = let z : ◌≡◌ {A = ℕ} 0 1 = ap (λ (ys : List ℕ). get_or ys 1 0) e in absurd (omega (arith, z))
+buckets-row (Ok m) n e = ap Ok (ap (λ (ys : List ℕ). get_or ys 2 0) e)
+buckets-row (Err m) n e = let z : ◌≡◌ {A = ℕ} 0 1 = ap (λ (ys : List ℕ). get_or ys 1 0) e in absurd (omega (arith, z))
 
 filled-path : {v u : Filled} → v.answer ≡ u.answer → v.row ≡ u.row → v ≡ u
 filled-path p q = λ i. record { answer = p i; row = q i }

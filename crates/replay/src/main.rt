@@ -6,11 +6,11 @@
 ghost use Rattle.std.specs.Prelude.{◌+◌, ◌≤◌, length, IfOk};
 
 use answers::{
-    DeleteAnswer, DoneAnswer, FactorAnswer, HistoryPreservation, HistoryUpdateMode, OldRateAnswer,
-    RateLimitDecision, SetAnswer, SnapshotAnswer, TotalAnswer,
+    ConditionalSetOutcome, HistoryPreservation, HistoryUpdateMode, RateLimitDecision,
+    SuppressedRateLimitSnapshot,
 };
 use common::{
-    BucketSize, RateLimit, RateLimitComparator, SuppressionFactorCachePeriod, WindowSize,
+    BucketSize, RateLimit, RateLimitComparator, Refusal, SuppressionFactorCachePeriod, WindowSize,
 };
 use desk_lines::alone;
 use rules::RoomKind;
@@ -20,7 +20,7 @@ use std::io::Read;
 
 // ---- answers as the list has them: a kind and three numbers; a refusal is kind 0 with its number
 
-#[derive(Clone, Copy)]
+#[derive(Clone, Copy, PartialEq)]
 struct Row {
     kind: u64,
     x: u64,
@@ -56,59 +56,59 @@ fn decision_row(d: RateLimitDecision) -> Row {
     }
 }
 
-fn total_row(a: TotalAnswer) -> Row {
+fn total_row(a: Result<u64, Refusal>) -> Row {
     match a {
-        TotalAnswer::Total(n) => answer(5, n, 0, 0),
-        TotalAnswer::Refused(n) => refused(n),
+        Ok(n) => answer(5, n, 0, 0),
+        Err(Refusal(n)) => refused(n),
     }
 }
 
-fn snapshot_row(a: SnapshotAnswer) -> Row {
+fn snapshot_row(a: Result<SuppressedRateLimitSnapshot, Refusal>) -> Row {
     match a {
-        SnapshotAnswer::Snapshot(s) => answer(
+        Ok(s) => answer(
             6,
             s.total,
             s.total_declined,
             common::word_of(s.suppression_factor),
         ),
-        SnapshotAnswer::Refused(n) => refused(n),
+        Err(Refusal(n)) => refused(n),
     }
 }
 
-fn factor_row(a: FactorAnswer) -> Row {
+fn factor_row(a: Result<f64, Refusal>) -> Row {
     match a {
-        FactorAnswer::Factor(f) => answer(7, common::word_of(f), 0, 0),
-        FactorAnswer::Refused(n) => refused(n),
+        Ok(f) => answer(7, common::word_of(f), 0, 0),
+        Err(Refusal(n)) => refused(n),
     }
 }
 
-fn rate_row(a: OldRateAnswer) -> Row {
+fn rate_row(a: Result<Option<RateLimit>, Refusal>) -> Row {
     match a {
-        OldRateAnswer::Was(r) => answer(8, 1, common::word_of(r.0), 0),
-        OldRateAnswer::Unknown => answer(8, 0, 0, 0),
-        OldRateAnswer::Refused(n) => refused(n),
+        Ok(Some(r)) => answer(8, 1, common::word_of(r.0), 0),
+        Ok(None) => answer(8, 0, 0, 0),
+        Err(Refusal(n)) => refused(n),
     }
 }
 
-fn delete_row(a: DeleteAnswer) -> Row {
+fn delete_row(a: Result<Option<u64>, Refusal>) -> Row {
     match a {
-        DeleteAnswer::Deleted(n) => answer(9, 1, n, 0),
-        DeleteAnswer::Unknown => answer(9, 0, 0, 0),
-        DeleteAnswer::Refused(n) => refused(n),
+        Ok(Some(n)) => answer(9, 1, n, 0),
+        Ok(None) => answer(9, 0, 0, 0),
+        Err(Refusal(n)) => refused(n),
     }
 }
 
-fn set_row(a: SetAnswer) -> Row {
+fn set_row(a: Result<ConditionalSetOutcome, Refusal>) -> Row {
     match a {
-        SetAnswer::Set(o) => answer(10, said(o.matched), o.previous_total, o.current_total),
-        SetAnswer::Refused(n) => refused(n),
+        Ok(o) => answer(10, said(o.matched), o.previous_total, o.current_total),
+        Err(Refusal(n)) => refused(n),
     }
 }
 
-fn done_row(a: DoneAnswer) -> Row {
+fn done_row(a: Result<(), Refusal>) -> Row {
     match a {
-        DoneAnswer::Done => answer(1, 0, 0, 0),
-        DoneAnswer::Refused(n) => refused(n),
+        Ok(()) => answer(1, 0, 0, 0),
+        Err(Refusal(n)) => refused(n),
     }
 }
 
@@ -221,7 +221,7 @@ fn called(s: Settings, a: &mut [u64], b: &mut [u64], key: &[u8], c: Call) -> Row
 
 // ---- the key's slot after the call: use, total, declined, buckets, factor bits and factor time, 0 where it has none
 
-#[derive(Clone, Copy)]
+#[derive(Clone, Copy, Default, PartialEq)]
 struct State {
     used: u64,
     total: u64,
@@ -231,46 +231,35 @@ struct State {
     time: u64,
 }
 
-fn nothing() -> State {
-    State {
-        used: 0,
-        total: 0,
-        declined: 0,
-        buckets: 0,
-        factor: 0,
-        time: 0,
-    }
-}
-
 fn when(yes: bool, n: u64) -> u64 {
     if yes { n } else { 0 }
 }
 
 // What a body holds, by its slot's use.
 fn body_state(b: &[u64], used: u64) -> State {
-    if b.len() < 7 {
-        return nothing();
+    if b.len() < layout::FIXED {
+        return State::default();
     }
     let series = used % 2 == 1;
     let cached = 2 <= used;
     State {
         used,
-        total: when(series, b[1]),
-        declined: when(series, b[2]),
-        buckets: when(series, b[4]),
-        factor: when(cached, b[5]),
-        time: when(cached, b[6]),
+        total: when(series, b[layout::TOTAL]),
+        declined: when(series, b[layout::DECLINED]),
+        buckets: when(series, b[layout::LEN]),
+        factor: when(cached, b[layout::FACTOR]),
+        time: when(cached, b[layout::FACTOR_TIME]),
     }
 }
 
 fn state_of(w: &[u64], key: &[u8]) -> State {
     if !room::sized(w) {
-        return nothing();
+        return State::default();
     }
     let at = room::find(w, keys::key_of(layout::FIRST, key));
-    let slots = w[0] as usize;
+    let slots = w[layout::SLOTS] as usize;
     if slots <= at {
-        return nothing();
+        return State::default();
     }
     let used = room::use_of(w, at);
     let a = room::start(w, at);
@@ -279,94 +268,35 @@ fn state_of(w: &[u64], key: &[u8]) -> State {
 
 // ---- reading the list
 
-#[derive(Clone, Copy)]
-struct Number {
-    value: u64,
-    next: usize,
-}
-
-const LAST: u64 = 18446744073709551615;
-
-// The decimal at `from`, as far as it fits a word.
-fn decimal(s: &[u8], from: usize) -> Number {
+// The decimal that stands first, as far as it fits a word, and what follows it. No `parse`, which takes a number whole or not at all.
+fn decimal(s: &[u8]) -> (u64, &[u8]) {
     let mut value: u64 = 0;
-    let mut at = from;
-    while at < s.len() {
-        let b = s[at];
-        if b < 48 {
-            return Number { value, next: at };
-        }
-        if 57 < b {
-            return Number { value, next: at };
-        }
-        let d = (b - 48) as u64;
-        if (LAST - d) / 10 < value {
-            return Number { value, next: at };
-        }
-        value = value * 10 + d;
-        at += 1;
+    for (at, &b) in s.iter().enumerate() {
+        let Some(more) = appended(value, b) else {
+            return (value, &s[at..]);
+        };
+        value = more;
     }
-    Number { value, next: at }
+    (value, &[])
 }
 
-// Where the line that starts at `from` ends.
-fn line_end(s: &[u8], from: usize) -> usize
-    ensures { from ≤ result }
-{
-    let mut at = from;
-    while at < s.len() {
-        if s[at] == 10 {
-            return at;
-        }
-        at += 1;
+fn appended(value: u64, b: u8) -> Option<u64> {
+    if !b.is_ascii_digit() {
+        return None;
     }
-    at
+    value.checked_mul(10)?.checked_add(u64::from(b - b'0'))
 }
 
-// A line's numbers, each behind one separator.
-fn fill(s: &[u8], from: usize, out: &mut [u64]) {
-    let mut at = from;
-    let mut i = 0;
-    while i < out.len() {
-        if at < s.len() {
-            at += 1;
-        }
-        let n = decimal(s, at);
-        out[i] = n.value;
-        at = n.next;
-        i += 1;
+// A line's numbers, each behind one separator; one that is missing is 0.
+fn numbers<const N: usize>(line: &[u8]) -> [u64; N] {
+    let mut out = [0; N];
+    let mut rest = line.get(1..).unwrap_or(&[]);
+    for number in out.iter_mut() {
+        let (value, behind) = decimal(rest.get(1..).unwrap_or(&[]));
+        *number = value;
+        rest = behind;
     }
-}
-
-fn three(s: &[u8], from: usize) -> [u64; 3] {
-    let mut out = [0u64; 3];
-    fill(s, from, &mut out);
     out
-}
-
-fn six(s: &[u8], from: usize) -> [u64; 6] {
-    let mut out = [0u64; 6];
-    fill(s, from, &mut out);
-    out
-}
-
-fn all(s: &[u8], from: usize) -> [u64; 24] {
-    let mut out = [0u64; 24];
-    fill(s, from, &mut out);
-    out
-}
-
-// A key's bytes from its words, the first one lowest; past 32 bytes each is an x.
-fn unpack(word: u64, from: usize, out: &mut [u8])
-    requires { from + 8 ≤ length out.old }
-{
-    let mut rest = word;
-    let mut i = 0;
-    while i < 8 {
-        out[from + i] = (rest % 256) as u8;
-        rest /= 256;
-        i += 1;
-    }
 }
 
 // ---- the run: settings, the rooms' length, and how many calls came out or did not
@@ -389,13 +319,17 @@ fn begun() -> Run {
 }
 
 fn counted(run: Run, same: bool) -> Run {
-    let mut next = run;
     if same {
-        next.right = run.right.wrapping_add(1);
+        Run {
+            right: run.right.wrapping_add(1),
+            ..run
+        }
     } else {
-        next.wrong = run.wrong.wrapping_add(1);
+        Run {
+            wrong: run.wrong.wrapping_add(1),
+            ..run
+        }
     }
-    next
 }
 
 fn row_in(n: [u64; 24]) -> Row {
@@ -413,54 +347,10 @@ fn state_in(n: [u64; 24]) -> State {
     }
 }
 
-fn same_row(r: Row, e: Row) -> bool {
-    if r.kind != e.kind {
-        return false;
-    }
-    if r.x != e.x {
-        return false;
-    }
-    if r.y != e.y {
-        return false;
-    }
-    r.z == e.z
-}
-
-fn same_state(x: State, e: State) -> bool {
-    if x.used != e.used {
-        return false;
-    }
-    if x.total != e.total {
-        return false;
-    }
-    if x.declined != e.declined {
-        return false;
-    }
-    if x.buckets != e.buckets {
-        return false;
-    }
-    if x.factor != e.factor {
-        return false;
-    }
-    x.time == e.time
-}
-
-fn put(rt: &impl Print, name: &str, n: u64) -> io::Result<()> {
-    print!(rt; "{name}{n}")
-}
-
 fn show(rt: &impl Print, r: Row, x: State) -> io::Result<()> {
-    put(rt, "WRONG, found ", r.kind)?;
-    put(rt, " ", r.x)?;
-    put(rt, " ", r.y)?;
-    put(rt, " ", r.z)?;
-    put(rt, " with ", x.used)?;
-    put(rt, " ", x.total)?;
-    put(rt, " ", x.declined)?;
-    put(rt, " ", x.buckets)?;
-    put(rt, " ", x.factor)?;
-    put(rt, " ", x.time)?;
-    print!(rt; " in: ")
+    print!(rt; "WRONG, found {} {} {} {}", r.kind, r.x, r.y, r.z)?;
+    print!(rt; " with {} {} {}", x.used, x.total, x.declined)?;
+    print!(rt; " {} {} {} in: ", x.buckets, x.factor, x.time)
 }
 
 // Whether a call's answer and the key's state after it are the list's; else they are shown.
@@ -479,16 +369,14 @@ fn is_same(
     } else {
         state_of(b, key)
     };
-    if same_row(r, row_in(n)) {
-        if same_state(x, state_in(n)) {
-            return Ok(true);
-        }
+    let same = r == row_in(n) && x == state_in(n);
+    if !same {
+        show(rt, r, x)?;
     }
-    show(rt, r, x)?;
-    Ok(false)
+    Ok(same)
 }
 
-// The call, with the first bytes of `key` for its key: they are written here.
+// The call, with the first bytes of `key` for its key: they are written here from its words, the first one lowest; past 32 bytes each is an x.
 fn key_call(
     rt: &impl Print,
     s: Settings,
@@ -498,18 +386,14 @@ fn key_call(
     n: [u64; 24],
 ) -> io::Result<bool> {
     let len = n[2] as usize;
-    if key.len() < 32 {
+    if key.len() < 32 || key.len() < len {
         return Ok(false);
     }
-    if key.len() < len {
-        return Ok(false);
-    }
-    unpack(n[3], 0, key);
-    unpack(n[4], 8, key);
-    unpack(n[5], 16, key);
-    unpack(n[6], 24, key);
-    let from = 0;
-    is_same(rt, s, a, b, &key[from..len], n)
+    key[..8].copy_from_slice(&n[3].to_le_bytes());
+    key[8..16].copy_from_slice(&n[4].to_le_bytes());
+    key[16..24].copy_from_slice(&n[5].to_le_bytes());
+    key[24..32].copy_from_slice(&n[6].to_le_bytes());
+    is_same(rt, s, a, b, &key[..len], n)
 }
 
 fn call_line(
@@ -521,21 +405,16 @@ fn call_line(
     key: &mut [u8],
 ) -> io::Result<Run> {
     let long = run.long;
-    if a.len() < long {
+    if a.len() < long || b.len() < long {
         return Ok(counted(run, false));
     }
-    if b.len() < long {
-        return Ok(counted(run, false));
-    }
-    let settings = run.settings;
-    let from = 0;
     let same = key_call(
         rt,
-        settings,
-        &mut a[from..long],
-        &mut b[from..long],
+        run.settings,
+        &mut a[..long],
+        &mut b[..long],
         key,
-        all(line, 1),
+        numbers(line),
     )?;
     if !same {
         rt.write_all(line)?;
@@ -546,10 +425,7 @@ fn call_line(
 
 // The words of a room of these slots and ring, 0 where there is none.
 fn room_words(slots: u64, ring: u64) -> usize {
-    if 64 < slots {
-        return 0;
-    }
-    if 512 < ring {
+    if layout::MOST_SLOTS < slots || layout::MOST_RING < ring {
         return 0;
     }
     let n = slots as usize;
@@ -558,49 +434,44 @@ fn room_words(slots: u64, ring: u64) -> usize {
 }
 
 fn make_room(w: &mut [u64], long: usize, slots: u64, ring: u64) -> bool {
-    if w.len() < long {
-        return false;
-    }
-    let from = 0;
-    room::make(&mut w[from..long], slots, ring)
+    long <= w.len() && room::make(&mut w[..long], slots, ring).is_ok()
 }
 
 fn history_line(line: &[u8], run: Run, a: &mut [u64], b: &mut [u64]) -> Run {
-    let n = six(line, 1);
+    let n: [u64; 6] = numbers(line);
     let long = room_words(n[0], n[1]);
     let made = make_room(a, long, n[0], n[1]);
     let other = make_room(b, long, n[0], n[1]);
-    let mut next = run;
-    let settings = settings_of(n);
-    next.settings = settings;
-    next.long = long;
-    if made {
-        if other {
-            return next;
-        }
+    let next = Run {
+        settings: settings_of(n),
+        long,
+        ..run
+    };
+    if made && other {
+        next
+    } else {
+        counted(next, false)
     }
-    counted(next, false)
+}
+
+fn damage(w: &mut [u64], at: usize, new: u64) {
+    if let Some(word) = w.get_mut(at) {
+        *word = new;
+    }
 }
 
 // Damages a word: which room, where, and what it is then.
 fn word_line(line: &[u8], a: &mut [u64], b: &mut [u64]) {
-    let n = three(line, 1);
-    let at = n[1] as usize;
+    let n: [u64; 3] = numbers(line);
     if n[0] == 0 {
-        if at < a.len() {
-            a[at] = n[2];
-        }
+        damage(a, n[1] as usize, n[2]);
     } else {
-        if at < b.len() {
-            b[at] = n[2];
-        }
+        damage(b, n[1] as usize, n[2]);
     }
 }
 
 fn summary(rt: &impl Print, run: Run) -> io::Result<()> {
-    put(rt, "  ", run.right)?;
-    put(rt, " calls came out, ", run.wrong)?;
-    println!(rt; " did not")
+    println!(rt; "  {} calls came out, {} did not", run.right, run.wrong)
 }
 
 // What is left of the counts of the heading before, if there was one, is told; the new one begins.
@@ -610,10 +481,11 @@ fn heading(rt: &impl Print, line: &[u8], run: Run) -> io::Result<Run> {
     }
     rt.write_all(line)?;
     println!(rt)?;
-    let mut next = run;
-    next.right = 0;
-    next.wrong = 0;
-    Ok(next)
+    Ok(Run {
+        right: 0,
+        wrong: 0,
+        ..run
+    })
 }
 
 fn take_line(
@@ -624,14 +496,11 @@ fn take_line(
     b: &mut [u64],
     key: &mut [u8],
 ) -> io::Result<Run> {
-    if line.len() == 0 {
-        return Ok(run);
-    }
-    let first = line[0];
-    match first {
-        b'#' => heading(rt, line, run),
-        b'h' => Ok(history_line(line, run, a, b)),
-        b'c' => call_line(rt, line, run, a, b, key),
+    match line {
+        [] => Ok(run),
+        [b'#', ..] => heading(rt, line, run),
+        [b'h', ..] => Ok(history_line(line, run, a, b)),
+        [b'c', ..] => call_line(rt, line, run, a, b, key),
         _ => {
             word_line(line, a, b);
             Ok(run)
@@ -639,24 +508,22 @@ fn take_line(
     }
 }
 
-fn play(rt: &impl Print, s: &[u8], a: &mut [u64], b: &mut [u64], key: &mut [u8]) -> io::Result<()> {
+fn play(
+    rt: &impl Print,
+    text: &[u8],
+    a: &mut [u64],
+    b: &mut [u64],
+    key: &mut [u8],
+) -> io::Result<()> {
     let mut run = begun();
-    let mut at = 0;
-    while at < s.len() {
-        let end = line_end(s, at);
-        if s.len() < end {
-            return Ok(());
-        }
-        run = take_line(rt, &s[at..end], run, a, b, key)?;
-        if s.len() <= end {
-            return summary(rt, run);
-        }
-        at = end + 1;
+    for line in text.split(|b| *b == b'\n') {
+        run = take_line(rt, line, run, a, b, key)?;
     }
     summary(rt, run)
 }
 
-// Reads until `buf` is full or the input ends, and says how many bytes it put at the start of `buf`.
+// Reads until `buf` is full or the input ends, and says how many bytes it put at the start of `buf`. By a loop, since `read_to_end` would
+// want a heap.
 fn read_full<R: Read>(from: &mut R, buf: &mut [u8]) -> io::Result<usize>
     ensures { IfOk result (λ n. n ≤ length buf.new) }
 {

@@ -2,14 +2,15 @@
 -- `shots` print it in no line, on any arguments, any lent memory and any input. What is proved is more: a number that has no place in the order of judging is
 -- given by none of them.
 -- Assumes nothing.
-use Rattle.std.specs.Prelude.{◌≡◌, Bool, cond, ◌≢◌, ℕ, ltb, length, get_or}
+use Rattle.std.specs.Prelude.{◌≡◌, Bool, cond, ◌≢◌, ℕ, ltb, length, get_or, Option, Some, None, Result, Ok, Err}
 use Rattle.std.proofs.Math.Path.{refl}
 use Rattle.std.proofs.Common.{sym, ap, subst, ◌∙◌, arith}
 use Rattle.std.proofs.Math.Bool.{true, false}
 use mathlib.Core.List.{List, []}
 use borrow.Author.Tests.{eq-eqb, ne_eqb}
 use Rattle.answers.specs.Rows.{row, refused_row, shot_row, number_of}
-use Rattle.common.specs.Refusals.{first}
+use Rattle.common.specs.Refusals.{first, refusal}
+use Rattle.common.specs.declared.refusal.Refusal.{Refusal}
 use Rattle.common.specs.declared.units.RateLimit.{RateLimit}
 use Rattle.settings.specs.Settings.{faults}
 use Rattle.settings.specs.declared.Settings.{Settings}
@@ -23,17 +24,14 @@ use Rattle.abi.specs.ReadOut.{cell_row, bucket_row}
 use Rattle.lines.specs.Laws.{key_in}
 use Rattle.lines.specs.Reading.{read_call}
 use Rattle.lines.specs.declared.CallLine.{CallLine}
-use Rattle.lines.specs.declared.CallLine.TheVariants as call
 use Rattle.shot_lines.specs.Reading.{read_shot}
 use Rattle.shot_lines.specs.declared.ShotLine.{ShotLine}
-use Rattle.shot_lines.specs.declared.ShotLine.TheVariants as shot_line
 use Rattle.told.specs.Told.{bad_line}
 use Rattle.told.specs.Range.{Reads}
 use Rattle.told.specs.Rows.{told_row, line_row}
+use Rattle.told.specs.declared.ToldLine.{ToldLine}
 use Rattle.told.specs.declared.Told.{Told}
 use Rattle.told.specs.declared.Told.TheVariants as told
-use Rattle.told.specs.declared.LineAnswer.{LineAnswer}
-use Rattle.told.specs.declared.LineAnswer.TheVariants as line_answer
 use Rattle.desk_lines.specs.Lines.{alone, per_minute}
 use Rattle.desk_step.specs.Desk as Calls
 use Rattle.shots_step.specs.Shots as Shots
@@ -95,7 +93,7 @@ module _ (n : ℕ) (z : n ≢ 0) (h : Numbered n → ⊥) where
 
   -- ---- lines that are read back
 
-  unread : (line : List ℕ) (m : ℕ) → Reads line (line_answer.Refused m) → m ≢ n
+  unread : (line : List ℕ) (m : ℕ) → Reads line (Err (refusal m)) → m ≢ n
   unread line m u e = other bad_line (omega arith) (sym u.number ∙ e)
 
   told-number : (t : ℕ) (x : Told) → number_of (told_row t x) ≡ 0
@@ -106,24 +104,24 @@ module _ (n : ℕ) (z : n ≢ 0) (h : Numbered n → ⊥) where
   told-number t (told.Value factor x) = refl
   told-number t (told.Refused m) = refl
 
-  line-number : (line : List ℕ) (r : LineAnswer) → Reads line r → number_of (line_row r) ≢ n
+  line-number : (line : List ℕ) (r : Result ToldLine Refusal) → Reads line r → number_of (line_row r) ≢ n
   unfolding line_row
-  line-number line (line_answer.Line l) u = λ e. z (sym e ∙ told-number l.t l.told)
-  line-number line (line_answer.Refused m) u = unread line m u
+  line-number line (Ok l) u = λ e. z (sym e ∙ told-number l.t l.told)
+  line-number line (Err e) u = unread line e.0 u
 
   -- ---- the lines
 
-  desk-step : (s : Settings) (a b line : List ℕ) (c : CallLine) → (Calls.step_of s a b line c).answer.code ≢ n
-  desk-step s a b line call.Bad = other bad_line (omega arith)
-  desk-step s a b line (call.Call t op start end rate c draw) = λ e.
-      by-calls (kind_of op) s (room_of op a b) t (op_of op (room_of op a b) (key_in line start end) rate c draw)
-      (sym (call-code s a b t op (key_in line start end) rate c draw) ∙ e)
+  desk-step : (s : Settings) (a b line : List ℕ) (c : Option CallLine) → (Calls.step_of s a b line c).answer.code ≢ n
+  desk-step s a b line None = other bad_line (omega arith)
+  desk-step s a b line (Some l) = λ e.
+      by-calls (kind_of l.op) s (room_of l.op a b) l.t (op_of l.op (room_of l.op a b) (key_in line l.start l.end) l.rate l.n l.draw)
+      (sym (call-code s a b l.t l.op (key_in line l.start l.end) l.rate l.n l.draw) ∙ e)
 
-  shot-step : (s : Settings) (w r line : List ℕ) (c : ShotLine) → (Shots.step_of s w r line c).answer.code ≢ n
+  shot-step : (s : Settings) (w r line : List ℕ) (c : Option ShotLine) → (Shots.step_of s w r line c).answer.code ≢ n
   unfolding Shots.shot_of
-  shot-step s w r line shot_line.Bad = other bad_line (omega arith)
-  shot-step s w r line (shot_line.Shot t start end number rate draw) = λ e.
-      by-shots s w r t (sent (alone r) (key_in line start end)) number (per_minute rate) draw (sym (shot-code t _ _) ∙ e)
+  shot-step s w r line None = other bad_line (omega arith)
+  shot-step s w r line (Some l) = λ e.
+      by-shots s w r l.t (sent (alone r) (key_in line l.start l.end)) l.number (per_minute l.rate) l.draw (sym (shot-code l.t _ _) ∙ e)
 
   stepped : (g : Program) (s : Settings) (a b line : List ℕ) → (stepped_by g s a b line).answer.code ≢ n
   unfolding stepped_by Calls.stepped Shots.stepped

@@ -2,9 +2,10 @@
 -- `shots` print it in no line, on any arguments, any lent memory and any input. What is proved is more: a number that has no place in the order of judging is
 -- given by none of them.
 -- Assumes nothing.
-use Rattle.std.specs.Prelude.{◌≡◌, Bool, ◌≢◌, ℕ, length}
+use Rattle.std.specs.Prelude.{◌≡◌, Bool, Option, ◌≢◌, ℕ, length, Err}
 use mathlib.Core.List.{List}
 use Rattle.answers.specs.Rows.{done_row, read_out_row, ring_row, shot_row, number_of}
+use Rattle.common.specs.Refusals.{refusal}
 use Rattle.common.specs.declared.units.RateLimit.{RateLimit}
 use Rattle.settings.specs.declared.Settings.{Settings}
 use Rattle.ring_length.specs.RingLength.{ring_for}
@@ -15,14 +16,13 @@ use Rattle.rules.specs.declared.RoomKind.{RoomKind}
 use Rattle.provider.specs.Provider as Provider
 use Rattle.readout.specs.ReadOut as ReadOut
 use Rattle.gateway.specs.Gateway.{shot, new_season}
-use Rattle.inputs.specs.declared.Comparison.{Comparison}
-use Rattle.inputs.specs.declared.Mode.{Mode}
+use Rattle.common.specs.declared.comparator.RateLimitComparator.{RateLimitComparator}
+use Rattle.answers.specs.declared.HistoryUpdateMode.{HistoryUpdateMode}
 use Rattle.rows.specs.Plain.{Given}
 use Rattle.abi.specs.Faces.{Faced, shown, shown_both, shown_gateway, shown_set, make_number}
 use Rattle.abi.specs.ReadOut.{bucket_row}
 use Rattle.rows.specs.Lines.{LineGiven}
 use Rattle.told.specs.Range.{Reads}
-use Rattle.told.specs.declared.LineAnswer.TheVariants as line_answer
 use Rattle.desk_turn.specs.declared.Program.{Program}
 use Rattle.desk_laws.specs.Whole.{printed}
 use Rattle.steps.specs.Ops.{Op, row_of, verdict_of, answer_number}
@@ -49,7 +49,8 @@ pub record NeverGiven (n : ℕ) : Type 0 where
   -- the faces for C and Rust, by what their contracts name
   pub face-calls : (kind : RoomKind) (s : Settings) (w : List ℕ) (t : ℕ) (op : Op kind) (m : ℕ) (a v : List ℕ) →
       Faced (shown (row_of op) (verdict_of kind s w t op)) m a v → NotTold n m a
-  pub face-sets : (kind : RoomKind) (s : Settings) (w : List ℕ) (t : ℕ) (key : Sent) (rate : RateLimit) (c : Comparison) (count : ℕ) (mode : Mode)
+  pub face-sets : (kind : RoomKind) (s : Settings) (w : List ℕ) (t : ℕ) (key : Sent) (rate : RateLimit) (c : Option RateLimitComparator)
+      (count : ℕ) (mode : Option HistoryUpdateMode)
       (m : ℕ) (a v : List ℕ) → Faced (shown_set kind s w t key rate c count mode) m a v → NotTold n m a
   pub face-both : (s : Settings) (a b : List ℕ) (t : ℕ) (c d : Caller) (stale m : ℕ) (r : List ℕ) (v : List ℕ × List ℕ) →
       Faced (shown_both (Provider.cleanup s a b t c d stale)) m r v → NotTold n m r
@@ -59,7 +60,7 @@ pub record NeverGiven (n : ℕ) : Type 0 where
   pub face-bucket : (kind : RoomKind) (s : Settings) (w : List ℕ) (key : Sent) (i m : ℕ) (a : List ℕ) → Given (bucket_row kind s w key i) m a → NotTold n m a
   pub face-ring : (s : Settings) (m : ℕ) (a : List ℕ) → Given (ring_row (ring_for s)) m a → NotTold n m a
   -- a line that is read back: the line may tell any number, the reader none but 14
-  pub read-line : (line : List ℕ) (m : ℕ) → Reads line (line_answer.Refused m) → m ≢ n
+  pub read-line : (line : List ℕ) (m : ℕ) → Reads line (Err (refusal m)) → m ≢ n
   pub face-line : (line : List ℕ) (m : ℕ) (a : List ℕ) → LineGiven line m a → NotTold n m a
   -- making a room or a table
   pub face-make : (made : Bool) → make_number made ≢ n

@@ -1,22 +1,21 @@
 -- How long a ring must be (document 02, ticket 4), and what that number counts: the moments b + 1 milliseconds apart that fit a window, its ends included.
 -- Assumes nothing.
-use Rattle.std.specs.Prelude.{◌≡◌, refl, cond, ◌≢◌, ℕ, ◌+◌, ◌*◌, ◌/◌, ◌≤◌, ◌<◌, eqb}
+use Rattle.std.specs.Prelude.{◌≡◌, refl, cond, ◌≢◌, ℕ, ◌+◌, ◌*◌, ◌/◌, ◌≤◌, ◌<◌, eqb, Result, Ok}
 use Rattle.std.proofs.Math.Path.{sym}
 use Rattle.std.proofs.Common.{◌∙◌, le-div_iff_mul-le, arith, eq-eqb, ne_eqb}
-use Rattle.answers.specs.declared.RingAnswer.{RingAnswer}
-use Rattle.answers.specs.declared.RingAnswer.TheVariants.{Ring, Refused}
-use Rattle.common.specs.Refusals.{first}
+use Rattle.common.specs.Refusals.{first, refuse}
 use Rattle.settings.specs.Clock.{window_in_milliseconds}
 use Rattle.settings.specs.Settings.{window_in, bucket_in, defaults, ten_seconds, with_window, with_bucket, faults, Proper, proper}
 use Rattle.settings.specs.declared.Settings.{Settings}
+use Rattle.common.specs.declared.refusal.Refusal.{Refusal}
 
 -- "floor(1000 W / (b + 1)) + 1"
 abbrev pub sufficient_ring : Settings → ℕ
 sufficient_ring s = window_in_milliseconds (window_in s) / (bucket_in s + 1) + 1
 
 -- what a caller is told: that number, or the first of 1 to 4 that the settings meet
-unfoldable pub ring_for : Settings → RingAnswer
-ring_for s = cond (eqb (first (faults s)) 0) (Ring (sufficient_ring s)) (Refused (first (faults s)))
+unfoldable pub ring_for : Settings → Result ℕ Refusal
+ring_for s = cond (eqb (first (faults s)) 0) (Ok (sufficient_ring s)) (refuse (first (faults s)))
 
 -- of so many seconds and milliseconds
 abbrev pub sized : ℕ → ℕ → Settings
@@ -56,11 +55,11 @@ module _ (s : Settings) (n : ℕ) where
 -- ---- what the code has found, turned into what the definition says
 
 module _ (s : Settings) (n : ℕ) (is : n ≡ first (faults s)) where
-  pub ring-refused : n ≢ 0 → Refused n ≡ ring_for s
+  pub ring-refused : n ≢ 0 → refuse n ≡ ring_for s
   unfolding ring_for
   ring-refused z = rw is (sym (rw (ne_eqb (first (faults s)) 0 (λ e. z (is ∙ e)))))
 
-  pub ring-told : n ≡ 0 → Ring (sufficient_ring s) ≡ ring_for s
+  pub ring-told : n ≡ 0 → Ok (sufficient_ring s) ≡ ring_for s
   unfolding ring_for
   ring-told e = sym (rw (eq-eqb (first (faults s)) 0 (sym is ∙ e)))
 

@@ -4,18 +4,15 @@
 ghost use Rattle.std.specs.Prelude.{◌≡◌};
 ghost use Rattle.ring_length.specs.RingLength.{ring_for};
 
-use answers::RingAnswer;
+use common::Refusal;
 use settings::{MILLISECONDS_PER_SECOND, Settings};
 
 // The least number of buckets that is always enough, which may be more than a ring can have; settings outside their ranges are refused.
-pub fn sufficient_ring(settings: Settings) -> RingAnswer
+pub fn sufficient_ring(settings: Settings) -> Result<u64, Refusal>
     ensures { result ≡ ring_for settings }
 {
-    let number = settings.refusal();
-    if number != 0 {
-        return RingAnswer::Refused(number);
-    }
+    settings.check()?;
     let window = settings.window_size;
     let bucket = settings.bucket_size;
-    RingAnswer::Ring(MILLISECONDS_PER_SECOND * window.0 / (bucket.0 + 1) + 1)
+    Ok(MILLISECONDS_PER_SECOND * window.0 / (bucket.0 + 1) + 1)
 }

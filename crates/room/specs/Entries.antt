@@ -112,12 +112,6 @@ has_same w k s e = ap (λ (x : Bool). not (free w s) && x) e ∙ go (not (free w
     go true = refl
     go false = refl
 
--- bytes that are the same up to the last word
-pub spelled-last : (w : List ℕ) (k : Key) (s : ℕ) → get_or w (entry_of s + len_word) 0 ≡ k.len → get_or w (entry_of s + a_word) 0 ≡ k.a →
-    get_or w (entry_of s + b_word) 0 ≡ k.b → get_or w (entry_of s + c_word) 0 ≡ k.c → eqb (get_or w (entry_of s + d_word) 0) k.d ≡ spells w k s
-unfolding spells
-spelled-last w k s p q r t = sym (rw (eq-eqb _ _ p, eq-eqb _ _ q, eq-eqb _ _ r, eq-eqb _ _ t))
-
 -- the same by the bytes first
 pub same-unspelled : (w : List ℕ) (k : Key) (s : ℕ) → spells w k s ≡ false → same_key (key_at w s) k ≡ false
 unfolding spells same_key key_at
@@ -202,3 +196,9 @@ freed-ready w v m n e o h =
 pub freed-turn : (w v u : List ℕ) (m n : ℕ) → v ≡ freed w m n → u ≡ released_own v n m → u ≡ freed w m (n + 1)
 unfolding freed
 freed-turn w v u m n e f = f ∙ ap (λ (y : List ℕ). released_own y n m) e ∙ ap (λ (k : ℕ). freed w m k) (sym (add-one n))
+
+-- bytes that are the same up to the last word
+pub spelled-last : (w : List ℕ) (k : Key) (s : ℕ) → get_or w (entry_of s + len_word) 0 ≡ k.len → get_or w (entry_of s + a_word) 0 ≡ k.a →
+    get_or w (entry_of s + b_word) 0 ≡ k.b → get_or w (entry_of s + c_word) 0 ≡ k.c → eqb (get_or w (entry_of s + d_word) 0) k.d ≡ spells w k s
+unfolding spells
+spelled-last w k s p q r t = sym (rw (eq-eqb _ _ p, eq-eqb _ _ q, eq-eqb _ _ r, eq-eqb _ _ t))

@@ -1,14 +1,15 @@
 -- The laws of a room's lengths and places, and of a body that is lent.
 -- Assumes nothing.
-use Rattle.std.specs.Prelude.{◌≡◌, Bool, true, false, cond, List, ◌++◌, ℕ, zero, suc, ◌+◌, ◌-◌, ◌*◌, ◌≤◌, ◌<◌, length, get_or, take, drop, set, replicate, leb}
+use Rattle.std.specs.Prelude.{◌≡◌, Bool, true, false, cond, List, ◌++◌, ℕ, zero, suc, ◌+◌, ◌-◌, ◌*◌, ◌≤◌, ◌<◌, length, get_or, take, drop, set, replicate, leb, Ok}
 use Rattle.std.proofs.Common.{sym, ap, ap₂, ◌∙◌, append-nil, suc-mul, mul-le-mul, mul-le-mul_right, arith, length-take, length-drop, le-leb, leb-true, eq-eqb, eqb-true}
 use Rattle.std.proofs.lemmas.List.{length-replicate}
 use Rattle.std.proofs.Math.Seq.{drop-length}
 use borrow.Rule.Slice.PartMut.{put_mid, Post-is}
 use Rattle.base.specs.Decides.{Decides, tested, and-true}
+use Rattle.common.specs.Refusals.{refuse}
 use Rattle.base.specs.Splice.{splice, splice-length, splice-lo}
 use Rattle.layout.specs.Layout.{most_slots, most_ring, header_words, entry_words, slots_word, ring_word, last_word, size_of}
-use Rattle.room.specs.Room.{slots_of, ring_of, length_of, start_of, end_of, fits, Lengths, sized, Room, Directory, empty, Made, body_from, body_of, with_from}
+use Rattle.room.specs.Room.{slots_of, ring_of, length_of, start_of, end_of, fits, Lengths, sized, Room, Directory, empty, if_fits, Made, body_from, body_of, with_from}
 use Rattle.room.specs.Room.{with_body}
 
 -- ---- lengths: the test and the facts
@@ -110,12 +111,6 @@ module _ (w b : List ℕ) (s : ℕ) (o : Room w) (h : s < slots_of w) (l : lengt
 
 -- ---- an empty room
 
--- zeros up to the end
-pub filled : (w : List ℕ) (i : ℕ) → i ≤ length w → length w ≤ i → replicate i 0 ++ drop i w ≡ replicate (length w) 0
-filled w i h l =
-    let e : i ≡ length w = omega arith in
-    rw (e, drop-length, append-nil)
-
 -- a header's words are there
 pub zeros-long : (n r : ℕ) (w v : List ℕ) → v ≡ replicate (length w) 0 → Lengths n r (length w) → last_word < length v
 zeros-long n r w v e o = omega (arith, ap (λ (y : List ℕ). length y) e, length-replicate (length w) (zero), o.long)
@@ -127,12 +122,18 @@ empty-stores n r l o =
     let e : l ≡ suc (suc (suc (suc (suc (entry_words * n + n * size_of r))))) = omega (arith, o.long) in
     rw e
 
-pub empty-made : (n r l : ℕ) (w : List ℕ) → length w ≡ l → Lengths n r l → Made n r w true (set (set (replicate l 0) slots_word n) ring_word r)
+pub empty-made : (n r l : ℕ) (w : List ℕ) → length w ≡ l → Lengths n r l → Made n r w (Ok tt) (set (set (replicate l 0) slots_word n) ring_word r)
 empty-made n r l w e o =
     let f : fits n r (length w) ≡ true = ap (fits n r) e ∙ lengths-fit n r l o in
-    record { answer = sym f; words = empty-stores n r l o ∙ sym (ap (λ (x : Bool). cond x (empty n r) w) f) }
+    record { answer = sym (ap if_fits f); words = empty-stores n r l o ∙ sym (ap (λ (x : Bool). cond x (empty n r) w) f) }
 
-pub not_made : (n r : ℕ) (w : List ℕ) → (Lengths n r (length w) → ⊥) → Made n r w false w
+pub not_made : (n r : ℕ) (w : List ℕ) → (Lengths n r (length w) → ⊥) → Made n r w (refuse 5) w
 not_made n r w d =
     let f : false ≡ fits n r (length w) = tested false (fits n r (length w)) (lengths-fit n r (length w)) (fit-lengths n r (length w)) d in
-    record { answer = f; words = ap (λ (x : Bool). cond x (empty n r) w) f }
+    record { answer = ap if_fits f; words = ap (λ (x : Bool). cond x (empty n r) w) f }
+
+-- zeros up to the end
+pub filled : (w : List ℕ) (i : ℕ) → i ≤ length w → length w ≤ i → replicate i 0 ++ drop i w ≡ replicate (length w) 0
+filled w i h l =
+    let e : i ≡ length w = omega arith in
+    rw (e, drop-length, append-nil)

@@ -1,11 +1,13 @@
 -- A room's words: slots, ring, last reading; the slots that party 1 holds, and that party 2 holds, as bits; an entry of six words for each slot (use, key
 -- length, four words of key); then a body for each slot. Which lengths are right, what an entry and a body are, which slot is found, and what a change writes.
 -- Assumes nothing.
-use Rattle.std.specs.Prelude.{◌≡◌, Bool, cond, not, ◌&&◌, List, [], ◌∷◌, ℕ, zero, suc, ◌+◌, ◌*◌, ◌/◌, ◌%◌, ◌≤◌, length, get_or, take, drop, set, replicate, leb, eqb}
+use Rattle.std.specs.Prelude.{◌≡◌, Bool, cond, not, ◌&&◌, List, [], ◌∷◌, ℕ, zero, suc, ◌+◌, ◌*◌, ◌/◌, ◌%◌, ◌≤◌, length, get_or, take, drop, set, replicate, leb, eqb, Result, Ok}
 use Rattle.base.specs.Writes.{writes}
 use Rattle.base.specs.Bits.{bit_at, with_bit}
 use Rattle.base.specs.Splice.{splice}
 use Rattle.base.specs.Seek.{seek}
+use Rattle.common.specs.Refusals.{refuse}
+use Rattle.common.specs.declared.refusal.Refusal.{Refusal}
 use Rattle.layout.specs.Layout.{slots_word, ring_word, last_word, firsts_word, seconds_word, header_words, len_word, a_word, b_word, c_word, d_word, entry_words, nobody}
 use Rattle.layout.specs.Layout.{most_slots, most_ring, size_of}
 use Rattle.keys.specs.declared.Key.{Key}
@@ -66,9 +68,13 @@ pub record Directory (w : List ℕ) : Type 0 where
 unfoldable pub empty : ℕ → ℕ → List ℕ
 empty n r = n ∷ r ∷ 0 ∷ 0 ∷ 0 ∷ replicate (entry_words * n + n * size_of r) 0
 
--- making one in lent words: said yes exactly where they fit; else every word stays
-pub record Made (n r : ℕ) (w : List ℕ) (x : Bool) (v : List ℕ) : Type 0 where
-  pub answer : x ≡ fits n r (length w)
+-- what making something in lent words answers, by whether they fit: 5 where they do not
+abbrev pub if_fits : Bool → Result (Unit {0}) Refusal
+if_fits fit = cond fit (Ok tt) (refuse 5)
+
+-- making one in lent words: done exactly where they fit; else every word stays
+pub record Made (n r : ℕ) (w : List ℕ) (x : Result (Unit {0}) Refusal) (v : List ℕ) : Type 0 where
+  pub answer : x ≡ if_fits (fits n r (length w))
   pub words : v ≡ cond (fits n r (length w)) (empty n r) w
 
 -- ---- entries

@@ -1,72 +1,61 @@
 // A lent room: its lengths, its directory, and where a slot's body starts. What a body holds is not known here.
 #![tactic(auto)]
 
-ghost use Rattle.std.specs.Prelude.{◌≡◌, ◌+◌, ◌*◌, ◌<◌, length, replicate};
+ghost use Rattle.std.specs.Prelude.{◌≡◌, ◌+◌, ◌*◌, ◌<◌, ◌≤◌, length, replicate};
 ghost use Rattle.base.specs.Decides.{Decides};
 ghost use Rattle.base.specs.Bits.{bit_at, with_bit};
 ghost use Rattle.keys.specs.Keys.{same_key};
-ghost use Rattle.room.specs.Room.{Room, Directory, Lengths, Made, Starts, slots_of, use_of, holder_of, used_at, key_at};
+ghost use Rattle.room.specs.Room.{Room, Directory, Lengths, length_of, Made, Starts, slots_of, use_of, holder_of, used_at, key_at};
 ghost use Rattle.room.specs.Room.{key_sound, spells, has, find, vacant, held, entered, with_use, released, released_own};
 ghost use Rattle.room.specs.Room.{with_reading, cleared};
 
+use common::Refusal;
 use keys::Key;
+
+// How many words a room of so many slots and this ring has.
+fn words(slots: usize, ring: usize) -> usize
+    requires { (slots ≤ 64) × (ring ≤ 512) }
+    ensures { result ≡ length_of slots ring }
+{
+    layout::HEADER + layout::ENTRY * slots + slots * (layout::FIXED + layout::CELL * ring)
+}
 
 // Whether a room of these slots and ring has `len` words.
 fn fits(slots: u64, ring: u64, len: usize) -> bool
     ensures { Decides result (Lengths slots ring len) }
 {
-    if slots < 1 {
-        return false;
-    }
-    if layout::MOST_SLOTS < slots {
-        return false;
-    }
-    if ring < 1 {
-        return false;
-    }
-    if layout::MOST_RING < ring {
-        return false;
-    }
-    let n = slots as usize;
-    let r = ring as usize;
-    if len != layout::HEADER + layout::ENTRY * n + n * (layout::FIXED + layout::CELL * r) {
-        return false;
-    }
-    true
+    1 <= slots
+        && slots <= layout::MOST_SLOTS
+        && 1 <= ring
+        && ring <= layout::MOST_RING
+        && len == words(slots as usize, ring as usize)
 }
 
 // Whether the words are as many as the header says.
 pub fn sized(w: &[u64]) -> bool
     ensures { Decides result (Room w.now) }
 {
-    if w.len() < layout::HEADER {
-        return false;
-    }
-    fits(w[layout::SLOTS], w[layout::RING], w.len())
+    layout::HEADER <= w.len() && fits(w[layout::SLOTS], w[layout::RING], w.len())
 }
 
 // Sets every word to 0.
 pub fn zero(w: &mut [u64])
     ensures { w.new ≡ replicate (length w.old) 0 }
 {
-    let mut i = 0;
-    while i < w.len() {
-        w[i] = 0;
-        i += 1;
-    }
+    w.fill(0);
 }
 
 // Makes an empty room of the lent words, or says that they do not fit and leaves them.
-pub fn make(w: &mut [u64], slots: u64, ring: u64) -> bool
+pub fn make(w: &mut [u64], slots: u64, ring: u64) -> Result<(), Refusal>
     ensures { Made slots ring w.old result w.new }
 {
     if !fits(slots, ring, w.len()) {
-        return false;
+        return Err(Refusal::BAD_ROOM);
     }
     zero(w);
     w[layout::SLOTS] = slots;
     w[layout::RING] = ring;
-    true
+    Ok(())
 }
 
 // Where slot `s`'s body starts.
@@ -136,20 +125,11 @@ pub fn key_fits(w: &[u64], s: usize) -> bool
     ensures { result ≡ key_sound w.now s }
 {
     let k = key_at(w, s);
-    let len = k.len;
-    if layout::LONGEST_KEY < len {
-        return false;
-    }
-    if !keys::is_unused_zero(len, 0, k.a) {
-        return false;
-    }
-    if !keys::is_unused_zero(len, 8, k.b) {
-        return false;
-    }
-    if !keys::is_unused_zero(len, 16, k.c) {
-        return false;
-    }
-    keys::is_unused_zero(len, 24, k.d)
+    k.len <= layout::LONGEST_KEY
+        && keys::is_unused_zero(k.len, 0, k.a)
+        && keys::is_unused_zero(k.len, 8, k.b)
+        && keys::is_unused_zero(k.len, 16, k.c)
+        && keys::is_unused_zero(k.len, 24, k.d)
 }
 
 // Slot `slot`'s use.
@@ -166,9 +146,10 @@ pub fn used_at(w: &[u64], slot: usize) -> u64
     ensures { result ≡ used_at w.now slot }
 {
     if holder_of(w, slot) == layout::NOBODY {
-        return 0;
+        0
+    } else {
+        use_of(w, slot)
     }
-    use_of(w, slot)
 }
 
 // Whether entry `s` has the bytes of key `k`, whoever holds it.
@@ -177,19 +158,11 @@ fn spells(w: &[u64], k: Key, s: usize) -> bool
     ensures { result ≡ spells w.now k s }
 {
     let e = layout::HEADER + layout::ENTRY * s;
-    if w[e + layout::KEY_LEN] != k.len {
-        return false;
-    }
-    if w[e + layout::KEY_A] != k.a {
-        return false;
-    }
-    if w[e + layout::KEY_B] != k.b {
-        return false;
-    }
-    if w[e + layout::KEY_C] != k.c {
-        return false;
-    }
-    w[e + layout::KEY_D] == k.d
+    w[e + layout::KEY_LEN] == k.len
+        && w[e + layout::KEY_A] == k.a
+        && w[e + layout::KEY_B] == k.b
+        && w[e + layout::KEY_C] == k.c
+        && w[e + layout::KEY_D] == k.d
 }
 
 // Whether entry `s` has key `k`. Who holds it is looked at last: few entries have the bytes.
@@ -197,10 +170,7 @@ pub fn is_key_at(w: &[u64], k: Key, s: usize) -> bool
     requires { Directory w.now × (s < slots_of w.now) }
     ensures { result ≡ same_key (key_at w.now s) k }
 {
-    if !spells(w, k, s) {
-        return false;
-    }
-    holder_of(w, s) == k.holder
+    spells(w, k, s) && holder_of(w, s) == k.holder
 }
 
 // Whether slot `s` is in use with key `k`.
@@ -208,10 +178,7 @@ fn holds(w: &[u64], k: Key, s: usize) -> bool
     requires { Directory w.now × (s < slots_of w.now) }
     ensures { result ≡ has w.now k s }
 {
-    if !is_key_at(w, k, s) {
-        return false;
-    }
-    holder_of(w, s) != layout::NOBODY
+    is_key_at(w, k, s) && holder_of(w, s) != layout::NOBODY
 }
 
 // The lowest slot with key `k`, or the number of slots.
@@ -220,14 +187,12 @@ pub fn find(w: &[u64], k: Key) -> usize
     ensures { result ≡ find w.now k }
 {
     let n = w[layout::SLOTS] as usize;
-    let mut slot = 0;
-    while slot < n {
+    for slot in 0..n {
         if holds(w, k, slot) {
             return slot;
         }
-        slot += 1;
     }
-    slot
+    n
 }
 
 // The lowest free slot, or the number of slots.
@@ -236,14 +201,12 @@ pub fn vacant(w: &[u64]) -> usize
     ensures { result ≡ vacant w.now }
 {
     let n = w[layout::SLOTS] as usize;
-    let mut spare = 0;
-    while spare < n {
+    for spare in 0..n {
         if holder_of(w, spare) == layout::NOBODY {
             return spare;
         }
-        spare += 1;
     }
-    spare
+    n
 }
 
 // Writes slot `s`'s entry: its use and its key, with who holds it.
@@ -301,9 +264,7 @@ pub fn clear(w: &mut [u64], holder: u64)
     ensures { w.new ≡ cleared w.old holder }
 {
     let n = w[layout::SLOTS] as usize;
-    let mut s = 0;
-    while s < n {
+    for s in 0..n {
         release_own(w, s, holder);
-        s += 1;
     }
 }

@@ -7,11 +7,9 @@ ghost use Rattle.answers.specs.Rows.{ring_row, shot_row};
 ghost use Rattle.told.specs.Rows.{told_row, line_row};
 ghost use Rattle.rows.specs.Plain.{Given};
 
-use answers::{
-    DeleteAnswer, DoneAnswer, FactorAnswer, OldRateAnswer, RateLimitDecision, RingAnswer,
-    SetAnswer, ShotAnswer, SnapshotAnswer, TotalAnswer,
-};
-use told::{LineAnswer, Told};
+use answers::{ConditionalSetOutcome, RateLimitDecision, ShotOutcome, SuppressedRateLimitSnapshot};
+use common::{RateLimit, Refusal};
+use told::{Told, ToldLine};
 
 // A refusal: its number, with zeros elsewhere.
 pub fn refused_row(number: u64) -> [u64; 5]
@@ -27,6 +25,7 @@ fn said(yes: bool) -> u64
     if yes { 1 } else { 0 }
 }
 
+#[tactic(auto, unfolding(answers::specs::Rows::decision_row))]
 pub fn decision_row(a: RateLimitDecision) -> [u64; 5]
     ensures { result ≡ decision_row a }
 {
@@ -51,93 +50,102 @@ pub fn decision_row(a: RateLimitDecision) -> [u64; 5]
     }
 }
 
-pub fn total_row(a: TotalAnswer) -> [u64; 5]
+#[tactic(auto, unfolding(answers::specs::Rows::total_row))]
+pub fn total_row(a: Result<u64, Refusal>) -> [u64; 5]
     ensures { result ≡ total_row a }
 {
     match a {
-        TotalAnswer::Total(n) => [0, 1, n, 0, 0],
-        TotalAnswer::Refused(n) => refused_row(n),
+        Ok(n) => [0, 1, n, 0, 0],
+        Err(Refusal(n)) => refused_row(n),
     }
 }
 
-pub fn snapshot_row(a: SnapshotAnswer) -> [u64; 5]
+#[tactic(auto, unfolding(answers::specs::Rows::snapshot_row))]
+pub fn snapshot_row(a: Result<SuppressedRateLimitSnapshot, Refusal>) -> [u64; 5]
     ensures { result ≡ snapshot_row a }
 {
     match a {
-        SnapshotAnswer::Snapshot(s) => [
+        Ok(s) => [
             0,
             1,
             s.total,
             s.total_declined,
             common::word_of(s.suppression_factor),
         ],
-        SnapshotAnswer::Refused(n) => refused_row(n),
+        Err(Refusal(n)) => refused_row(n),
     }
 }
 
-pub fn factor_row(a: FactorAnswer) -> [u64; 5]
+#[tactic(auto, unfolding(answers::specs::Rows::factor_row))]
+pub fn factor_row(a: Result<f64, Refusal>) -> [u64; 5]
     ensures { result ≡ factor_row a }
 {
     match a {
-        FactorAnswer::Factor(f) => [0, 1, common::word_of(f), 0, 0],
-        FactorAnswer::Refused(n) => refused_row(n),
+        Ok(f) => [0, 1, common::word_of(f), 0, 0],
+        Err(Refusal(n)) => refused_row(n),
     }
 }
 
-pub fn old_rate_row(a: OldRateAnswer) -> [u64; 5]
+#[tactic(auto, unfolding(answers::specs::Rows::old_rate_row))]
+pub fn old_rate_row(a: Result<Option<RateLimit>, Refusal>) -> [u64; 5]
     ensures { result ≡ old_rate_row a }
 {
     match a {
-        OldRateAnswer::Was(rate) => [0, 1, common::word_of(rate.0), 0, 0],
-        OldRateAnswer::Unknown => [0, 2, 0, 0, 0],
-        OldRateAnswer::Refused(n) => refused_row(n),
+        Ok(Some(rate)) => [0, 1, common::word_of(rate.0), 0, 0],
+        Ok(None) => [0, 2, 0, 0, 0],
+        Err(Refusal(n)) => refused_row(n),
     }
 }
 
-pub fn delete_row(a: DeleteAnswer) -> [u64; 5]
+#[tactic(auto, unfolding(answers::specs::Rows::delete_row))]
+pub fn delete_row(a: Result<Option<u64>, Refusal>) -> [u64; 5]
     ensures { result ≡ delete_row a }
 {
     match a {
-        DeleteAnswer::Deleted(n) => [0, 1, n, 0, 0],
-        DeleteAnswer::Unknown => [0, 2, 0, 0, 0],
-        DeleteAnswer::Refused(n) => refused_row(n),
+        Ok(Some(n)) => [0, 1, n, 0, 0],
+        Ok(None) => [0, 2, 0, 0, 0],
+        Err(Refusal(n)) => refused_row(n),
     }
 }
 
-pub fn set_row(a: SetAnswer) -> [u64; 5]
+#[tactic(auto, unfolding(answers::specs::Rows::set_row))]
+pub fn set_row(a: Result<ConditionalSetOutcome, Refusal>) -> [u64; 5]
     ensures { result ≡ set_row a }
 {
     match a {
-        SetAnswer::Set(o) => [0, 1, said(o.matched), o.previous_total, o.current_total],
-        SetAnswer::Refused(n) => refused_row(n),
+        Ok(o) => [0, 1, said(o.matched), o.previous_total, o.current_total],
+        Err(Refusal(n)) => refused_row(n),
     }
 }
 
-pub fn done_row(a: DoneAnswer) -> [u64; 5]
+#[tactic(auto, unfolding(answers::specs::Rows::done_row))]
+pub fn done_row(a: Result<(), Refusal>) -> [u64; 5]
     ensures { result ≡ done_row a }
 {
     match a {
-        DoneAnswer::Done => [0, 1, 0, 0, 0],
-        DoneAnswer::Refused(n) => refused_row(n),
+        Ok(()) => [0, 1, 0, 0, 0],
+        Err(Refusal(n)) => refused_row(n),
     }
 }
 
-pub fn ring_row(a: RingAnswer) -> [u64; 5]
+#[tactic(auto, unfolding(answers::specs::Rows::ring_row))]
+pub fn ring_row(a: Result<u64, Refusal>) -> [u64; 5]
     ensures { result ≡ ring_row a }
 {
     match a {
-        RingAnswer::Ring(n) => [0, 1, n, 0, 0],
-        RingAnswer::Refused(n) => refused_row(n),
+        Ok(n) => [0, 1, n, 0, 0],
+        Err(Refusal(n)) => refused_row(n),
     }
 }
 
-pub fn shot_row(a: ShotAnswer) -> [u64; 5]
+#[tactic(auto, unfolding(answers::specs::Rows::shot_row))]
+pub fn shot_row(a: Result<ShotOutcome, Refusal>) -> [u64; 5]
     ensures { result ≡ shot_row a }
 {
     match a {
-        ShotAnswer::Held => [0, 4, 0, 0, 0],
-        ShotAnswer::Decided(decision) => decision_row(decision),
-        ShotAnswer::Refused(n) => refused_row(n),
+        Ok(ShotOutcome::Held) => [0, 4, 0, 0, 0],
+        Ok(ShotOutcome::Decided(decision)) => decision_row(decision),
+        Err(Refusal(n)) => refused_row(n),
     }
 }
 
@@ -151,6 +159,7 @@ pub fn give(row: [u64; 5], out: &mut [u64; 5]) -> u64
 
 // ---- a line that was read back
 
+#[tactic(auto, unfolding(told::specs::Rows::told_row))]
 fn told_row(t: u64, told: Told) -> [u64; 7]
     ensures { result ≡ told_row t told }
 {
@@ -185,15 +194,13 @@ fn told_row(t: u64, told: Told) -> [u64; 7]
     }
 }
 
-pub fn line_row(a: LineAnswer) -> [u64; 7]
+#[tactic(auto, unfolding(told::specs::Rows::line_row))]
+pub fn line_row(a: Result<ToldLine, Refusal>) -> [u64; 7]
     ensures { result ≡ line_row a }
 {
     match a {
-        LineAnswer::Line(l) => {
-            let told = l.told;
-            told_row(l.t, told)
-        }
-        LineAnswer::Refused(n) => [n, 0, 0, 0, 0, 0, 0],
+        Ok(l) => told_row(l.t, l.told),
+        Err(e) => [e.number(), 0, 0, 0, 0, 0, 0],
     }
 }
 

@@ -1,9 +1,8 @@
 -- The rules tried on small keys, computed. Settings: a window of 10 s, buckets of 100 ms, a cache period of 100 ms; readings in milliseconds, and then
 -- in nanoseconds.
 -- Assumes nothing.
-use Rattle.std.specs.Prelude.{◌≡◌, refl, true, false, List, [], ◌∷◌}
+use Rattle.std.specs.Prelude.{◌≡◌, refl, true, false, List, [], ◌∷◌, Ok, Some}
 use Rattle.std.specs.Float.Ieee as Ieee
-use Rattle.answers.specs.declared.DeleteAnswer.TheVariants as delete
 use Rattle.answers.specs.declared.HistoryPreservation.TheVariants.{PreserveNewest, PreserveOldest}
 use Rattle.answers.specs.declared.HistoryUpdateMode.TheVariants as mode
 use Rattle.common.specs.declared.comparator.RateLimitComparator.TheVariants as comparator
@@ -68,7 +67,7 @@ pub record Cases : Type 0 where
   -- a forecast equal to H is allowed, even when it is also at most S
   pub at-hard : reach_of 10 10 10 ≡ Hard
   -- delete gives what is live less what is declined of it
-  pub deletes : sets.deleted ten_seconds 300 held ≡ delete.Deleted 5
+  pub deletes : sets.deleted ten_seconds 300 held ≡ Some 5
   -- a set that finds what it asks for changes nothing; with an expired bucket it does
   pub still : sets.idle ten_seconds 300 7 comparator.Always 7 (mode.Preserve PreserveNewest) held ≡ true
   pub stirs : sets.idle ten_seconds 10001 7 comparator.Always 4 (mode.Preserve PreserveNewest) held ≡ false

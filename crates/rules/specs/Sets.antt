@@ -1,17 +1,13 @@
 -- Setting a total, setting a rate, and delete, in document 01's words: of both limiters. h is the key, limit the word of the rate's limit; `still` says that
 -- nothing changes.
 -- Assumes nothing.
-use Rattle.std.specs.Prelude.{Bool, true, false, not, ◌&&◌, ◌||◌, cond, List, [], ◌∷◌, ℕ, ◌-◌, ltb, eqb}
+use Rattle.std.specs.Prelude.{Bool, true, false, not, ◌&&◌, ◌||◌, cond, List, [], ◌∷◌, ℕ, ◌-◌, ltb, eqb, Result, Ok, Option, Some, None}
 use Rattle.common.specs.Comparator.{matches}
 use Rattle.common.specs.Limits.{rate_back}
 use Rattle.settings.specs.Settings.{window_in, factor_in}
 use Rattle.settings.specs.Clock.{window_ticks}
 use Rattle.settings.specs.declared.Settings.{Settings}
 use Rattle.common.specs.declared.units.RateLimit.{RateLimit}
-use Rattle.answers.specs.declared.DeleteAnswer.{DeleteAnswer}
-use Rattle.answers.specs.declared.DeleteAnswer.TheVariants as delete
-use Rattle.answers.specs.declared.OldRateAnswer.{OldRateAnswer}
-use Rattle.answers.specs.declared.OldRateAnswer.TheVariants as rate
 use Rattle.common.specs.declared.comparator.RateLimitComparator.{RateLimitComparator}
 use Rattle.answers.specs.declared.ConditionalSetOutcome.{ConditionalSetOutcome}
 use Rattle.answers.specs.declared.HistoryUpdateMode.{HistoryUpdateMode}
@@ -23,6 +19,7 @@ use Rattle.ring.specs.Ring.{counts, declineds}
 use Rattle.rules.specs.declared.RoomKind.{RoomKind}
 use Rattle.rules.specs.Held.{Held, lacks_slot}
 use Rattle.rules.specs.Both.{limit_in, divisor, live_of, unrated}
+use Rattle.common.specs.declared.refusal.Refusal.{Refusal}
 
 -- ---- a set
 
@@ -72,8 +69,8 @@ set_turns kind s full t rate comparator count mode h =
 -- ---- setting a rate
 
 -- "touches only a known series and gives the old rate back, as `RateLimit::from_stored_window_limit` does"
-unfoldable pub old_rate : RoomKind → Settings → Held → OldRateAnswer
-old_rate kind s h = cond h.known (rate.Was (record { 0 = rate_back (window_in s) (divisor kind (factor_in s)) h.limit })) rate.Unknown
+unfoldable pub old_rate : RoomKind → Settings → Held → Option RateLimit
+old_rate kind s h = cond h.known (Some (record { 0 = rate_back (window_in s) (divisor kind (factor_in s)) h.limit })) None
 
 unfoldable pub rate_turns : RateLimit → List (ℕ × Bool)
 rate_turns rate = (8, unrated rate) ∷ []
@@ -81,6 +78,6 @@ rate_turns rate = (8, unrated rate) ∷ []
 -- ---- delete
 
 -- "Delete gives live total less declined, or 0 for a lone cached factor, or none"
-unfoldable pub deleted : Settings → ℕ → Held → DeleteAnswer
+unfoldable pub deleted : Settings → ℕ → Held → Option ℕ
 deleted s t h =
-    cond h.known (delete.Deleted (counts (live_of s t h) - declineds (live_of s t h))) (cond h.cached (delete.Deleted 0) delete.Unknown)
+    cond h.known (Some (counts (live_of s t h) - declineds (live_of s t h))) (cond h.cached (Some 0) None)

@@ -2,7 +2,7 @@
 -- whole numbers, W the window in seconds, n the number of ticks in a millisecond, t the reading, c the count, r the ring. out says whether the call evicts:
 -- `get` does at once, an increment and `get_suppression_factor` by a first look.
 -- Assumes nothing.
-use Rattle.std.specs.Prelude.{Bool, true, false, ◌&&◌, cond, List, [], ◌∷◌, ℕ, ◌+◌, ◌-◌, leb, ltb, eqb, Float, length}
+use Rattle.std.specs.Prelude.{Bool, true, false, ◌&&◌, cond, List, [], ◌∷◌, ℕ, ◌+◌, ◌-◌, leb, ltb, eqb, Float, length, Option, Some, None}
 use Rattle.std.specs.Float.{binary64}
 use Rattle.std.specs.Float.Ieee.{of_bits}
 use Rattle.suppression.specs.Factor.{fresh_factor, admitted}
@@ -21,8 +21,6 @@ use Rattle.rules.specs.Buckets.{gone_if, out_if, last_second}
 use Rattle.ring.specs.declared.Bucket.{Bucket}
 use Rattle.ring.specs.Ring.{counts, declineds}
 use Rattle.rules.specs.declared.Asked.{Asked}
-use Rattle.rules.specs.declared.Caching.{Caching}
-use Rattle.rules.specs.declared.Caching.TheVariants.{Left, Cached}
 use Rattle.rules.specs.declared.FactorRule.{FactorRule}
 use Rattle.rules.specs.declared.FactorRule.TheVariants.{Nil, One, Worked}
 use Rattle.rules.specs.declared.Outcome.{Outcome}
@@ -71,7 +69,7 @@ fresh_by Worked S total W last = fresh_factor S total W last
 abbrev pub freshly : FactorRule → ℕ → ℕ → ℕ → ℕ → ℕ → Asked
 freshly by S W t total last = record {
   factor = fresh_by by S total W last;
-  caching = Cached (cached_at (fresh_by by S total W last) t);
+  caching = Some (cached_at (fresh_by by S total W last) t);
 }
 
 abbrev pub rule_on : ℕ → ℕ → List Bucket → FactorRule
@@ -79,7 +77,7 @@ rule_on S H xs = clauses S H (eqb (length xs) 0) (counts xs) (declineds xs)
 
 -- the cached factor that is left as it is
 abbrev pub as_cached : ℕ → Asked
-as_cached factor = record { factor = of_bits binary64 factor; caching = Left }
+as_cached factor = record { factor = of_bits binary64 factor; caching = None }
 
 -- of the buckets
 abbrev pub fresh_on : ℕ → ℕ → ℕ → ℕ → ℕ → List Bucket → Asked
@@ -102,8 +100,8 @@ unfoldable pub reach_of : ℕ → ℕ → ℕ → Reach
 reach_of n S H = cond (eqb n H) Hard (cond (leb n S) Soft (cond (ltb H n) Over Between))
 
 -- "cache 1"
-abbrev pub full_at : ℕ → Caching
-full_at t = Cached (cached_at one t)
+abbrev pub full_at : ℕ → Option CachedFactor
+full_at t = Some (cached_at one t)
 
 -- "Count, and declined if not admitted, go to totals and bucket"
 abbrev pub declined_by : Bool → ℕ → ℕ
@@ -120,7 +118,7 @@ drawn a c draw = record {
 -- "At most S, or equal to H: Allowed. Equal to H caches factor 1 .. Over H: cache 1, not admitted. Between: the .. factor"
 abbrev pub outcome_of : Reach → Asked → ℕ → ℕ → ℕ → Outcome
 outcome_of Hard a t c draw = record { decision = Allowed; declined = 0; caching = full_at t }
-outcome_of Soft a t c draw = record { decision = Allowed; declined = 0; caching = Left }
+outcome_of Soft a t c draw = record { decision = Allowed; declined = 0; caching = None }
 outcome_of Over a t c draw = record { decision = Suppressed one false; declined = c; caching = full_at t }
 outcome_of Between a t c draw = drawn a c draw
 

@@ -20,18 +20,11 @@ pub enum FactorRule {
     Worked,
 }
 
-// What becomes of a cached factor: it is left, or another is cached.
-#[derive(Clone, Copy)]
-pub enum Caching {
-    Left,
-    Cached(CachedFactor),
-}
-
-// A factor that is asked for, and what is cached.
+// A factor that is asked for, and what is cached: none, and the cached one is left.
 #[derive(Clone, Copy)]
 pub struct Asked {
     pub factor: f64,
-    pub caching: Caching,
+    pub caching: Option<CachedFactor>,
 }
 
 // Where a forecast stands: equal to the hard limit, at most the soft one, over the hard one, or between them.
@@ -48,5 +41,5 @@ pub enum Reach {
 pub struct Outcome {
     pub decision: RateLimitDecision,
     pub declined: u64,
-    pub caching: Caching,
+    pub caching: Option<CachedFactor>,
 }

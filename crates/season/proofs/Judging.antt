@@ -1,13 +1,11 @@
 -- A gateway whose answers are by the log keeps the season's promises: whatever gateway it is.
 -- Assumes nothing.
-use Rattle.std.specs.Prelude.{◌≡◌, refl, Bool, true, false, not, List, [], ◌∷◌, ℕ, ◌≤◌, ◌<◌, ltb, eqb}
+use Rattle.std.specs.Prelude.{◌≡◌, refl, Bool, true, false, not, List, [], ◌∷◌, ℕ, ◌≤◌, ◌<◌, ltb, eqb, Result, Ok}
 use Rattle.std.proofs.Common.{sym, ap, ◌∙◌, arith, ltb-true, ltb-false, le-ltb, eqb-true, ne_eqb, leb-true}
 use Rattle.std.proofs.lemmas.Bool.{false≢true, eqb-false, not-true, not-false}
 use Rattle.base.specs.Decides.{and-true}
 use Rattle.answers.specs.declared.RateLimitDecision.{RateLimitDecision}
 use Rattle.answers.specs.declared.RateLimitDecision.TheVariants as decision
-use Rattle.answers.specs.declared.ShotAnswer.{ShotAnswer}
-use Rattle.answers.specs.declared.ShotAnswer.TheVariants.{Held, Refused}
 use Rattle.table.specs.Table.{most_controllers, numbered}
 use Rattle.gateway.specs.Gateway.{Verdict, as_shot, admits_shot}
 use Rattle.season.specs.Log.{Pair, times, highest}
@@ -15,12 +13,16 @@ use Rattle.season.proofs.Log.{highest-times, once_more}
 use Rattle.season.specs.Season.{Shot, Event, shoots, calls, AllBytes, Gateway, told, pair_of, noted, log_of, limiter, full}
 use Rattle.season.specs.Season.{NeverTwice, Asks, StillAhead, LeavesTable, Season, judged_by, by_log, Judged, ByLog}
 use Rattle.season.specs.Judging.{Judging, unnumbered, below, away, same, asked, Through}
+use Rattle.common.specs.Refusals.{refuse}
+use Rattle.common.specs.declared.refusal.Refusal.{Refusal}
+use Rattle.answers.specs.declared.ShotOutcome.{ShotOutcome}
+use Rattle.answers.specs.declared.ShotOutcome.TheVariants.{Held}
 
 -- two answers that are not one
-pub apart : (n : ℕ) → Refused n ≡ Held → ⊥
+pub apart : (n : ℕ) → refuse n ≡ Ok Held → ⊥
 apart n e = let z : ◌≡◌ {A = ℕ} 0 1 = cc in omega arith
 
-pub not-held : (d : RateLimitDecision) → as_shot d ≡ Held → ⊥
+pub not-held : (d : RateLimitDecision) → as_shot d ≡ Ok Held → ⊥
 not-held decision.Allowed e = let z : ◌≡◌ {A = ℕ} 0 1 = cc in omega arith
 not-held (decision.Rejected window wait rest) e = let z : ◌≡◌ {A = ℕ} 0 1 = cc in omega arith
 not-held (decision.Suppressed f is) e = let z : ◌≡◌ {A = ℕ} 0 1 = cc in omega arith
@@ -45,7 +47,7 @@ module _ (log : List Pair) (c : Shot) where
       go false false false true p q r s = same (not-false _ p) (eqb-true _ _ s) r
       go false false false false p q r s = asked (not-false _ p) (omega (arith, ltb-false c.number last q, eqb-false c.number last s)) r
 
-  pub admitted-through : (j : ShotAnswer × List ℕ) → Judging log c j → admits_shot j.0 ≡ true → Through log c
+  pub admitted-through : (j : Result ShotOutcome Refusal × List ℕ) → Judging log c j → admits_shot j.0 ≡ true → Through log c
   admitted-through j (unnumbered p) e = absurd (false≢true e)
   admitted-through j (below p q) e = absurd (false≢true e)
   admitted-through j (away p q r) e = absurd (false≢true e)
@@ -53,7 +55,7 @@ module _ (log : List Pair) (c : Shot) where
   admitted-through j (asked p q r) e = record { number = p; ahead = q; free = r; admits = e }
 
   -- what is held is the highest of its controller's
-  pub held-highest : (j : ShotAnswer × List ℕ) → Judging log c j → j.0 ≡ Held → (c.number ≡ last) × (1 ≤ c.number)
+  pub held-highest : (j : Result ShotOutcome Refusal × List ℕ) → Judging log c j → j.0 ≡ Ok Held → (c.number ≡ last) × (1 ≤ c.number)
   held-highest j (unnumbered p) e = absurd (apart 19 e)
   held-highest j (below p q) e = absurd (apart 20 e)
   held-highest j (away p q r) e = absurd (apart 21 e)

@@ -1,17 +1,14 @@
 -- The gateway itself keeps the season's promises: its table tells at every moment what the log does, so that its answers are by the log.
 -- Assumes nothing.
-use Rattle.std.specs.Prelude.{◌≡◌, Bool, not, ◌&&◌, ◌||◌, List, [], ◌∷◌, ℕ, ◌+◌, ◌≤◌, ◌<◌, length, ltb, eqb}
+use Rattle.std.specs.Prelude.{◌≡◌, Bool, not, ◌&&◌, ◌||◌, List, [], ◌∷◌, ℕ, ◌+◌, ◌≤◌, ◌<◌, length, ltb, eqb, Result, Ok}
 use Rattle.std.proofs.Math.Path.{refl, ap, subst}
 use Rattle.std.proofs.Common.{sym, ap₂, ◌∙◌, arith, ltb-false, eqb-true, ne_eqb}
 use Rattle.std.proofs.Math.Bool.{true, false, cond}
 use Rattle.std.proofs.lemmas.Bool.{false≢true, eqb-false, not-false}
-use Rattle.common.specs.Refusals.{first, all-false}
+use Rattle.common.specs.Refusals.{first, all-false, refuse}
 use Rattle.settings.specs.Settings.{faults}
 use Rattle.layout.specs.Layout.{longest_key}
-use Rattle.answers.specs.declared.DoneAnswer.TheVariants.{Done}
 use Rattle.answers.specs.declared.RateLimitDecision.TheVariants as decision
-use Rattle.answers.specs.declared.ShotAnswer.{ShotAnswer}
-use Rattle.answers.specs.declared.ShotAnswer.TheVariants.{Refused}
 use Rattle.frame.specs.Keys.{Bytes}
 use Rattle.parties.specs.Parties.{turns}
 use Rattle.judge.specs.Judge.{misfits}
@@ -32,6 +29,8 @@ use Rattle.season.specs.Season.{LeavesTable, Season, by_log, ByLog}
 use Rattle.season.specs.Judging.{Through}
 use Rattle.season.proofs.Judging.{judging, admitted-through, number-low, by-log-season}
 use Rattle.season.specs.Own.{own, turned, decision_of, Judges, Agrees}
+use Rattle.common.specs.declared.refusal.Refusal.{Refusal}
+use Rattle.answers.specs.declared.ShotOutcome.{ShotOutcome}
 
 -- ---- a shot on a sound table, by four tests of it
 
@@ -131,7 +130,7 @@ module _ (w : List ℕ) (log : List Pair) (c : Shot) (o : Agrees w log) (b : Byt
   shot-agrees =
       let j = agrees-judges in
       let a = (by_log log c).0 in
-      subst (λ (x : ShotAnswer). Agrees (own.shot w c).table (noted (admits_shot x) c log)) (sym j.answer)
+      subst (λ (x : Result ShotOutcome Refusal). Agrees (own.shot w c).table (noted (admits_shot x) c log)) (sym j.answer)
       (subst (λ (x : List ℕ). Agrees x (noted (admits_shot a) c log)) (sym j.table) (go (admits_shot a) refl))
     where
       go : (z : Bool) → admits_shot (by_log log c).0 ≡ z → Agrees (cond z (remembered w c.controller c.number) w) (noted z c log)
@@ -156,7 +155,7 @@ own-remembers w c = go (eqb (first judged) 0) (is_held w c.controller c.number)
 
     go : (z h : Bool) →
         let v = Gate.passed h c.settings w c.room c.reading (key_in c) c.number c.rate c.draw in
-        cond z v.table w ≡ cond (admits_shot (cond z v.answer (Refused (first judged)))) (remembered w c.controller c.number) w
+        cond z v.table w ≡ cond (admits_shot (cond z v.answer (refuse (first judged)))) (remembered w c.controller c.number) w
     go true true = refl
     go true false = refl
     go false h = refl
@@ -174,6 +173,6 @@ season = by-log-season own own-by-log own-leaves
 
 -- ---- "Only a new season empties the table": and it does, whatever the season was, so that the next one begins as this one did
 
-pub season-ends : (events : List Event) → AllBytes events → Gate.new_season (table_after own events) ≡ Room.verdict Done empty_table
+pub season-ends : (events : List Event) → AllBytes events → Gate.new_season (table_after own events) ≡ Room.verdict (Ok tt) empty_table
 unfolding Gate.new_season first Room.unless_refused
 season-ends events b = rw (table_is (table_after own events) (always-agrees events b).sound.table)

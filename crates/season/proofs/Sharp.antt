@@ -1,13 +1,11 @@
 -- That the promises are sharp: none can be said of more shots, and 21 comes at 64 controllers and at no other number. By short seasons (`Histories.antt`),
 -- and by one in which as many controllers as wanted send a shot each.
 -- Assumes nothing.
-use Rattle.std.specs.Prelude.{◌≡◌, refl, Bool, true, false, cond, not, ◌&&◌, ◌||◌, List, [], ◌∷◌, ◌≢◌, ℕ, zero, suc, ◌+◌, ◌≤◌, ◌<◌, eqb}
+use Rattle.std.specs.Prelude.{◌≡◌, refl, Bool, true, false, cond, not, ◌&&◌, ◌||◌, List, [], ◌∷◌, ◌≢◌, ℕ, zero, suc, ◌+◌, ◌≤◌, ◌<◌, eqb, Result, Ok}
 use Rattle.std.proofs.Common.{sym, ap, ap₂, subst, ◌∙◌, arith, eq-eqb, ne_eqb}
 use Rattle.std.proofs.lemmas.Bool.{false≢true}
 use Rattle.std.proofs.Math.Decide.{dec_lt}
 use Rattle.answers.specs.declared.RateLimitDecision.TheVariants as decision
-use Rattle.answers.specs.declared.ShotAnswer.{ShotAnswer}
-use Rattle.answers.specs.declared.ShotAnswer.TheVariants.{Held, Decided, Refused}
 use Rattle.frame.specs.Keys.{Bytes}
 use Rattle.table.specs.Table.{most_controllers, numbered}
 use Rattle.demand3.specs.History.{same_bytes}
@@ -22,6 +20,10 @@ use Rattle.season.specs.Histories.{goes, one, two, one_two}
 use Rattle.season.proofs.Histories.{computed}
 use Rattle.season.proofs.Wrong.{bytes}
 use Rattle.season.specs.Sharp.{NeverAdmitted, NoHigher, AdmittedIsHeld, Never, by, crowd, pairs}
+use Rattle.common.specs.Refusals.{refuse}
+use Rattle.common.specs.declared.refusal.Refusal.{Refusal}
+use Rattle.answers.specs.declared.ShotOutcome.{ShotOutcome}
+use Rattle.answers.specs.declared.ShotOutcome.TheVariants.{Held, Decided}
 
 -- ---- which shots may be sent again
 
@@ -38,7 +40,7 @@ again-sharp p =
 
 pub held-sharp : AdmittedIsHeld own → ⊥
 held-sharp p =
-    let e : Refused 20 ≡ Held = sym computed.older ∙ p one_two (goes 1) (bytes, (bytes, (bytes, tt))) (omega (arith, computed.older-times)) in
+    let e : refuse 20 ≡ (Ok Held) = sym computed.older ∙ p one_two (goes 1) (bytes, (bytes, (bytes, tt))) (omega (arith, computed.older-times)) in
     let z : ◌≡◌ {A = ℕ} 0 1 = cc in
     omega (arith, z)
 
@@ -77,12 +79,12 @@ next-ahead n = omega (arith, unnamed-highest (n ∷ []) (pairs n) (next-unnamed 
 
 -- what is promised of it with `most` controllers, after those before it
 next-answer : (most n : ℕ) → AskedWhere StillAhead most own → n ≤ 64 → log_of own (crowd n) ≡ pairs n →
-    (told own (crowd n) (by n)).answer ≡ cond (eqb n most) (Refused 21) (Decided decision.Allowed)
+    (told own (crowd n) (by n)).answer ≡ cond (eqb n most) (refuse 21) (Ok (Decided decision.Allowed))
 unfolding numbered
 next-answer most n p h e =
     let l = subst (λ (log : List Pair). StillAhead log (by n)) (sym e) (next-ahead n) in
     (p (crowd n) (by n) (byte n (omega arith), crowd-bytes n h) refl l).answer ∙
-    ap₂ (λ (z : Bool) (a : ShotAnswer). cond z (Refused 21) a)
+    ap₂ (λ (z : Bool) (a : Result ShotOutcome Refusal). cond z (refuse 21) a)
     (ap (λ (log : List Pair). full most log (by n)) e ∙ next-full most n) (ap as_shot (computed.allows-any n 1))
 
 -- all of 64 are admitted
@@ -91,17 +93,17 @@ unfolding crowd pairs
 crowd-log zero h = refl
 crowd-log (suc n) h =
     let e = crowd-log n (omega arith) in
-    let a : (told own (crowd n) (by n)).answer ≡ Decided decision.Allowed =
+    let a : (told own (crowd n) (by n)).answer ≡ Ok (Decided decision.Allowed) =
     next-answer most_controllers n season.may-be-sent-again (omega arith) e ∙
-    ap (λ (z : Bool). cond z (Refused 21) (Decided decision.Allowed)) (ne_eqb n most_controllers (omega arith)) in
-    ap₂ (λ (x : ShotAnswer) (log : List Pair). noted (admits_shot x) (by n) log) a e
+    ap (λ (z : Bool). cond z (refuse 21) (Ok (Decided decision.Allowed))) (ne_eqb n most_controllers (omega arith)) in
+    ap₂ (λ (x : Result ShotOutcome Refusal) (log : List Pair). noted (admits_shot x) (by n) log) a e
 
 -- and one more is not
-pub crowd-full : (told own (crowd 64) (by 64)).answer ≡ Refused 21
+pub crowd-full : (told own (crowd 64) (by 64)).answer ≡ refuse 21
 crowd-full = next-answer most_controllers 64 season.may-be-sent-again (omega arith) (crowd-log 64 (omega arith))
 
 -- the two answers tell the two apart
-tells : (x y : Bool) → cond x (Refused 21) (Decided decision.Allowed) ≡ cond y (Refused 21) (Decided decision.Allowed) → x ≡ y
+tells : (x y : Bool) → cond x (refuse 21) (Ok (Decided decision.Allowed)) ≡ cond y (refuse 21) (Ok (Decided decision.Allowed)) → x ≡ y
 tells true true e = refl
 tells true false e = let z : ◌≡◌ {A = ℕ} 0 1 = cc in absurd (omega (arith, z))
 tells false true e = let z : ◌≡◌ {A = ℕ} 0 1 = cc in absurd (omega (arith, z))

@@ -1,9 +1,8 @@
 -- Which promise each wrong gateway breaks, by a season of a few events that the checker computes (`Histories.antt`).
 -- Assumes nothing.
-use Rattle.std.specs.Prelude.{◌≡◌, refl, List, [], ◌∷◌, ℕ, ◌≤◌, ◌<◌}
+use Rattle.std.specs.Prelude.{◌≡◌, refl, List, [], ◌∷◌, ℕ, ◌≤◌, ◌<◌, Ok}
 use Rattle.std.proofs.Common.{sym, ap, subst, ◌∙◌, arith}
 use Rattle.answers.specs.declared.RateLimitDecision.TheVariants as decision
-use Rattle.answers.specs.declared.ShotAnswer.TheVariants.{Decided, Refused}
 use Rattle.frame.specs.Keys.{Bytes}
 use Rattle.table.specs.Table.{known_of, empty_table, numbered}
 use Rattle.gateway.specs.Gateway.{as_shot, admits_shot}
@@ -17,6 +16,8 @@ use Rattle.season.specs.Gateways.{eager, forgetful, at_most, lax, alone, closed}
 use Rattle.season.specs.Histories.{goes, stays, one_away, two, one_one, one_cleaned_one, two_one_two}
 use Rattle.season.proofs.Histories.{computed}
 use Rattle.season.specs.Wrong.{KeepsTheRest}
+use Rattle.common.specs.Refusals.{refuse}
+use Rattle.answers.specs.declared.ShotOutcome.TheVariants.{Decided}
 
 pub bytes : Bytes []
 bytes i = omega arith
@@ -58,7 +59,7 @@ eager-breaks-sent-again p =
 pub closed-breaks-sent-again : MayBeSentAgain closed → ⊥
 unfolding numbered
 closed-breaks-sent-again p =
-    let e : Refused 21 ≡ Decided decision.Allowed = (p [] (goes 1) (bytes, tt) refl (omega arith)).answer ∙ ap as_shot (computed.allows 1) in
+    let e : refuse 21 ≡ Ok (Decided decision.Allowed) = (p [] (goes 1) (bytes, tt) refl (omega arith)).answer ∙ ap as_shot (computed.allows 1) in
     let z : ◌≡◌ {A = ℕ} 0 1 = cc in
     omega (arith, z)
 

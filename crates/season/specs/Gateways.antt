@@ -1,14 +1,14 @@
 -- Wrong gateways: each is the gateway itself but for one thing.
 -- Assumes nothing.
-use Rattle.std.specs.Prelude.{Bool, true, false, cond, not, ◌&&◌, List, ℕ, leb, ltb, eqb}
-use Rattle.common.specs.Refusals.{first}
-use Rattle.answers.specs.declared.ShotAnswer.TheVariants.{Held, Refused}
+use Rattle.std.specs.Prelude.{Bool, true, false, cond, not, ◌&&◌, List, ℕ, leb, ltb, eqb, Ok}
+use Rattle.common.specs.Refusals.{first, refuse}
 use Rattle.rules.specs.Suppressed.{admits}
 use Rattle.table.specs.Table.{empty_table, numbered, is_known, sound_for, last_number, remembered}
 use Rattle.gateway.specs.Gateway.{Verdict, is_held, gate_turns, as_shot}
 use Rattle.steps.specs.Ops.{Touch, slot_of, stale_by, whole, touches}
 use Rattle.season.specs.Season.{Shot, Gateway, limiter}
 use Rattle.season.specs.Own.{own}
+use Rattle.answers.specs.declared.ShotOutcome.TheVariants.{Held}
 
 -- ---- "one that remembers before it asks"
 
@@ -41,7 +41,7 @@ holds w c = numbered c.number && (sound_for w c.controller && (is_known w c.cont
 
 -- a shot that is held by test h, else v
 abbrev pub held_or : Bool → List ℕ → Shot → Verdict → Verdict
-held_or true w c v = record { answer = Held; table = w; room = c.room }
+held_or true w c v = record { answer = Ok Held; table = w; room = c.room }
 held_or false w c v = v
 
 abbrev pub at_most : Gateway
@@ -68,4 +68,4 @@ abbrev pub alone : Gateway
 alone = record { shot = λ w c. let v = asked w c in record { answer = v.answer; table = w; room = v.room }; between = own.between }
 
 abbrev pub closed : Gateway
-closed = record { shot = λ w c. record { answer = Refused 21; table = w; room = c.room }; between = own.between }
+closed = record { shot = λ w c. record { answer = refuse 21; table = w; room = c.room }; between = own.between }

@@ -1,9 +1,8 @@
 -- Short seasons, of the gateway and of wrong ones, and what each answers, computed by the calls themselves: window 10 s, bucket 100 ms, factor 1
 -- and 1 per second, so that H = 10, on a room of one slot, promised to party 1, and a ring of one. Newest first.
 -- Assumes nothing.
-use Rattle.std.specs.Prelude.{◌≡◌, false, List, [], ◌∷◌, ℕ}
+use Rattle.std.specs.Prelude.{◌≡◌, false, List, [], ◌∷◌, ℕ, Ok}
 use Rattle.answers.specs.declared.RateLimitDecision.TheVariants as decision
-use Rattle.answers.specs.declared.ShotAnswer.TheVariants.{Held, Decided, Refused}
 use Rattle.common.specs.Ranges as Ranges
 use Rattle.settings.specs.Settings as Settings
 use Rattle.common.specs.declared.units.RateLimit.{RateLimit}
@@ -18,6 +17,8 @@ use Rattle.season.specs.Log.{times, highest}
 use Rattle.season.specs.Season.{Shot, Event, shoots, calls, table_after, told, log_of, limiter}
 use Rattle.season.specs.Own.{own}
 use Rattle.season.specs.Gateways.{eager, forgetful, at_most, lax, alone}
+use Rattle.common.specs.Refusals.{refuse}
+use Rattle.answers.specs.declared.ShotOutcome.TheVariants.{Held, Decided}
 
 abbrev pub rate : RateLimit
 rate = record { 0 = Ranges.one }
@@ -91,25 +92,25 @@ pub record Computed : Type 0 where
   pub allows-any : (k n : ℕ) → (limiter (shot_of (k ∷ []) n idle)).answer ≡ decision.Allowed
   pub declines : (n : ℕ) → (limiter (stays n)).answer ≡ decision.Suppressed Ranges.one false
   -- the gateway: a number lost, one again, from the other party too, an older one again, one sent again, one in the next season, and the ends of the numbers
-  pub lost : (told own two (goes 1)).answer ≡ Refused 20
+  pub lost : (told own two (goes 1)).answer ≡ refuse 20
   pub lost-times : times [] 1 (log_of own two) ≡ 0
-  pub again : (told own one (goes 1)).answer ≡ Held
-  pub again-by-other : (told own one (goes_by_other 1)).answer ≡ Held
-  pub next-by-other : (told own one (goes_by_other 2)).answer ≡ Decided decision.Allowed
+  pub again : (told own one (goes 1)).answer ≡ Ok Held
+  pub again-by-other : (told own one (goes_by_other 1)).answer ≡ Ok Held
+  pub next-by-other : (told own one (goes_by_other 2)).answer ≡ Ok (Decided decision.Allowed)
   pub again-highest : highest [] (log_of own one) ≡ 1
-  pub older : (told own one_two (goes 1)).answer ≡ Refused 20
+  pub older : (told own one_two (goes 1)).answer ≡ refuse 20
   pub older-times : times [] 1 (log_of own one_two) ≡ 1
-  pub sent-again : (told own one_away (goes 1)).answer ≡ Decided decision.Allowed
-  pub next-season : (own.shot (Gate.new_season (table_after own one)).words (goes 1)).answer ≡ Decided decision.Allowed
-  pub none-refused : (told own [] (goes 0)).answer ≡ Refused 19
-  pub most-taken : (told own [] (goes 4294967295)).answer ≡ Decided decision.Allowed
-  pub over-refused : (told own [] (goes 4294967296)).answer ≡ Refused 19
+  pub sent-again : (told own one_away (goes 1)).answer ≡ Ok (Decided decision.Allowed)
+  pub next-season : (own.shot (Gate.new_season (table_after own one)).words (goes 1)).answer ≡ Ok (Decided decision.Allowed)
+  pub none-refused : (told own [] (goes 0)).answer ≡ refuse 19
+  pub most-taken : (told own [] (goes 4294967295)).answer ≡ Ok (Decided decision.Allowed)
+  pub over-refused : (told own [] (goes 4294967296)).answer ≡ refuse 19
   -- wrong ones
-  pub eager-holds : (told eager one_away (goes 1)).answer ≡ Held
+  pub eager-holds : (told eager one_away (goes 1)).answer ≡ Ok Held
   pub eager-log : log_of eager one_away ≡ []
-  pub eager-declines : (eager.shot empty_table (stays 1)).answer ≡ Decided (decision.Suppressed Ranges.one false)
+  pub eager-declines : (eager.shot empty_table (stays 1)).answer ≡ Ok (Decided (decision.Suppressed Ranges.one false))
   pub eager-knows : known_of (eager.shot empty_table (stays 1)).table ≡ 1
-  pub at-most-holds : (told at_most two (goes 1)).answer ≡ Held
+  pub at-most-holds : (told at_most two (goes 1)).answer ≡ Ok Held
   pub at-most-times : times [] 1 (log_of at_most two) ≡ 0
   pub forgetful-times : times [] 1 (log_of forgetful one_cleaned_one) ≡ 2
   pub lax-times : times [] 2 (log_of lax two_one_two) ≡ 2

@@ -1,18 +1,19 @@
 -- A run of code is a season: shots that were made one after the other, each with an answer, a table and a room on exit that its contract allows on the table
 -- it found, have answered what the season's shots answer. So what is promised of seasons is promised of programs; the log is made from what came back.
 -- Assumes nothing.
-use Rattle.std.specs.Prelude.{◌≡◌, List, [], ◌∷◌, ℕ}
-use Rattle.answers.specs.declared.ShotAnswer.{ShotAnswer}
+use Rattle.std.specs.Prelude.{◌≡◌, List, [], ◌∷◌, ℕ, Result}
 use Rattle.table.specs.Table.{empty_table}
 use Rattle.gateway.specs.Gateway.{Told, admits_shot}
 use Rattle.season.specs.Log.{Pair}
 use Rattle.season.specs.Season.{Shot, Event, shoots, table_after, noted, log_of}
 use Rattle.season.specs.Own.{own}
+use Rattle.common.specs.declared.refusal.Refusal.{Refusal}
+use Rattle.answers.specs.declared.ShotOutcome.{ShotOutcome}
 
 -- a shot that was made, and what came back
 pub record Made : Type 0 where
   pub shot : Shot
-  pub answer : ShotAnswer
+  pub answer : Result ShotOutcome Refusal
   pub table : List ℕ
   pub room : List ℕ
 

@@ -2,12 +2,10 @@
 -- between them. What a gateway promises over it, said of any gateway; the log of what it admitted is made from the answers that it gave. A controller is known
 -- by its bytes alone, whichever party sends its shots.
 -- Assumes nothing.
-use Rattle.std.specs.Prelude.{◌≡◌, Bool, true, false, cond, not, ◌&&◌, List, [], ◌∷◌, ℕ, ◌≤◌, ◌<◌, ltb, eqb}
+use Rattle.std.specs.Prelude.{◌≡◌, Bool, true, false, cond, not, ◌&&◌, List, [], ◌∷◌, ℕ, ◌≤◌, ◌<◌, ltb, eqb, Result, Ok}
 use Rattle.common.specs.declared.units.RateLimit.{RateLimit}
 use Rattle.settings.specs.declared.Settings.{Settings}
 use Rattle.answers.specs.declared.RateLimitDecision.{RateLimitDecision}
-use Rattle.answers.specs.declared.ShotAnswer.{ShotAnswer}
-use Rattle.answers.specs.declared.ShotAnswer.TheVariants.{Held, Refused}
 use Rattle.rules.specs.declared.RoomKind.TheVariants.{Suppressed}
 use Rattle.frame.specs.Keys.{Bytes}
 use Rattle.parties.specs.declared.Caller.{Caller}
@@ -18,6 +16,10 @@ use Rattle.table.specs.Table.{most_controllers, empty_table, numbered}
 use Rattle.gateway.specs.Gateway.{as_shot, admits_shot, Verdict}
 use Rattle.steps.specs.Ops.{Op}
 use Rattle.season.specs.Log.{Pair, times, highest, named, controllers}
+use Rattle.common.specs.Refusals.{refuse}
+use Rattle.common.specs.declared.refusal.Refusal.{Refusal}
+use Rattle.answers.specs.declared.ShotOutcome.{ShotOutcome}
+use Rattle.answers.specs.declared.ShotOutcome.TheVariants.{Held}
 
 -- ---- what happens in a season
 
@@ -92,7 +94,7 @@ NeverTwice g = (events : List Event) → AllBytes events → (key : List ℕ) (n
 -- "a shot that is `held` was admitted before"
 abbrev pub HeldWasAdmitted : Gateway → Type 0
 HeldWasAdmitted g =
-    (events : List Event) (c : Shot) → AllBytes (shoots c ∷ events) → (told g events c).answer ≡ Held → 1 ≤ times c.controller c.number (log_of g events)
+    (events : List Event) (c : Shot) → AllBytes (shoots c ∷ events) → (told g events c).answer ≡ Ok Held → 1 ≤ times c.controller c.number (log_of g events)
 
 -- "a controller not in the table when it has 64", by the log
 abbrev pub full : ℕ → List Pair → Shot → Bool
@@ -100,7 +102,7 @@ full most log c = not (named c.controller log) && eqb (controllers log) most
 
 -- the limiter is asked, and answers; or it is 21, and the room stays
 pub record Asks (away : Bool) (c : Shot) (v : Verdict) : Type 0 where
-  pub answer : v.answer ≡ cond away (Refused 21) (as_shot (limiter c).answer)
+  pub answer : v.answer ≡ cond away (refuse 21) (as_shot (limiter c).answer)
   pub room : v.room ≡ cond away c.room (limiter c).words
 
 -- a shot for which the log is P is asked of the limiter, unless it is the first of a controller too many
@@ -130,19 +132,19 @@ pub record Season (g : Gateway) : Type 0 where
 -- ---- all of it at once: which answer a shot has, and what the room has then, by the log alone
 
 -- whether its number is none, whether it is below the last, whether the table is full for it, whether it is the same
-abbrev pub judged_by : Bool → Bool → Bool → Bool → Shot → ShotAnswer × List ℕ
-judged_by true below away same c = (Refused 19, c.room)
-judged_by false true away same c = (Refused 20, c.room)
-judged_by false false true same c = (Refused 21, c.room)
-judged_by false false false true c = (Held, c.room)
+abbrev pub judged_by : Bool → Bool → Bool → Bool → Shot → Result ShotOutcome Refusal × List ℕ
+judged_by true below away same c = (refuse 19, c.room)
+judged_by false true away same c = (refuse 20, c.room)
+judged_by false false true same c = (refuse 21, c.room)
+judged_by false false false true c = ((Ok Held), c.room)
 judged_by false false false false c = (as_shot (limiter c).answer, (limiter c).words)
 
-abbrev pub by_log : List Pair → Shot → ShotAnswer × List ℕ
+abbrev pub by_log : List Pair → Shot → Result ShotOutcome Refusal × List ℕ
 by_log log c =
     let last = highest c.controller log in
     judged_by (not (numbered c.number)) (ltb c.number last) (full most_controllers log c) (eqb c.number last) c
 
-pub record Judged (j : ShotAnswer × List ℕ) (v : Verdict) : Type 0 where
+pub record Judged (j : Result ShotOutcome Refusal × List ℕ) (v : Verdict) : Type 0 where
   pub answer : v.answer ≡ j.0
   pub room : v.room ≡ j.1
 

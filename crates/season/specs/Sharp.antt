@@ -1,11 +1,11 @@
 -- That the promises are sharp: none can be said of more shots, and 21 comes at 64 controllers and at no other number. By short seasons (`Histories.antt`),
 -- and by one in which as many controllers as wanted send a shot each.
 -- Assumes nothing.
-use Rattle.std.specs.Prelude.{◌≡◌, List, [], ◌∷◌, ℕ, zero, suc, ◌≤◌}
-use Rattle.answers.specs.declared.ShotAnswer.TheVariants.{Held}
+use Rattle.std.specs.Prelude.{◌≡◌, List, [], ◌∷◌, ℕ, zero, suc, ◌≤◌, Ok}
 use Rattle.season.specs.Log.{Pair, times, highest}
 use Rattle.season.specs.Season.{Shot, Event, shoots, AllBytes, Gateway, told, pair_of, log_of}
 use Rattle.season.specs.Histories.{idle, shot_of}
+use Rattle.answers.specs.declared.ShotOutcome.TheVariants.{Held}
 
 -- ---- which shots may be sent again
 
@@ -22,7 +22,7 @@ NoHigher log c = highest c.controller log ≤ c.number
 -- not every one that was admitted: after 1 and 2 it is 2 alone
 abbrev pub AdmittedIsHeld : Gateway → Type 0
 AdmittedIsHeld g =
-    (events : List Event) (c : Shot) → AllBytes (shoots c ∷ events) → 1 ≤ times c.controller c.number (log_of g events) → (told g events c).answer ≡ Held
+    (events : List Event) (c : Shot) → AllBytes (shoots c ∷ events) → 1 ≤ times c.controller c.number (log_of g events) → (told g events c).answer ≡ Ok Held
 
 -- once it is
 abbrev pub Never : Gateway → Type 0

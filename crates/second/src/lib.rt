@@ -11,16 +11,13 @@ pub fn last_second(b: &[u64], r: usize, last: u64, gone: usize, reading: u64, mo
     requires { Sound r b.now last × (gone ≤ len_of b.now) }
     ensures { result ≡ counts (recent most reading (drop gone (buckets r b.now))) }
 {
-    let mut k = ring::len(b, r);
     let mut sum = 0;
-    while gone < k {
-        let x = ring::nth(b, r, k - 1);
-        let t = x.time;
-        if most < ring::less(reading, t) {
+    for k in (gone..ring::len(b, r)).rev() {
+        let x = ring::nth(b, r, k);
+        if most < reading.saturating_sub(x.time) {
             return sum;
         }
         sum += x.count;
-        k -= 1;
     }
     sum
 }

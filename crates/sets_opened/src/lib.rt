@@ -2,57 +2,39 @@
 #![tactic(auto)]
 
 ghost use Rattle.std.specs.Prelude.{◌≡◌, not, ◌&&◌};
-ghost use Rattle.common.specs.Refusals.{first};
+ghost use Rattle.common.specs.Refusals.{first, ruled};
 ghost use Rattle.rules.specs.Sets.{preserves};
 ghost use Rattle.plan.specs.Plan.{relimited};
 ghost use Rattle.sets_opened.specs.Sets.{set_own, already_at, vain, idle_at, total_after, outcome_at, reset, begins, stored, setting};
 
 use answers::{ConditionalSetOutcome, HistoryUpdateMode};
 use change::Change;
-use common::{RateLimit, RateLimitComparator};
+use common::{RateLimit, RateLimitComparator, Refusal};
 use edit::{Edit, Then};
 use opened::Slot;
 
 fn preserves(mode: HistoryUpdateMode) -> bool
     ensures { result ≡ preserves mode }
 {
-    match mode {
-        HistoryUpdateMode::Replace => false,
-        HistoryUpdateMode::Preserve(_) => true,
-    }
+    matches!(mode, HistoryUpdateMode::Preserve(_))
 }
 
 // Whether a history that is preserved is already what is asked for.
 fn already(x: Slot, limit: u64, count: u64, mode: HistoryUpdateMode) -> bool
     ensures { result ≡ already_at x limit count mode }
 {
-    let pass = x.pass;
-    let live = pass.live_total;
-    let expired = pass.expired;
-    let old = x.limit;
-    if !preserves(mode) {
-        return false;
-    }
-    if count == 0 {
-        return false;
-    }
-    if live != count {
-        return false;
-    }
-    if expired != 0 {
-        return false;
-    }
-    old == limit
+    preserves(mode)
+        && count != 0
+        && x.pass.live_total == count
+        && x.pass.expired == 0
+        && x.limit == limit
 }
 
 // Whether a key is unknown and stays so.
 fn vain(series: bool, count: u64) -> bool
     ensures { result ≡ vain series count }
 {
-    if series {
-        return false;
-    }
-    count == 0
+    !series && count == 0
 }
 
 // Whether nothing changes.
@@ -65,25 +47,16 @@ pub fn idle(
 ) -> bool
     ensures { result ≡ idle_at x limit comparator count mode }
 {
-    let series = x.series;
-    let pass = x.pass;
-    if !comparator.matches(pass.live_total) {
-        return true;
-    }
-    if vain(series, count) {
-        return true;
-    }
-    already(x, limit, count, mode)
+    !comparator.matches(x.pass.live_total)
+        || vain(x.series, count)
+        || already(x, limit, count, mode)
 }
 
 // The total after: the live one where nothing changes.
 fn total_after(still: bool, live: u64, count: u64) -> u64
     ensures { result ≡ total_after still live count }
 {
-    if still {
-        return live;
-    }
-    count
+    if still { live } else { count }
 }
 
 pub fn outcome(
@@ -156,27 +129,26 @@ pub fn setting(x: Slot, still: bool, limit: u64, count: u64, mode: HistoryUpdate
     stored(x, limit, count, mode)
 }
 
-pub fn set_refusal(rate: RateLimit, count: u64, none: bool) -> u64
-    ensures { result ≡ first (set_own rate count none) }
+// Turned away with the first of 8, 10 and 11: `none` says whether a slot is lacking.
+#[tactic(auto, unfolding(common::specs::Refusals::first, crate::specs::Sets::set_own))]
+pub fn check_set(rate: RateLimit, count: u64, none: bool) -> Result<(), Refusal>
+    ensures { result ≡ ruled (first (set_own rate count none)) }
 {
     if !rate.is_in_range() {
-        return 8;
+        return Err(Refusal::BAD_RATE);
     }
     if count > layout::MOST_TOTAL {
-        return 10;
+        return Err(Refusal::TOTAL_TOO_LARGE);
     }
     if none {
-        return 11;
+        return Err(Refusal::NO_FREE_SLOT);
     }
-    0
+    Ok(())
 }
 
 // A slot is lacking only where something changes.
 pub fn lacks_unless(still: bool, lacks: bool) -> bool
     ensures { result ≡ (not still && lacks) }
 {
-    if still {
-        return false;
-    }
-    lacks
+    !still && lacks
 }

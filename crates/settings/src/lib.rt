@@ -3,12 +3,12 @@
 
 ghost use Rattle.std.specs.Prelude.{◌≡◌, ◌≤◌};
 ghost use Rattle.common.specs.Ranges.{factor_ok};
-ghost use Rattle.common.specs.Refusals.{first};
+ghost use Rattle.common.specs.Refusals.{first, ruled};
 ghost use Rattle.settings.specs.Clock.{ticks_of, longest, window_ticks, look_ticks, join_ticks, cache_ticks, second_ticks};
 ghost use Rattle.settings.specs.Settings.{window_in, bucket_in, cache_in, defaults, with_window, with_bucket, with_factor, with_cache, with_clock};
-ghost use Rattle.settings.specs.Settings.{outside, faults};
+ghost use Rattle.settings.specs.Settings.{faults};
 
-use common::{BucketSize, SuppressionFactorCachePeriod, WindowSize, is_real_from};
+use common::{BucketSize, Period, Refusal, SuppressionFactorCachePeriod, WindowSize, is_real_from};
 
 const LEAST_FACTOR: f64 = 1.0;
 
@@ -17,7 +17,7 @@ const DEFAULT_FACTOR: f64 = 1.0;
 pub const MILLISECONDS_PER_SECOND: u64 = 1000;
 
 // The ticks that readings, bucket times and cache times are in.
-#[derive(Clone, Copy)]
+#[derive(Clone, Copy, Debug, PartialEq, Eq, Hash)]
 pub enum ClockMode {
     Milliseconds,
     Nanoseconds,
@@ -44,7 +44,7 @@ impl ClockMode {
     }
 }
 
-#[derive(Clone, Copy)]
+#[derive(Clone, Copy, Debug, PartialEq)]
 pub struct Settings {
     pub window_size: WindowSize,
     pub bucket_size: BucketSize,
@@ -60,29 +60,10 @@ pub fn is_hard_limit_factor(x: f64) -> bool
     is_real_from(LEAST_FACTOR, x)
 }
 
-// The number of the first value that is not in range, or 0.
-fn first_fault(window: bool, bucket: bool, period: bool, factor: bool) -> u64
-    ensures { result ≡ first (outside window bucket period factor) }
-{
-    if !window {
-        return 1;
-    }
-    if !bucket {
-        return 2;
-    }
-    if !period {
-        return 3;
-    }
-    if !factor {
-        return 4;
-    }
-    0
-}
+impl Default for Settings {
+    ghost is_default = { λ s. s ≡ defaults };
 
-impl Settings {
-    pub fn default() -> Self
-        ensures { result ≡ defaults }
-    {
+    fn default() -> Self {
         Settings {
             window_size: WindowSize::default(),
             bucket_size: BucketSize::default(),
@@ -91,7 +72,9 @@ impl Settings {
             clock_mode: ClockMode::Milliseconds,
         }
     }
+}
 
+impl Settings {
     pub fn window_size(mut self, value: WindowSize) -> Self
         ensures { result ≡ with_window self value }
     {
@@ -120,20 +103,11 @@ impl Settings {
         self
     }
 
-    // Written out: a field that is an enum is not written in place (docs/DECISIONS.md, forms).
-    pub fn clock_mode(self, value: ClockMode) -> Self
+    pub fn clock_mode(mut self, value: ClockMode) -> Self
         ensures { result ≡ with_clock self value }
     {
-        let window_size = self.window_size;
-        let bucket_size = self.bucket_size;
-        let suppression_factor_cache_period = self.suppression_factor_cache_period;
-        Settings {
-            window_size,
-            bucket_size,
-            hard_limit_factor: self.hard_limit_factor,
-            suppression_factor_cache_period,
-            clock_mode: value,
-        }
+        self.clock_mode = value;
+        self
     }
 
     // The window: an older bucket is expired.
@@ -184,19 +158,23 @@ impl Settings {
         clock.longest(MILLISECONDS_PER_SECOND)
     }
 
-    // The first of 1 to 4 that applies, or 0.
-    pub fn refusal(self) -> u64
-        ensures { result ≡ first (faults self) }
+    // Turned away with the first of 1 to 4 that applies.
+    #[tactic(auto, unfolding(common::specs::Refusals::first, crate::specs::Settings::faults))]
+    pub fn check(self) -> Result<(), Refusal>
+        ensures { result ≡ ruled (first (faults self)) }
     {
-        let window = self.window_size;
-        let bucket = self.bucket_size;
-        let period = self.suppression_factor_cache_period;
-        let factor = self.hard_limit_factor;
-        first_fault(
-            window.is_in_range(),
-            bucket.is_in_range(),
-            period.is_in_range(),
-            is_hard_limit_factor(factor),
-        )
+        if !self.window_size.is_in_range() {
+            return Err(Refusal::BAD_WINDOW);
+        }
+        if !self.bucket_size.is_in_range() {
+            return Err(Refusal::BAD_BUCKET);
+        }
+        if !self.suppression_factor_cache_period.is_in_range() {
+            return Err(Refusal::BAD_CACHE);
+        }
+        if !is_hard_limit_factor(self.hard_limit_factor) {
+            return Err(Refusal::BAD_FACTOR);
+        }
+        Ok(())
     }
 }

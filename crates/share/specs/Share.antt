@@ -1,11 +1,9 @@
 -- floor(a * b / c), saturating: the declined count that a cut bucket keeps, without a product of 128 bits.
 -- Assumes nothing.
-use Rattle.std.specs.Prelude.{◌≡◌, ℕ, ◌+◌, ◌-◌, ◌*◌, ◌/◌, ◌%◌, ◌^◌, ◌≤◌, ◌<◌, min}
+use Rattle.std.specs.Prelude.{◌≡◌, ℕ, ◌+◌, ◌-◌, ◌*◌, ◌/◌, ◌%◌, ◌^◌, ◌≤◌, ◌<◌, min, Option, Some, None}
 use Rattle.std.proofs.Common.{sym, ap, ◌∙◌, subst, add-mul, mul-add, mul_assoc, mul-one, one-mul, zero-mul, mul-zero, mul-le-mul_right, mul-le-mul_left, le_trans, div-le_self, div-add-mod', le-div_iff_mul-le, arith}
 use Rattle.std.proofs.Math.Nat.{div-zero, div-eq_of_lt-le}
 use Rattle.share.specs.declared.Share.{Share}
-use Rattle.share.specs.declared.ShareAnswer.{ShareAnswer}
-use Rattle.share.specs.declared.ShareAnswer.TheVariants.{Fits, Over}
 
 unfoldable pub mul_div : ℕ → ℕ → ℕ → ℕ
 mul_div a b c = min (a * b / c) (2 ^ 64 - 1)
@@ -20,18 +18,18 @@ pub record Holds (c n : ℕ) (s : Share) : Type 0 where
   pub exact : value c s ≡ n
 
 -- the answer for the number n: n itself, or that its whole is more than a word holds
-abbrev pub Comes : ℕ → ℕ → ShareAnswer → Type 0
-Comes c n (Fits s) = Holds c n s
-Comes c n Over = 2 ^ 64 * c ≤ n
+abbrev pub Comes : ℕ → ℕ → Option Share → Type 0
+Comes c n (Some s) = Holds c n s
+Comes c n None = 2 ^ 64 * c ≤ n
 
 pub record Carry (a b k p : ℕ) (s : Share) : Type 0 where
   pub whole_is : s.whole ≡ a + b + k
   pub part-is : s.part ≡ p
 
 -- the answer for the whole a + b + k beside the part p
-abbrev pub Carried : ℕ → ℕ → ℕ → ℕ → ShareAnswer → Type 0
-Carried a b k p (Fits s) = Carry a b k p s
-Carried a b k p Over = 2 ^ 64 ≤ a + b + k
+abbrev pub Carried : ℕ → ℕ → ℕ → ℕ → Option Share → Type 0
+Carried a b k p (Some s) = Carry a b k p s
+Carried a b k p None = 2 ^ 64 ≤ a + b + k
 
 pub record Parts (c : ℕ) (x y : Share) : Type 0 where
   pub first : x.part < c
@@ -47,10 +45,10 @@ pub record Twice (c n : ℕ) (unit even : Share) : Type 0 where
   pub even-holds : Holds c (value c unit * (n / 2) + value c unit * (n / 2)) even
 
 -- an answer's case, from the enum's
-pub comes-fits : (c n : ℕ) (r : ShareAnswer) (s : Share) → r ≡ Fits s → Comes c n r → Holds c n s
+pub comes-fits : (c n : ℕ) (r : Option Share) (s : Share) → r ≡ Some s → Comes c n r → Holds c n s
 comes-fits c n r s e o = rw e at o
 
-pub comes-over : (c n : ℕ) (r : ShareAnswer) → r ≡ Over → Comes c n r → 2 ^ 64 * c ≤ n
+pub comes-over : (c n : ℕ) (r : Option Share) → r ≡ None → Comes c n r → 2 ^ 64 * c ≤ n
 comes-over c n r e o = rw e at o
 
 -- ---- sums
@@ -58,19 +56,19 @@ comes-over c n r e o = rw e at o
 wholes : (a b k c : ℕ) → (a + b + k) * c ≡ a * c + b * c + k * c
 wholes a b k c = add-mul (a + b) k c ∙ ap (λ (z : ℕ). z + k * c) (add-mul a b c)
 
-pub carried-comes : (c n a b k p : ℕ) (r : ShareAnswer) → p < c → (a + b + k) * c + p ≡ n → Carried a b k p r → Comes c n r
-carried-comes c n a b k p (Fits s) h e o = record { below = rw o.part-is h; exact = rw (o.whole_is, o.part-is) e }
-carried-comes c n a b k p Over h e o = let q : 2 ^ 64 * c ≤ (a + b + k) * c = mul-le-mul_right c o in omega arith
+pub carried-comes : (c n a b k p : ℕ) (r : Option Share) → p < c → (a + b + k) * c + p ≡ n → Carried a b k p r → Comes c n r
+carried-comes c n a b k p (Some s) h e o = record { below = rw o.part-is h; exact = rw (o.whole_is, o.part-is) e }
+carried-comes c n a b k p None h e o = let q : 2 ^ 64 * c ≤ (a + b + k) * c = mul-le-mul_right c o in omega arith
 
 -- without a carry, and with one
-pub sum_below : (c : ℕ) (x y : Share) (r : ShareAnswer) → x.part < c - y.part → Carried x.whole y.whole 0 (x.part + y.part) r →
+pub sum_below : (c : ℕ) (x y : Share) (r : Option Share) → x.part < c - y.part → Carried x.whole y.whole 0 (x.part + y.part) r →
     Comes c (value c x + value c y) r
 sum_below c x y r h o =
     let e = wholes x.whole y.whole 0 c in
     let z = zero-mul c in
     carried-comes c _ x.whole y.whole 0 (x.part + y.part) r (omega arith) (omega arith) o
 
-pub sum-carried : (c : ℕ) (x y : Share) (r : ShareAnswer) → Parts c x y → c - y.part ≤ x.part →
+pub sum-carried : (c : ℕ) (x y : Share) (r : Option Share) → Parts c x y → c - y.part ≤ x.part →
     Carried x.whole y.whole 1 (x.part - (c - y.part)) r → Comes c (value c x + value c y) r
 sum-carried c x y r q h o =
     let e = wholes x.whole y.whole 1 c in
@@ -123,7 +121,7 @@ double-holds c n unit half even h d = record {
 pub even-comes : (c n : ℕ) (unit even : Share) → Twice c n unit even → n % 2 ≡ 0 → Holds c (value c unit * n) even
 even-comes c n unit even d e = record { below = d.even-holds.below; exact = d.even-holds.exact ∙ even-product (value c unit) n e }
 
-pub odd-comes : (c n : ℕ) (unit even : Share) (r : ShareAnswer) → Twice c n unit even → (n % 2 ≡ 0 → ⊥) → Comes c (value c even + value c unit) r →
+pub odd-comes : (c n : ℕ) (unit even : Share) (r : Option Share) → Twice c n unit even → (n % 2 ≡ 0 → ⊥) → Comes c (value c even + value c unit) r →
     Comes c (value c unit * n) r
 odd-comes c n unit even r d e o =
     let v = value c unit in
@@ -132,7 +130,7 @@ odd-comes c n unit even r d e o =
 -- ---- the quotient
 
 -- a itself is the unit
-pub unit-comes : (a b c : ℕ) (r : ShareAnswer) → Comes c ((a / c * c + a % c) * b) r → Comes c (a * b) r
+pub unit-comes : (a b c : ℕ) (r : Option Share) → Comes c ((a / c * c + a % c) * b) r → Comes c (a * b) r
 unit-comes a b c r o = subst (λ (z : ℕ). Comes c (z * b) r) (div-add-mod' a c) o
 
 pub nothing : (a b : ℕ) → 0 ≡ mul_div a b 0

@@ -5,41 +5,23 @@
 ghost use Rattle.std.specs.Prelude.{◌≡◌, ◌*◌, ◌+◌, ◌<◌};
 ghost use Rattle.share.specs.Share.{mul_div, value, Comes, Carried, Parts, Halved, Twice};
 
-const MOST: u64 = 18_446_744_073_709_551_615;
-
 // The number whole * c + part.
-#[derive(Clone, Copy)]
+#[derive(Clone, Copy, Debug, PartialEq, Eq, Hash)]
 pub struct Share {
     pub whole: u64,
     pub part: u64,
 }
 
-// A number that should be held, or the news that its whole passes a word.
-#[derive(Clone, Copy)]
-pub enum ShareAnswer {
-    Fits(Share),
-    Over,
-}
-
 // a + b + carry beside a part, where a word holds it.
-fn carried(a: u64, b: u64, carry: u64, part: u64) -> ShareAnswer
+fn carried(a: u64, b: u64, carry: u64, part: u64) -> Option<Share>
     ensures { Carried a b carry part result }
 {
-    if a > MOST - b {
-        return ShareAnswer::Over;
-    }
-    let whole = a + b;
-    if whole > MOST - carry {
-        return ShareAnswer::Over;
-    }
-    ShareAnswer::Fits(Share {
-        whole: whole + carry,
-        part,
-    })
+    let whole = a.checked_add(b)?.checked_add(carry)?;
+    Some(Share { whole, part })
 }
 
 // x + y: the parts make a whole where the second does not fit above the first.
-fn add(x: Share, y: Share, c: u64) -> ShareAnswer
+fn add(x: Share, y: Share, c: u64) -> Option<Share>
     requires { Parts c x y }
     ensures { Comes c (value c x + value c y) result }
 {
@@ -53,39 +35,33 @@ fn add(x: Share, y: Share, c: u64) -> ShareAnswer
 }
 
 // The unit taken n times, from twice the half of n: where n is odd, one more.
-fn topped(even: Share, unit: Share, n: u64, c: u64) -> ShareAnswer
+fn topped(even: Share, unit: Share, n: u64, c: u64) -> Option<Share>
     requires { Twice c n unit even }
     ensures { Comes c (value c unit * n) result }
 {
     if n % 2 == 0 {
-        return ShareAnswer::Fits(even);
+        return Some(even);
     }
     add(even, unit, c)
 }
 
 // The unit taken n times, from half as many.
-fn doubled(half: Share, unit: Share, n: u64, c: u64) -> ShareAnswer
+fn doubled(half: Share, unit: Share, n: u64, c: u64) -> Option<Share>
     requires { Halved c n unit half }
     ensures { Comes c (value c unit * n) result }
 {
-    let ShareAnswer::Fits(even) = add(half, half, c) else {
-        return ShareAnswer::Over;
-    };
-    topped(even, unit, n, c)
+    topped(add(half, half, c)?, unit, n, c)
 }
 
 // The unit taken n times.
-fn times(unit: Share, n: u64, c: u64) -> ShareAnswer
+fn times(unit: Share, n: u64, c: u64) -> Option<Share>
     requires { unit.part < c }
     ensures { Comes c (value c unit * n) result }
 {
     if n == 0 {
-        return ShareAnswer::Fits(Share { whole: 0, part: 0 });
+        return Some(Share { whole: 0, part: 0 });
     }
-    let ShareAnswer::Fits(half) = times(unit, n / 2, c) else {
-        return ShareAnswer::Over;
-    };
-    doubled(half, unit, n, c)
+    doubled(times(unit, n / 2, c)?, unit, n, c)
 }
 
 // floor(a * b / c), at most the largest word; 0 where c is 0.
@@ -100,7 +76,7 @@ pub fn mul_div(a: u64, b: u64, c: u64) -> u64
         part: a % c,
     };
     match times(unit, b, c) {
-        ShareAnswer::Fits(share) => share.whole,
-        ShareAnswer::Over => MOST,
+        Some(share) => share.whole,
+        None => u64::MAX,
     }
 }

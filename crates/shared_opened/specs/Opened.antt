@@ -1,15 +1,11 @@
 -- The decisions of the calls that both limiters have, as the code makes them on the key's slot x that is opened: delete and setting a
 -- rate. They are the rules' (`calls/specs/Seen.antt`), and no contract of a call names them but for the edits.
 -- Assumes nothing.
-use Rattle.std.specs.Prelude.{◌≡◌, Bool, true, cond, ℕ, ◌-◌, eqb}
+use Rattle.std.specs.Prelude.{◌≡◌, Bool, true, cond, ℕ, ◌-◌, eqb, Option, Some, None}
 use Rattle.std.proofs.Common.{sym, ap}
 use Rattle.common.specs.Limits.{rate_back}
 use Rattle.settings.specs.Settings.{window_in, factor_in}
 use Rattle.settings.specs.declared.Settings.{Settings}
-use Rattle.answers.specs.declared.DeleteAnswer.{DeleteAnswer}
-use Rattle.answers.specs.declared.DeleteAnswer.TheVariants as answer
-use Rattle.answers.specs.declared.OldRateAnswer.{OldRateAnswer}
-use Rattle.answers.specs.declared.OldRateAnswer.TheVariants as old
 use Rattle.rules.specs.declared.RoomKind.{RoomKind}
 use Rattle.rules.specs.Both.{divisor}
 use Rattle.edit.specs.declared.Then.TheVariants as then
@@ -18,20 +14,21 @@ use Rattle.change.specs.declared.Change.TheVariants.{Keep, Free, Update}
 use Rattle.opened.specs.declared.Slot.{Slot}
 use Rattle.opened.specs.Slot.{has_slot}
 use Rattle.plan.specs.Plan.{keeping, relimited}
+use Rattle.common.specs.declared.units.RateLimit.{RateLimit}
 
 -- ---- delete
 
-unfoldable pub deleted_at : Slot → DeleteAnswer
+unfoldable pub deleted_at : Slot → Option ℕ
 deleted_at x =
-    cond x.series (answer.Deleted (x.pass.live_total - x.pass.live_declined)) (cond x.cached (answer.Deleted 0) answer.Unknown)
+    cond x.series (Some (x.pass.live_total - x.pass.live_declined)) (cond x.cached (Some 0) None)
 
 unfoldable pub deleting : Slot → Change
 deleting x = cond (has_slot x) Free Keep
 
 -- ---- setting a rate
 
-unfoldable pub old_rate_at : RoomKind → Settings → Slot → OldRateAnswer
-old_rate_at kind s x = cond x.series (old.Was (record { 0 = rate_back (window_in s) (divisor kind (factor_in s)) x.limit })) old.Unknown
+unfoldable pub old_rate_at : RoomKind → Settings → Slot → Option RateLimit
+old_rate_at kind s x = cond x.series (Some (record { 0 = rate_back (window_in s) (divisor kind (factor_in s)) x.limit })) None
 
 -- the cached factor goes: of both, the series stays
 abbrev pub forgotten : ℕ → ℕ

@@ -3,32 +3,31 @@
 #![tactic(auto)]
 
 ghost use Rattle.std.specs.Prelude.{◌≡◌};
-ghost use Rattle.common.specs.Refusals.{first};
+ghost use Rattle.common.specs.Refusals.{first, ruled};
 ghost use Rattle.rules.specs.Both.{limit_in};
 ghost use Rattle.rules.specs.Sets.{rate_turns};
 ghost use Rattle.shared_opened.specs.Opened.{deleted_at, deleting, old_rate_at, used_with, limiting};
 
-use answers::{DeleteAnswer, OldRateAnswer};
 use change::Change;
-use common::RateLimit;
+use common::{RateLimit, Refusal};
 use edit::Then;
 use opened::Slot;
 use rules::RoomKind;
 use settings::Settings;
 
-pub fn deleted(x: Slot) -> DeleteAnswer
+pub fn deleted(x: Slot) -> Option<u64>
     ensures { result ≡ deleted_at x }
 {
     let series = x.series;
     let cached = x.cached;
     let pass = x.pass;
     if series {
-        return DeleteAnswer::Deleted(ring::less(pass.live_total, pass.live_declined));
+        return Some(ring::less(pass.live_total, pass.live_declined));
     }
     if cached {
-        return DeleteAnswer::Deleted(0);
+        return Some(0);
     }
-    DeleteAnswer::Unknown
+    None
 }
 
 pub fn deleting(x: Slot) -> Change
@@ -52,7 +51,7 @@ pub fn limit_of(kind: RoomKind, settings: Settings, rate: RateLimit) -> u64
     }
 }
 
-pub fn old_rate(kind: RoomKind, settings: Settings, x: Slot) -> OldRateAnswer
+pub fn old_rate(kind: RoomKind, settings: Settings, x: Slot) -> Option<RateLimit>
     ensures { result ≡ old_rate_at kind settings x }
 {
     let series = x.series;
@@ -64,9 +63,9 @@ pub fn old_rate(kind: RoomKind, settings: Settings, x: Slot) -> OldRateAnswer
             window,
             opened::divisor(kind, factor),
         );
-        return OldRateAnswer::Was(rate);
+        return Some(rate);
     }
-    OldRateAnswer::Unknown
+    None
 }
 
 // The use after a limit is stored: a new one forgets the cached factor.
@@ -95,11 +94,12 @@ pub fn limiting(x: Slot, limit: u64) -> Change
     Change::Keep
 }
 
-pub fn rate_refusal(rate: RateLimit) -> u64
-    ensures { result ≡ first (rate_turns rate) }
+#[tactic(auto, unfolding(common::specs::Refusals::first, rules::specs::Sets::rate_turns))]
+pub fn check_rate(rate: RateLimit) -> Result<(), Refusal>
+    ensures { result ≡ ruled (first (rate_turns rate)) }
 {
     if !rate.is_in_range() {
-        return 8;
+        return Err(Refusal::BAD_RATE);
     }
-    0
+    Ok(())
 }

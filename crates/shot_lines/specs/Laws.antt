@@ -1,6 +1,6 @@
 -- Reading and showing a shot line undo each other: a line is read exactly where values in range show as it, and as these values.
 -- Assumes nothing.
-use Rattle.std.specs.Prelude.{◌≡◌, refl, false, List, ◌++◌, ℕ, ◌+◌, ◌≤◌, ◌<◌, length, drop}
+use Rattle.std.specs.Prelude.{◌≡◌, refl, false, List, ◌++◌, ℕ, ◌+◌, ◌≤◌, ◌<◌, Option, Some, None, length, drop}
 use Rattle.std.proofs.Common.{ap, ◌∙◌, arith, length-append}
 use Rattle.fields.specs.Numbers.{show_number, show-short}
 use Rattle.fields.specs.Parts.{field_at}
@@ -9,10 +9,9 @@ use Rattle.lines.specs.Laws.{key_in, show_numbers, NumbersFit, ReadTail, tail-re
 use Rattle.lines.specs.ReadLaws.{Field, each_number, each_tail, each-test, field-shown, field-read, past-field}
 use Rattle.lines.specs.Reading.{tail_at, is_exact}
 use Rattle.lines.specs.Shown.{t_text, rate_text, draw_text}
-use Rattle.shot_lines.specs.Reading.{read_shot}
+use Rattle.shot_lines.specs.Reading.{shot_line, read_shot}
 use Rattle.shot_lines.specs.Shown.{controller_text, shot_text, show_shot, ShotFits, key_start}
 use Rattle.shot_lines.specs.declared.ShotLine.{ShotLine}
-use Rattle.shot_lines.specs.declared.ShotLine.TheVariants.{Shot, Bad}
 
 pub record ReadShot (line : List ℕ) (t start end number rate draw : ℕ) : Type 0 where
   pub fits : ShotFits t (key_in line start end) number rate draw
@@ -21,9 +20,9 @@ pub record ReadShot (line : List ℕ) (t start end number rate draw : ℕ) : Typ
   pub shows : line ≡ show_shot t (key_in line start end) number rate draw
 
 -- what is found in a shot line
-abbrev pub ShotRead : List ℕ → ShotLine → Type 0
-ShotRead line (Shot t start end number rate draw) = ReadShot line t start end number rate draw
-ShotRead line Bad = Unit {0}
+abbrev pub ShotRead : List ℕ → Option ShotLine → Type 0
+ShotRead line (Some l) = ReadShot line l.t l.start l.end l.number l.rate l.draw
+ShotRead line None = Unit {0}
 
 shot-joined : (line : List ℕ) (t start end number rate draw a : ℕ) → Field line 0 t_text t a →
     ReadTail line a controller_text shot_text rate_text draw_text start end number rate draw → rate ≤ exact_largest →
@@ -41,17 +40,17 @@ shot-joined line t start end number rate draw a p x h =
 pub shot-read : (line : List ℕ) → ShotRead line (read_shot line)
 unfolding read_shot
 shot-read line =
-    each_number (ShotRead line) (field_at line 0 t_text) Bad _ tt
+    each_number (ShotRead line) (field_at line 0 t_text) None _ tt
     (λ t a p.
-    each_tail (ShotRead line) (tail_at line a controller_text shot_text rate_text draw_text) Bad _ tt
+    each_tail (ShotRead line) (tail_at line a controller_text shot_text rate_text draw_text) None _ tt
     (λ start end number rate draw x.
-    each-test (ShotRead line) (is_exact rate) (Shot t start end number rate draw) Bad tt
+    each-test (ShotRead line) (is_exact rate) (Some (shot_line t start end number rate draw)) None tt
     (λ h.
     shot-joined line t start end number rate draw a (field-read line t_text 0 t a p)
     (tail-read line controller_text shot_text rate_text draw_text a start end number rate draw x) (exact-is rate h))))
 
 shot-line : (line : List ℕ) (t : ℕ) (key : List ℕ) (number rate draw : ℕ) → ShotFits t key number rate draw → line ≡ show_shot t key number rate draw →
-    read_shot line ≡ Shot t (key_start t) (key_start t + length key) number rate draw
+    read_shot line ≡ Some (shot_line t (key_start t) (key_start t + length key) number rate draw)
 unfolding read_shot show_shot
 shot-line line t key number rate draw f e =
     let q : List ℕ = key ++ show_numbers shot_text number rate_text rate draw_text draw in
@@ -66,16 +65,16 @@ shot-line line t key number rate draw f e =
       tail-shown line controller_text shot_text rate_text draw_text a key number rate draw refl refl refl f.keys m p,
       is-exact rate f.rates,
     )
-    (ap (λ (i : ℕ). Shot t i (i + length key) number rate draw) k)
+    (ap (λ (i : ℕ). Some (shot_line t i (i + length key) number rate draw)) k)
 
 -- a shot that is shown reads as this shot
 pub shot-shown : (t : ℕ) (key : List ℕ) (number rate draw : ℕ) → ShotFits t key number rate draw →
-    read_shot (show_shot t key number rate draw) ≡ Shot t (key_start t) (key_start t + length key) number rate draw
+    read_shot (show_shot t key number rate draw) ≡ Some (shot_line t (key_start t) (key_start t + length key) number rate draw)
 shot-shown t key number rate draw f = shot-line (show_shot t key number rate draw) t key number rate draw f refl
 
 -- every shot line is read
 pub shot-whole : (line : List ℕ) (t : ℕ) (key : List ℕ) (number rate draw : ℕ) → ShotFits t key number rate draw → line ≡ show_shot t key number rate draw →
-    read_shot line ≡ Bad → ⊥
+    read_shot line ≡ None → ⊥
 shot-whole line t key number rate draw f e b =
     let s = shot-shown t key number rate draw f in
     let z : ◌≡◌ {A = ℕ} 0 1 = cc in
@@ -99,12 +98,12 @@ shot-short t key number rate draw f =
       f.keys.short,
     ))
 
-pub shot-bad : (line : List ℕ) → longest_shot < length line → read_shot line ≡ Bad
+pub shot-bad : (line : List ℕ) → longest_shot < length line → read_shot line ≡ None
 shot-bad line h = go (read_shot line) (shot-read line)
   where
-    go : (c : ShotLine) → ShotRead line c → c ≡ Bad
-    go Bad p = refl
-    go (Shot t start end number rate draw) p =
+    go : (c : Option ShotLine) → ShotRead line c → c ≡ None
+    go None p = refl
+    go (Some l) p =
         let e = ap length p.shows in
-        let k = shot-short t (key_in line start end) number rate draw p.fits in
+        let k = shot-short l.t (key_in line l.start l.end) l.number l.rate l.draw p.fits in
         absurd (omega (arith, e, k))

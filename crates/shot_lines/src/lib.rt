@@ -4,48 +4,36 @@
 ghost use Rattle.std.specs.Prelude.{◌≡◌};
 ghost use Rattle.shot_lines.specs.Reading.{read_shot};
 
-use fields::{Number, field_at};
-use lines::{Tail, is_exact, tail_at};
+use fields::field_at;
+use lines::{is_exact, tail_at};
 
 // A shot line: `t=0 ctl=a shot=17 rate=60 draw=0`. The controller's key is the part of the line from `start` up to `end`.
 #[derive(Clone, Copy)]
-pub enum ShotLine {
-    Shot {
-        t: u64,
-        start: usize,
-        end: usize,
-        number: u64,
-        rate: u64,
-        draw: u64,
-    },
-    Bad,
+pub struct ShotLine {
+    pub t: u64,
+    pub start: usize,
+    pub end: usize,
+    pub number: u64,
+    pub rate: u64,
+    pub draw: u64,
 }
 
-pub fn read_shot(line: &[u8]) -> ShotLine
+#[tactic(auto, unfolding(crate::specs::Reading::read_shot))]
+pub fn read_shot(line: &[u8]) -> Option<ShotLine>
     ensures { result ≡ read_shot line.now }
 {
-    let Number::Found { value: t, next: a } = field_at(line, 0, b"t=") else {
-        return ShotLine::Bad;
-    };
-    let Tail::Keyed {
-        start,
-        end,
-        first: number,
-        second: rate,
-        third: draw,
-    } = tail_at(line, a, b" ctl=", b" shot=", b" rate=", b" draw=")
-    else {
-        return ShotLine::Bad;
-    };
+    let (t, a) = field_at(line, 0, b"t=")?;
+    let tail = tail_at(line, a, b" ctl=", b" shot=", b" rate=", b" draw=")?;
+    let (number, rate, draw) = tail.numbers;
     if !is_exact(rate) {
-        return ShotLine::Bad;
+        return None;
     }
-    ShotLine::Shot {
+    Some(ShotLine {
         t,
-        start,
-        end,
+        start: tail.start,
+        end: tail.end,
         number,
         rate,
         draw,
-    }
+    })
 }

@@ -13,28 +13,35 @@ fn run(rt: &HostRuntime, name: &str) -> io::Result<()> {
     Ok(())
 }
 
+const INPUTS: [&str; 23] = [
+    "empty",
+    "settings-alone",
+    "settings-bad",
+    "settings-1",
+    "bad-lines",
+    "long-lines",
+    "numbers",
+    "lower",
+    "sixty-five",
+    "no-slot-free",
+    "full-ring",
+    "thirty-seconds",
+    "held",
+    "long-after",
+    "turned-away",
+    "two-controllers",
+    "clock-back",
+    "refusals",
+    "no-last-newline",
+    "lesson-4",
+    "lesson-4-question-1",
+    "lesson-4-question-2",
+    "lesson-4-question-3",
+];
+
 fn main(rt: HostRuntime) -> io::Result<()> {
-    run(&rt, "empty")?;
-    run(&rt, "settings-alone")?;
-    run(&rt, "settings-bad")?;
-    run(&rt, "settings-1")?;
-    run(&rt, "bad-lines")?;
-    run(&rt, "long-lines")?;
-    run(&rt, "numbers")?;
-    run(&rt, "lower")?;
-    run(&rt, "sixty-five")?;
-    run(&rt, "no-slot-free")?;
-    run(&rt, "full-ring")?;
-    run(&rt, "thirty-seconds")?;
-    run(&rt, "held")?;
-    run(&rt, "long-after")?;
-    run(&rt, "turned-away")?;
-    run(&rt, "two-controllers")?;
-    run(&rt, "clock-back")?;
-    run(&rt, "refusals")?;
-    run(&rt, "no-last-newline")?;
-    run(&rt, "lesson-4")?;
-    run(&rt, "lesson-4-question-1")?;
-    run(&rt, "lesson-4-question-2")?;
-    run(&rt, "lesson-4-question-3")
+    for name in &INPUTS {
+        run(&rt, name)?;
+    }
+    Ok(())
 }

@@ -10,17 +10,15 @@ use settings::Settings;
 use shot_lines::ShotLine;
 use told::bad_line;
 
+// `key` is the part of the line that names the controller.
 fn take(
     settings: Settings,
     table: &mut [u64],
     room: &mut [u64],
-    t: u64,
+    l: ShotLine,
     key: &[u8],
-    number: u64,
-    rate: u64,
-    draw: u64,
 ) -> AnswerLine
-    ensures { Answered (shot_of settings table.old room.old t key.now number rate draw) result table.new
+    ensures { Answered (shot_of settings table.old room.old l.t key.now l.number l.rate l.draw) result table.new
         room.new }
 {
     let caller = alone(room);
@@ -28,39 +26,22 @@ fn take(
         settings,
         table,
         room,
-        t,
+        l.t,
         caller,
         key,
-        number,
-        per_minute(rate),
-        draw,
+        l.number,
+        per_minute(l.rate),
+        l.draw,
     );
-    shot_line(t, a, stored_of(room, key))
+    shot_line(l.t, a, stored_of(room, key))
 }
 
 // A shot line: the line to print, and table and room after it. A bad one leaves both.
 pub fn step(settings: Settings, table: &mut [u64], room: &mut [u64], line: &[u8]) -> AnswerLine
     ensures { Answered (stepped settings table.old room.old line.now) result table.new room.new }
 {
-    let ShotLine::Shot {
-        t,
-        start,
-        end,
-        number,
-        rate,
-        draw,
-    } = shot_lines::read_shot(line)
-    else {
+    let Some(l) = shot_lines::read_shot(line) else {
         return bad_line();
     };
-    take(
-        settings,
-        table,
-        room,
-        t,
-        &line[start..end],
-        number,
-        rate,
-        draw,
-    )
+    take(settings, table, room, l, &line[l.start..l.end])
 }

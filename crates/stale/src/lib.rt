@@ -12,7 +12,7 @@ fn milliseconds(reading: u64, time: u64, ticks: u64) -> u64
     requires { 1 ≤ ticks }
     ensures { result ≡ age_in_milliseconds ticks reading time }
 {
-    ring::less(reading, time) / ticks
+    reading.saturating_sub(time) / ticks
 }
 
 // What a series adds to the use afterwards: only its newest bucket is read.
@@ -25,11 +25,11 @@ fn series_use(b: &[u64], r: usize, reading: u64, ticks: u64, stale: u64) -> u64
         return 0;
     }
     let newest = ring::nth_or_none(b, r, n - 1);
-    let time = newest.time;
-    if stale < milliseconds(reading, time, ticks) {
-        return 0;
+    if stale < milliseconds(reading, newest.time, ticks) {
+        0
+    } else {
+        layout::SERIES
     }
-    layout::SERIES
 }
 
 // What a cached factor adds.
@@ -38,9 +38,10 @@ fn factor_use(time: u64, reading: u64, ticks: u64, stale: u64) -> u64
     ensures { result ≡ factor_use time reading ticks stale }
 {
     if milliseconds(reading, time, ticks) < stale {
-        return layout::CACHED;
+        layout::CACHED
+    } else {
+        0
     }
-    0
 }
 
 // The use afterwards of a slot of use `u`.
@@ -86,11 +87,9 @@ fn sweep(w: &mut [u64], reading: u64, ticks: u64, stale: u64)
     ensures { w.new ≡ swept w.old reading ticks stale (slots_of w.old) }
 {
     let n = w[layout::SLOTS] as usize;
-    let mut at = 0;
-    while at < n {
+    for at in 0..n {
         let u = use_next(w, at, reading, ticks, stale);
         settle(w, at, u);
-        at += 1;
     }
 }
 

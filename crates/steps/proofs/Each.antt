@@ -9,18 +9,13 @@ use Rattle.std.proofs.Math.Decide.{ℕ_discrete}
 use Rattle.std.proofs.Math.Dec.{eqb}
 use Rattle.std.proofs.lemmas.Bool.{not-false}
 use Rattle.common.specs.Ranges.{rate_ok}
-use Rattle.common.specs.Refusals.{first, all-false}
+use Rattle.common.specs.Refusals.{first, all-false, refuse}
 use Rattle.settings.specs.Clock.{ticks_in, window_ticks}
 use Rattle.common.specs.declared.comparator.RateLimitComparator.{RateLimitComparator}
 use Rattle.answers.specs.declared.HistoryUpdateMode.{HistoryUpdateMode}
 use Rattle.settings.specs.declared.Settings.{Settings}
 use Rattle.common.specs.declared.units.RateLimit.{RateLimit}
-use Rattle.answers.specs.declared.DeleteAnswer.TheVariants as deletes
-use Rattle.answers.specs.declared.FactorAnswer.TheVariants as factors
-use Rattle.answers.specs.declared.OldRateAnswer.TheVariants as rates
 use Rattle.answers.specs.declared.RateLimitDecision.TheVariants as decisions
-use Rattle.answers.specs.declared.SnapshotAnswer.TheVariants as snapshots
-use Rattle.answers.specs.declared.TotalAnswer.TheVariants as totals
 use Rattle.layout.specs.Layout.{most_total}
 use Rattle.room.specs.Room.{slots_of, ring_of, with_reading, cleared as cleared_words}
 use Rattle.frame.specs.Keys.{Bytes}
@@ -45,7 +40,6 @@ use Rattle.rules.specs.declared.Asked.{Asked}
 use Rattle.rules.specs.declared.Outcome.{Outcome}
 use Rattle.suppressed_edits.specs.Edits.{get_change, factor_change, inc_change}
 use Rattle.suppressed_refusals.specs.Refusals.{inc_late}
-use Rattle.answers.specs.declared.SetAnswer.TheVariants as answers
 use Rattle.rules.specs.Held.{Held, lacks_slot}
 use Rattle.rules.specs.Both.{limit_in, overdue_in}
 use Rattle.rules.specs.Absolute as absolute
@@ -148,7 +142,7 @@ module _ (s : Settings) (w : List ℕ) (t : ℕ) (key : Sent) where
 
   get-step : Step kind.Absolute s w t (get key) (OnAbsolute.get s w t key).words
   unfolding OnAbsolute.get
-  get-step = call_step totals.Refused kind.Absolute s w t (get key) key [] _ (λ e f. changed key refl x.at (edits.get_change x) (get-does e) refl)
+  get-step = call_step refuse kind.Absolute s w t (get key) key [] _ (λ e f. changed key refl x.at (edits.get_change x) (get-does e) refl)
 
   -- ---- suppressed
 
@@ -203,7 +197,7 @@ module _ (s : Settings) (w : List ℕ) (t : ℕ) (key : Sent) where
   snapshot-step : Step kind.Suppressed s w t (snapshot key) (OnSuppressed.get s w t key).words
   unfolding OnSuppressed.get
   snapshot-step =
-      call_step snapshots.Refused kind.Suppressed s w t (snapshot key) key [] _
+      call_step refuse kind.Suppressed s w t (snapshot key) key [] _
       (λ e f. changed key refl x.at (get_change x asks.caching) (snapshot-does e) refl)
 
   abbrev lacking : Bool
@@ -226,7 +220,7 @@ module _ (s : Settings) (w : List ℕ) (t : ℕ) (key : Sent) where
   factor-step : Bytes key.bytes → Step kind.Suppressed s w t (get_factor key) (OnSuppressed.get_factor s w t key).words
   unfolding OnSuppressed.get_factor
   factor-step by =
-      call_step factors.Refused kind.Suppressed s w t (get_factor key) key (rules.factor_turns (none_left w key.caller) h) _
+      call_step refuse kind.Suppressed s w t (get_factor key) key (rules.factor_turns (none_left w key.caller) h) _
       (λ e f. changed key refl (place_of w z) (factor_change z looks.caching t) (factor-does by e f) refl)
 
   module _ (rate : RateLimit) (c draw : ℕ) where
@@ -299,7 +293,7 @@ module _ (k : RoomKind) (s : Settings) (w : List ℕ) (t : ℕ) where
     rate-step : (rate : RateLimit) → Step k s w t (set_rate key rate) (Rate.set_rate_limit k s w t key rate).words
     unfolding Rate.set_rate_limit
     rate-step rate =
-        call_step rates.Refused k s w t (set_rate key rate) key (sets.rate_turns rate) _
+        call_step refuse k s w t (set_rate key rate) key (sets.rate_turns rate) _
         (λ e f. changed key refl slot.at (limiting slot (limit_in k s rate)) (rate-does rate e f) refl)
 
     pub delete-does : early k s w t key ≡ 0 → Does k s w t key slot.at (deleting slot)
@@ -310,7 +304,7 @@ module _ (k : RoomKind) (s : Settings) (w : List ℕ) (t : ℕ) where
     delete-step : Step k s w t (delete key) (Delete.delete k s w t key).words
     unfolding Delete.delete
     delete-step =
-        call_step deletes.Refused k s w t (delete key) key [] _ (λ e f. changed key refl slot.at (deleting slot) (delete-does e) refl)
+        call_step refuse k s w t (delete key) key [] _ (λ e f. changed key refl slot.at (deleting slot) (delete-does e) refl)
 
     module _ (rate : RateLimit) (comparator : RateLimitComparator) (count : ℕ) (mode : HistoryUpdateMode) where
       abbrev still : Bool
@@ -340,7 +334,7 @@ module _ (k : RoomKind) (s : Settings) (w : List ℕ) (t : ℕ) where
       set-step : Bytes key.bytes → Step k s w t (set key rate comparator count mode) (Set.set k s w t key rate comparator count mode).words
       unfolding Set.set
       set-step by =
-          call_step answers.Refused k s w t (set key rate comparator count mode) key own_set _
+          call_step refuse k s w t (set key rate comparator count mode) key own_set _
           (λ e f. changed key refl (place_of w slot) (setting slot still (limit_in k s rate) count mode) (set_does by e f) refl)
 
   clean_step : (who : Caller) (stale : ℕ) → Step k s w t (cleanup who stale) (Cleanup.cleanup k s w t who stale).words

@@ -1,6 +1,6 @@
 -- What each call with a key stores is right (`Stores`). x is the key's slot.
 -- Assumes nothing.
-use Rattle.std.specs.Prelude.{◌≡◌, Bool, ◌&&◌, cond, List, leb, eqb}
+use Rattle.std.specs.Prelude.{◌≡◌, Bool, ◌&&◌, cond, List, leb, eqb, Option, Some, None}
 use Rattle.std.proofs.Math.Path.{refl}
 use Rattle.std.proofs.Common.{sym, ap, ◌∙◌, arith, le-leb}
 use Rattle.std.proofs.Math.Bool.{true, false}
@@ -38,8 +38,6 @@ use Rattle.shared_opened.specs.Opened.{deleting, used_with, limiting}
 use Rattle.sets_opened.specs.Sets.{reset, stored, setting}
 use Rattle.calls.specs.Applies.{known-has}
 use Rattle.absolute_opened.specs.Opened as absolute
-use Rattle.rules.specs.declared.Caching.{Caching}
-use Rattle.rules.specs.declared.Caching.TheVariants.{Left, Cached}
 use Rattle.suppressed_edits.specs.Edits.{recached, get_change, lone_edit, lone_change, factor_change, inc_edit, inc_change}
 use Rattle.suppressed_verdicts.specs.Opened.{limit_at}
 use Rattle.leaves.specs.Calls.{series-right, limit-right}
@@ -47,6 +45,7 @@ use Rattle.leaves.specs.Suppressed as suppressed
 use Rattle.leaves.specs.Unit.{CachingOk}
 use Rattle.steps.specs.Moves.{Quiet, Right, Stores}
 use Rattle.steps.specs.Places.{set_to, inc_to}
+use Rattle.suppression.specs.declared.CachedFactor.{CachedFactor}
 
 -- a use with the cached factor forgotten, or not
 forgotten-right : (k : RoomKind) (u : ℕ) (y z : Bool) → right_use k u ≡ true → right_use k (cond y u (cond z 1 u)) ≡ true
@@ -225,7 +224,7 @@ module _ (s : Settings) (w : List ℕ) (t : ℕ) (key : Sent) (p : Passed kind.S
   abbrev y : Slot
   y = slot_in s w t key
 
-  pub snapshot-stores : (k : Caching) → CachingOk t k → Stores kind.Suppressed s t (get_change y k)
+  pub snapshot-stores : (k : Option CachedFactor) → CachingOk t k → Stores kind.Suppressed s t (get_change y k)
   unfolding get_change
   snapshot-stores k o = go y.series refl
     where
@@ -243,11 +242,11 @@ module _ (s : Settings) (w : List ℕ) (t : ℕ) (key : Sent) (p : Passed kind.S
   opens : suppressed.Opens s w t key out z
   opens = suppressed.opens-looked s w t key p
 
-  lone-stores : (k : Caching) → Stores kind.Suppressed s t (lone_change z.cached k t)
-  lone-stores Left = tt
-  lone-stores (Cached k) = either-stores s t z.cached (lone_edit t) (right_by s t _ (suppressed.lone-right s w t key p out z opens))
+  lone-stores : (k : Option CachedFactor) → Stores kind.Suppressed s t (lone_change z.cached k t)
+  lone-stores None = tt
+  lone-stores (Some k) = either-stores s t z.cached (lone_edit t) (right_by s t _ (suppressed.lone-right s w t key p out z opens))
 
-  pub factor-stores : (k : Caching) → CachingOk t k → Stores kind.Suppressed s t (factor_change z k t)
+  pub factor-stores : (k : Option CachedFactor) → CachingOk t k → Stores kind.Suppressed s t (factor_change z k t)
   unfolding factor_change get_change
   factor-stores k o = go z.series refl
     where
@@ -256,7 +255,7 @@ module _ (s : Settings) (w : List ℕ) (t : ℕ) (key : Sent) (p : Passed kind.S
       go true e = right_by s t _ (suppressed.evicted-right s w t key p out z opens k o e)
       go false e = lone-stores k
 
-  pub draws-stores : (rate : RateLimit) (c d : ℕ) (k : Caching) → CachingOk t k → rate_ok rate.0 ≡ true →
+  pub draws-stores : (rate : RateLimit) (c d : ℕ) (k : Option CachedFactor) → CachingOk t k → rate_ok rate.0 ≡ true →
       Stores kind.Suppressed s t (inc_change z (limit_at s z rate) c d k)
   unfolding inc_change inc_edit
   draws-stores rate c d k o r = either-stores s t (has_slot z) _ (right_by s t _ (suppressed.inc-right s w t key p out z opens rate c d k o r z.series refl))

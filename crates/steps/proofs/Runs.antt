@@ -1,15 +1,15 @@
 -- A run of code is a history: calls that were made one after the other, each with the answer and the words on exit that its contract allows on the words
 -- it found, have answered what the history's calls answer, and have left its words.
 -- Assumes nothing.
-use Rattle.std.specs.Prelude.{refl, List, [], ◌∷◌, ℕ}
+use Rattle.std.specs.Prelude.{refl, List, [], ◌∷◌, ℕ, Result}
 use Rattle.std.proofs.Common.{ap, ap₂, ◌∙◌}
-use Rattle.answers.specs.declared.DoneAnswer.{DoneAnswer}
 use Rattle.settings.specs.declared.Settings.{Settings}
 use Rattle.rules.specs.declared.RoomKind.{RoomKind}
 use Rattle.parties.specs.declared.Caller.{Caller}
 use Rattle.provider.specs.Provider as Provider
 use Rattle.steps.specs.Ops.{row_of, after, answer_row}
 use Rattle.steps.specs.Runs.{Made, Ran, IsHistory, BothTold}
+use Rattle.common.specs.declared.refusal.Refusal.{Refusal}
 
 -- ---- the law
 
@@ -26,7 +26,7 @@ run-history kind s w (m ∷ ms) r =
 
 -- ---- the provider's cleanup has a contract of both rooms: it meets each room's
 
-pub both_told : (s : Settings) (a b : List ℕ) (t : ℕ) (c d : Caller) (stale : ℕ) (r : DoneAnswer) (x y : List ℕ) →
+pub both_told : (s : Settings) (a b : List ℕ) (t : ℕ) (c d : Caller) (stale : ℕ) (r : Result (Unit {0}) Refusal) (x y : List ℕ) →
     Provider.Told (Provider.cleanup s a b t c d stale) r x y → BothTold s a b t c d stale r x y
 both_told s a b t c d stale r x y o = record {
   absolute = record { answer = o.answer; words = o.absolute };

@@ -1,22 +1,15 @@
 -- Every call's table of refusals, and that it answers by it (demand 1), said once for all calls (`turned`): a number that is given is the first, in the
 -- order of judging, whose condition holds, exactly then, and the words are then as they were.
 -- Assumes nothing.
-use Rattle.std.specs.Prelude.{◌≡◌, refl, Bool, true, false, cond, List, [], ◌∷◌, ◌≢◌, ℕ}
+use Rattle.std.specs.Prelude.{◌≡◌, refl, Bool, true, false, cond, List, [], ◌∷◌, ◌≢◌, ℕ, Ok, Option}
 use Rattle.std.proofs.Common.{ap, arith, eq-eqb, ne_eqb}
 use Rattle.answers.specs.Rows.{decision_row, total_row, snapshot_row, factor_row, old_rate_row, delete_row, set_row, done_row, number_of}
-use Rattle.common.specs.Refusals.{first}
+use Rattle.common.specs.Refusals.{first, refuse}
 use Rattle.common.specs.Limits.{cut_word, soft_word}
 use Rattle.settings.specs.Settings.{factor_in, faults}
 use Rattle.settings.specs.Clock.{ticks_in}
-use Rattle.answers.specs.declared.DoneAnswer.TheVariants as done
-use Rattle.answers.specs.declared.DeleteAnswer.TheVariants as delete
-use Rattle.answers.specs.declared.FactorAnswer.TheVariants as factor
-use Rattle.answers.specs.declared.OldRateAnswer.TheVariants as old_rate
 use Rattle.answers.specs.declared.RateLimitDecision.{RateLimitDecision}
 use Rattle.answers.specs.declared.RateLimitDecision.TheVariants as decision
-use Rattle.answers.specs.declared.SetAnswer.TheVariants as set
-use Rattle.answers.specs.declared.SnapshotAnswer.TheVariants as snapshot
-use Rattle.answers.specs.declared.TotalAnswer.TheVariants as total
 use Rattle.settings.specs.declared.Settings.{Settings}
 use Rattle.common.specs.declared.units.RateLimit.{RateLimit}
 use Rattle.common.specs.declared.units.WindowSize.{WindowSize}
@@ -83,13 +76,13 @@ outcome-0 s t limit count draw h =
     reached-0 (suppressed.reach_of (suppressed.forecast (looked_of s t h) count) (soft_word (factor_in s) limit) (cut_word limit))
     (suppressed.asked s t (overdue_in s t h) limit h) t count draw
 
-old-0 : (k : RoomKind) (s : Settings) (h : Held) → number_of (old_rate_row (shared.old_rate k s h)) ≡ 0
+old-0 : (k : RoomKind) (s : Settings) (h : Held) → number_of (old_rate_row (Ok (shared.old_rate k s h))) ≡ 0
 unfolding shared.old_rate old_rate_row
-old-0 k s h = either-0 old_rate_row h.known _ _ refl refl
+old-0 k s h = either-0 (λ (y : Option RateLimit). old_rate_row (Ok y)) h.known _ _ refl refl
 
-deleted-0 : (s : Settings) (t : ℕ) (h : Held) → number_of (delete_row (shared.deleted s t h)) ≡ 0
+deleted-0 : (s : Settings) (t : ℕ) (h : Held) → number_of (delete_row (Ok (shared.deleted s t h))) ≡ 0
 unfolding shared.deleted delete_row
-deleted-0 s t h = either-0 delete_row h.known _ _ refl (either-0 delete_row h.cached _ _ refl refl)
+deleted-0 s t h = either-0 (λ (y : Option ℕ). delete_row (Ok y)) h.known _ _ refl (either-0 (λ (y : Option ℕ). delete_row (Ok y)) h.cached _ _ refl refl)
 
 -- ---- both rooms
 
@@ -133,21 +126,21 @@ turned k s w t (Ops.inc key rate count) =
 turned k s w t (Ops.is_allowed key) =
     judge-turned decision_row decision.Refused (plain kind.Absolute s w t key) _ w _ refl (λ n. refl) (omega arith)
     (decided-0 s t (held_in w key))
-turned k s w t (Ops.get key) = judge-turned total_row total.Refused (plain kind.Absolute s w t key) _ w _ refl (λ n. refl) (omega arith) refl
+turned k s w t (Ops.get key) = judge-turned total_row refuse (plain kind.Absolute s w t key) _ w _ refl (λ n. refl) (omega arith) refl
 turned k s w t (Ops.draws key rate count draw) =
     judge-turned decision_row decision.Refused (suppressed_inc s w t key rate count draw) _ w _ refl (λ n. refl) (in-order s w t key rate count draw)
     (outcome-0 s t (suppressed.limit_for s rate (held_in w key)) count draw (held_in w key))
-turned k s w t (Ops.snapshot key) = judge-turned snapshot_row snapshot.Refused (plain kind.Suppressed s w t key) _ w _ refl (λ n. refl) (omega arith) refl
-turned k s w t (Ops.get_factor key) = judge-turned factor_row factor.Refused (suppressed_factor s w t key) _ w _ refl (λ n. refl) (omega arith) refl
+turned k s w t (Ops.snapshot key) = judge-turned snapshot_row refuse (plain kind.Suppressed s w t key) _ w _ refl (λ n. refl) (omega arith) refl
+turned k s w t (Ops.get_factor key) = judge-turned factor_row refuse (suppressed_factor s w t key) _ w _ refl (λ n. refl) (omega arith) refl
 turned k s w t (Ops.set_rate key rate) =
-    judge-turned old_rate_row old_rate.Refused (set_rate k s w t key rate) _ w _ refl (λ n. refl) (omega arith) (old-0 k s (held_in w key))
+    judge-turned old_rate_row refuse (set_rate k s w t key rate) _ w _ refl (λ n. refl) (omega arith) (old-0 k s (held_in w key))
 turned k s w t (Ops.set key rate comparator count mode) =
-    judge-turned set_row set.Refused (sets k s w t key rate comparator count mode) _ w _ refl (λ n. refl) (omega arith) refl
+    judge-turned set_row refuse (sets k s w t key rate comparator count mode) _ w _ refl (λ n. refl) (omega arith) refl
 turned k s w t (Ops.delete key) =
-    judge-turned delete_row delete.Refused (plain k s w t key) _ w _ refl (λ n. refl) (omega arith) (deleted-0 s t (held_in w key))
-turned k s w t (Ops.cleanup who stale) = judge-turned done_row done.Refused (cleans k s w t who) _ w _ refl (λ n. refl) (omega arith) refl
+    judge-turned delete_row refuse (plain k s w t key) _ w _ refl (λ n. refl) (omega arith) (deleted-0 s t (held_in w key))
+turned k s w t (Ops.cleanup who stale) = judge-turned done_row refuse (cleans k s w t who) _ w _ refl (λ n. refl) (omega arith) refl
 turned k s w t (Ops.cleanup_both who other whose stale) = each-turned k s w t who other whose stale
-turned k s w t (Ops.clear who) = judge-turned done_row done.Refused (clears s w t who) _ w _ refl (λ n. refl) (omega arith) refl
+turned k s w t (Ops.clear who) = judge-turned done_row refuse (clears s w t who) _ w _ refl (λ n. refl) (omega arith) refl
 
 pub unmet : (k : RoomKind) (s : Settings) (w : List ℕ) (t : ℕ) (op : Op k) (n : ℕ) → n ≢ 0 → met (table_of k s w t op) n ≡ false → answer_number k s w t op ≢ n
 unmet k s w t op = not-given (table_of k s w t op) (answer_row k s w t op) w (after k s w t op) (turned k s w t op)

@@ -1,16 +1,9 @@
 -- The calls of both limiters as one type, over the room's kind; what each is to answer and to leave, by the verdicts that the calls' contracts name;
 -- and histories of them, newest first.
 -- Assumes nothing.
-use Rattle.std.specs.Prelude.{List, [], ◌∷◌, ℕ}
+use Rattle.std.specs.Prelude.{List, [], ◌∷◌, ℕ, Result, Option, Float}
 use Rattle.answers.specs.Rows.{decision_row, total_row, snapshot_row, factor_row, old_rate_row, delete_row, set_row, done_row, number_of}
-use Rattle.answers.specs.declared.DeleteAnswer.{DeleteAnswer}
-use Rattle.answers.specs.declared.DoneAnswer.{DoneAnswer}
-use Rattle.answers.specs.declared.FactorAnswer.{FactorAnswer}
-use Rattle.answers.specs.declared.OldRateAnswer.{OldRateAnswer}
 use Rattle.answers.specs.declared.RateLimitDecision.{RateLimitDecision}
-use Rattle.answers.specs.declared.SetAnswer.{SetAnswer}
-use Rattle.answers.specs.declared.SnapshotAnswer.{SnapshotAnswer}
-use Rattle.answers.specs.declared.TotalAnswer.{TotalAnswer}
 use Rattle.common.specs.declared.comparator.RateLimitComparator.{RateLimitComparator}
 use Rattle.answers.specs.declared.HistoryUpdateMode.{HistoryUpdateMode}
 use Rattle.settings.specs.declared.Settings.{Settings}
@@ -29,6 +22,9 @@ use Rattle.cleanup.specs.Cleanup as Cleanup
 use Rattle.absolute_verdicts.specs.Calls as OnAbsolute
 use Rattle.suppressed_verdicts.specs.Calls as OnSuppressed
 use Rattle.provider.specs.Provider as Provider
+use Rattle.common.specs.declared.refusal.Refusal.{Refusal}
+use Rattle.answers.specs.declared.ConditionalSetOutcome.{ConditionalSetOutcome}
+use Rattle.answers.specs.declared.SuppressedRateLimitSnapshot.{SuppressedRateLimitSnapshot}
 
 pub data Op : RoomKind → Type 0 where
   -- key, rate, count
@@ -53,16 +49,16 @@ pub data Op : RoomKind → Type 0 where
 abbrev pub Answer : {kind : RoomKind} → Op kind → Type 0
 Answer (inc key rate count) = RateLimitDecision
 Answer (is_allowed key) = RateLimitDecision
-Answer (get key) = TotalAnswer
+Answer (get key) = Result ℕ Refusal
 Answer (draws key rate count draw) = RateLimitDecision
-Answer (snapshot key) = SnapshotAnswer
-Answer (get_factor key) = FactorAnswer
-Answer (set_rate key rate) = OldRateAnswer
-Answer (set key rate comparator count mode) = SetAnswer
-Answer (delete key) = DeleteAnswer
-Answer (cleanup who stale) = DoneAnswer
-Answer (cleanup_both who other whose stale) = DoneAnswer
-Answer (clear who) = DoneAnswer
+Answer (snapshot key) = Result SuppressedRateLimitSnapshot Refusal
+Answer (get_factor key) = Result Float Refusal
+Answer (set_rate key rate) = Result (Option RateLimit) Refusal
+Answer (set key rate comparator count mode) = Result ConditionalSetOutcome Refusal
+Answer (delete key) = Result (Option ℕ) Refusal
+Answer (cleanup who stale) = Result (Unit {0}) Refusal
+Answer (cleanup_both who other whose stale) = Result (Unit {0}) Refusal
+Answer (clear who) = Result (Unit {0}) Refusal
 
 abbrev pub row_of : {kind : RoomKind} → (op : Op kind) → Answer op → List ℕ
 row_of (inc key rate count) = decision_row
@@ -81,7 +77,7 @@ row_of (clear who) = done_row
 -- ---- the verdict that the call's contract names
 
 -- the provider's cleanup, as a room of this kind sees it
-abbrev pub cleaned_both : RoomKind → Settings → List ℕ → Caller → List ℕ → Caller → ℕ → ℕ → Verdict DoneAnswer
+abbrev pub cleaned_both : RoomKind → Settings → List ℕ → Caller → List ℕ → Caller → ℕ → ℕ → Verdict (Result (Unit {0}) Refusal)
 cleaned_both Absolute s w who other whose t stale = let v = Provider.cleanup s w other t who whose stale in verdict v.answer v.absolute
 cleaned_both Suppressed s w who other whose t stale = let v = Provider.cleanup s other w t whose who stale in verdict v.answer v.suppressed
 

@@ -1,6 +1,6 @@
 -- Each call with a key changes a room where it should, and starts from the buckets that it should (`Moves`). x is the key's slot.
 -- Assumes nothing.
-use Rattle.std.specs.Prelude.{◌≡◌, Bool, ◌||◌, List, ℕ, ◌≤◌, ◌<◌, length}
+use Rattle.std.specs.Prelude.{◌≡◌, Bool, ◌||◌, List, ℕ, ◌≤◌, ◌<◌, length, Option, Some, None}
 use Rattle.std.proofs.Math.Path.{refl, sym, ap, ap₂, subst}
 use Rattle.std.proofs.Common.{◌∙◌, true≢false, arith, le-ltb, eqb-true}
 use Rattle.std.proofs.Math.Bool.{true, false, cond}
@@ -36,12 +36,11 @@ use Rattle.shared_opened.specs.Opened.{deleting, used_with, limiting}
 use Rattle.sets_opened.specs.Sets.{idle_at, reset, begins, stored, setting}
 use Rattle.calls.specs.Applies.{busy-known, known-has, cached-has}
 use Rattle.absolute_opened.specs.Opened as absolute
-use Rattle.rules.specs.declared.Caching.{Caching}
-use Rattle.rules.specs.declared.Caching.TheVariants.{Left, Cached}
 use Rattle.suppressed_edits.specs.Edits.{recached, get_change, lone_by, lone_change, factor_change, inc_edit, inc_change}
 use Rattle.places.specs.Has.{Has, free-has}
 use Rattle.places.specs.Placed.{Owns, Lacks}
 use Rattle.steps.specs.Moves.{Plain, From, opens, keeps, evicts, Updates, Takes, Moves}
+use Rattle.suppression.specs.declared.CachedFactor.{CachedFactor}
 
 -- ---- what calls choose from
 
@@ -72,7 +71,7 @@ unfolding right_use
 right-series u e = let p : u ≡ 1 = eqb-true u 1 e in subst (λ (n : ℕ). has_series n ≡ true) (sym p) refl
 
 -- the edits' buckets
-inc-from : (x : Slot) (k : Caching) (limit c d : ℕ) → From x (recached x k (inc_edit x limit c d))
+inc-from : (x : Slot) (k : Option CachedFactor) (limit c d : ℕ) → From x (recached x k (inc_edit x limit c d))
 unfolding recached inc_edit
 inc-from x k limit c d = go x.series refl
   where
@@ -81,12 +80,12 @@ inc-from x k limit c d = go x.series refl
     go true e = evicts e refl refl
     go false e = opens refl tt
 
-inc-begins : (x : Slot) (k : Caching) (limit c d : ℕ) → x.series ≡ false → (recached x k (inc_edit x limit c d)).begins ≡ true
+inc-begins : (x : Slot) (k : Option CachedFactor) (limit c d : ℕ) → x.series ≡ false → (recached x k (inc_edit x limit c d)).begins ≡ true
 unfolding recached inc_edit
 inc-begins x k limit c d e =
     ap (λ (z : Bool). (cond z (evicting x (then.Increment c d)) (opening limit (then.Increment c d) x.factor x.factor_time x.used)).begins) e
 
-inc-plain : (x : Slot) (k : Caching) (limit c d : ℕ) → Plain (recached x k (inc_edit x limit c d)).then
+inc-plain : (x : Slot) (k : Option CachedFactor) (limit c d : ℕ) → Plain (recached x k (inc_edit x limit c d)).then
 unfolding recached inc_edit
 inc-plain x k limit c d = go x.series
   where
@@ -94,7 +93,7 @@ inc-plain x k limit c d = go x.series
     go true = tt
     go false = tt
 
-recached-from : (x : Slot) (k : Caching) → x.series ≡ true → From x (recached x k (evicting x then.Nothing))
+recached-from : (x : Slot) (k : Option CachedFactor) → x.series ≡ true → From x (recached x k (evicting x then.Nothing))
 unfolding recached
 recached-from x k e = evicts e refl refl
 
@@ -290,7 +289,7 @@ module _ (s : Settings) (w : List ℕ) (t : ℕ) (key : Sent) (p : Passed kind.S
   abbrev site : ℕ
   site = cond (has_slot (slot_in s w t key)) (slot_in s w t key).at (vacant w)
 
-  pub snapshot-moves : (k : Caching) → Moves y w (key_for key) y.at (get_change y k)
+  pub snapshot-moves : (k : Option CachedFactor) → Moves y w (key_for key) y.at (get_change y k)
   unfolding get_change
   snapshot-moves k = go y.series refl
     where
@@ -312,15 +311,15 @@ module _ (s : Settings) (w : List ℕ) (t : ℕ) (key : Sent) (p : Passed kind.S
   lone-by by true e f l = updates kind.Suppressed s w t key p (cached-has y e f) _ (opens refl tt)
   lone-by by false e f l = takes kind.Suppressed s w t key p by (neither y e f) l _ refl tt
 
-  lone-moves : Bytes key.bytes → (k : Caching) → y.series ≡ false → site < slots_of w → Moves y w (key_for key) site (lone_change z.cached k t)
-  lone-moves by Left e l = tt
-  lone-moves by (Cached k) e l = lone-by by z.cached e (sym (look-cached (look_ticks s) t y)) l
+  lone-moves : Bytes key.bytes → (k : Option CachedFactor) → y.series ≡ false → site < slots_of w → Moves y w (key_for key) site (lone_change z.cached k t)
+  lone-moves by None e l = tt
+  lone-moves by (Some k) e l = lone-by by z.cached e (sym (look-cached (look_ticks s) t y)) l
 
-  recached-plain : (k : Caching) → Plain (recached z k (evicting z then.Nothing)).then
+  recached-plain : (k : Option CachedFactor) → Plain (recached z k (evicting z then.Nothing)).then
   unfolding recached
   recached-plain k = tt
 
-  pub factor-moves : Bytes key.bytes → (k : Caching) → place_of w z < slots_of w → Moves y w (key_for key) (place_of w z) (factor_change z k t)
+  pub factor-moves : Bytes key.bytes → (k : Option CachedFactor) → place_of w z < slots_of w → Moves y w (key_for key) (place_of w z) (factor_change z k t)
   unfolding factor_change get_change
   factor-moves by k l =
       subst (λ (i : ℕ). Moves y w (key_for key) i (factor_change z k t)) (sym place_same) (go z.series refl (subst (λ (i : ℕ). i < slots_of w) place_same l))
@@ -335,7 +334,7 @@ module _ (s : Settings) (w : List ℕ) (t : ℕ) (key : Sent) (p : Passed kind.S
   has_same : has_slot z ≡ has_slot y
   has_same = ap₂ (λ (a b : Bool). a || b) (look-series (look_ticks s) t y) (look-cached (look_ticks s) t y)
 
-  pub draws-moves : Bytes key.bytes → (limit c d : ℕ) (k : Caching) → place_of w z < slots_of w →
+  pub draws-moves : Bytes key.bytes → (limit c d : ℕ) (k : Option CachedFactor) → place_of w z < slots_of w →
       Moves y w (key_for key) (place_of w z) (inc_change z limit c d k)
   unfolding inc_change
   draws-moves by limit c d k l =

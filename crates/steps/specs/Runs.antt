@@ -1,14 +1,14 @@
 -- A run of code is a history: calls that were made one after the other, each with the answer and the words on exit that its contract allows on the words
 -- it found, have answered what the history's calls answer, and have left its words.
 -- Assumes nothing.
-use Rattle.std.specs.Prelude.{◌≡◌, List, [], ◌∷◌, ℕ}
-use Rattle.answers.specs.declared.DoneAnswer.{DoneAnswer}
+use Rattle.std.specs.Prelude.{◌≡◌, List, [], ◌∷◌, ℕ, Result}
 use Rattle.settings.specs.declared.Settings.{Settings}
 use Rattle.rules.specs.declared.RoomKind.{RoomKind}
 use Rattle.rules.specs.declared.RoomKind.TheVariants.{Absolute, Suppressed}
 use Rattle.parties.specs.declared.Caller.{Caller}
 use Rattle.judge.specs.Verdict.{Told}
 use Rattle.steps.specs.Ops.{Op, cleanup_both, Answer, row_of, verdict_of, Call, words, rows}
+use Rattle.common.specs.declared.refusal.Refusal.{Refusal}
 
 -- a call that was made: when, which, and what came back
 pub record Made (kind : RoomKind) : Type 0 where
@@ -44,6 +44,6 @@ pub record IsHistory (kind : RoomKind) (s : Settings) (w : List ℕ) (made : Lis
 
 -- ---- the provider's cleanup has a contract of both rooms: it meets each room's
 
-pub record BothTold (s : Settings) (a b : List ℕ) (t : ℕ) (c d : Caller) (stale : ℕ) (r : DoneAnswer) (x y : List ℕ) : Type 0 where
+pub record BothTold (s : Settings) (a b : List ℕ) (t : ℕ) (c d : Caller) (stale : ℕ) (r : Result (Unit {0}) Refusal) (x y : List ℕ) : Type 0 where
   pub absolute : Told (verdict_of Absolute s a t (cleanup_both c b d stale)) r x
   pub suppressed : Told (verdict_of Suppressed s b t (cleanup_both d a c stale)) r y

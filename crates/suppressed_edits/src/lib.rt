@@ -8,7 +8,7 @@ use change::Change;
 use edit::{Edit, Then};
 use factor_opened::stays;
 use opened::Slot;
-use rules::Caching;
+use suppression::CachedFactor;
 
 // A series' use, by whether its cached factor stays.
 fn use_left(stays_on: bool) -> u64
@@ -22,12 +22,12 @@ fn use_left(stays_on: bool) -> u64
 }
 
 // An edit of a series, with what becomes of the cached factor.
-fn recached(x: Slot, caching: Caching, e: Edit) -> Edit
+fn recached(x: Slot, caching: Option<CachedFactor>, e: Edit) -> Edit
     ensures { result ≡ recached x caching e }
 {
     match caching {
-        Caching::Left => plan::restored(e, e.limit, e.factor, e.factor_time, use_left(stays(x))),
-        Caching::Cached(cached) => plan::restored(
+        None => plan::restored(e, e.limit, e.factor, e.factor_time, use_left(stays(x))),
+        Some(cached) => plan::restored(
             e,
             e.limit,
             common::word_of(cached.suppression_factor),
@@ -38,7 +38,7 @@ fn recached(x: Slot, caching: Caching, e: Edit) -> Edit
 }
 
 // A known key is rid of its expired buckets.
-pub fn get_change(x: Slot, caching: Caching) -> Change
+pub fn get_change(x: Slot, caching: Option<CachedFactor>) -> Change
     ensures { result ≡ get_change x caching }
 {
     let series = x.series;
@@ -60,16 +60,16 @@ fn lone_by(there: bool, reading: u64) -> Change
     }
 }
 
-fn lone_change(there: bool, caching: Caching, reading: u64) -> Change
+fn lone_change(there: bool, caching: Option<CachedFactor>, reading: u64) -> Change
     ensures { result ≡ lone_change there caching reading }
 {
     match caching {
-        Caching::Left => Change::Keep,
-        Caching::Cached(_) => lone_by(there, reading),
+        None => Change::Keep,
+        Some(_) => lone_by(there, reading),
     }
 }
 
-pub fn factor_change(x: Slot, caching: Caching, reading: u64) -> Change
+pub fn factor_change(x: Slot, caching: Option<CachedFactor>, reading: u64) -> Change
     ensures { result ≡ factor_change x caching reading }
 {
     let series = x.series;
@@ -96,7 +96,13 @@ fn inc_edit(x: Slot, limit: u64, count: u64, declined: u64) -> Edit
     )
 }
 
-pub fn inc_change(x: Slot, limit: u64, count: u64, declined: u64, caching: Caching) -> Change
+pub fn inc_change(
+    x: Slot,
+    limit: u64,
+    count: u64,
+    declined: u64,
+    caching: Option<CachedFactor>,
+) -> Change
     ensures { result ≡ inc_change x limit count declined caching }
 {
     let e = recached(x, caching, inc_edit(x, limit, count, declined));

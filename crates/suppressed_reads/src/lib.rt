@@ -8,7 +8,8 @@ ghost use Rattle.rules.specs.declared.RoomKind.TheVariants.{Suppressed};
 ghost use Rattle.suppressed_verdicts.specs.Calls.{get, get_factor};
 ghost use Rattle.suppressed_verdicts.specs.Opened.{snapshot_at};
 
-use answers::{FactorAnswer, SnapshotAnswer, SuppressedRateLimitSnapshot};
+use answers::SuppressedRateLimitSnapshot;
+use common::Refusal;
 use opened::Slot;
 use parties::Caller;
 use rules::RoomKind;
@@ -18,9 +19,8 @@ use settings::Settings;
 fn snapshot_of(x: Slot, factor: f64) -> SuppressedRateLimitSnapshot
     ensures { result ≡ snapshot_at x factor }
 {
-    let series = x.series;
     let pass = x.pass;
-    if !series {
+    if !x.series {
         return SuppressedRateLimitSnapshot::default();
     }
     SuppressedRateLimitSnapshot {
@@ -37,7 +37,7 @@ pub fn get(
     reading: u64,
     caller: Caller,
     key: &[u8],
-) -> SnapshotAnswer
+) -> Result<SuppressedRateLimitSnapshot, Refusal>
     ensures { Told (get settings room.old reading (sent caller key.now)) result room.new }
 {
     let judged = judge::judge(
@@ -48,12 +48,8 @@ pub fn get(
         caller,
         key,
         judge::NO_LOOK,
-    );
-    let code = judged.code;
+    )?;
     let x = judged.slot;
-    if code != 0 {
-        return SnapshotAnswer::Refused(code);
-    }
     let asked = factor_opened::ask(settings, room, x, x.limit, reading);
     let caching = asked.caching;
     let snapshot = snapshot_of(x, asked.factor);
@@ -66,7 +62,7 @@ pub fn get(
         reading,
         suppressed_edits::get_change(x, caching),
     );
-    SnapshotAnswer::Snapshot(snapshot)
+    Ok(snapshot)
 }
 
 // A key's factor, which is cached.
@@ -76,7 +72,7 @@ pub fn get_suppression_factor(
     reading: u64,
     caller: Caller,
     key: &[u8],
-) -> FactorAnswer
+) -> Result<f64, Refusal>
     ensures { Told (get_factor settings room.old reading (sent caller key.now)) result room.new }
 {
     let judged = judge::judge(
@@ -87,20 +83,16 @@ pub fn get_suppression_factor(
         caller,
         key,
         judge::FIRST_LOOK,
-    );
-    let code = judged.code;
-    if code != 0 {
-        return FactorAnswer::Refused(code);
-    }
+    )?;
     let x = judged.slot;
     let at = plan::place(room, x);
     if plan::lacks_slot(judged.none, x) {
-        return FactorAnswer::Refused(11);
+        return Err(Refusal::NO_FREE_SLOT);
     }
     let asked = factor_opened::ask(settings, room, x, x.limit, reading);
     let caching = asked.caching;
     let change = suppressed_edits::factor_change(x, caching, reading);
     let join = settings.join_ticks();
     change::apply(room, at, caller, key, join, reading, change);
-    FactorAnswer::Factor(asked.factor)
+    Ok(asked.factor)
 }

@@ -2,12 +2,12 @@
 #![tactic(auto)]
 
 ghost use Rattle.std.specs.Prelude.{◌≡◌, ◌≤◌};
-ghost use Rattle.common.specs.Refusals.{first};
+ghost use Rattle.common.specs.Refusals.{first, ruled};
 ghost use Rattle.settings.specs.Settings.{bucket_in};
 ghost use Rattle.room.specs.Room.{Room, ring_of};
-ghost use Rattle.suppressed_refusals.specs.Refusals.{inc_numbers, inc_late};
+ghost use Rattle.suppressed_refusals.specs.Refusals.{inc_late};
 
-use common::RateLimit;
+use common::{RateLimit, Refusal};
 use opened::Slot;
 use settings::Settings;
 
@@ -20,28 +20,8 @@ pub fn ring_of(w: &[u64]) -> usize
     w[layout::RING] as usize
 }
 
-// The first of 8 to 12 whose condition holds, or 0.
-fn inc_number(rate: bool, draw: bool, passes: bool, lacks: bool, crams: bool) -> u64
-    ensures { result ≡ first (inc_numbers rate draw passes lacks crams) }
-{
-    if rate {
-        return 8;
-    }
-    if draw {
-        return 9;
-    }
-    if passes {
-        return 10;
-    }
-    if lacks {
-        return 11;
-    }
-    if crams {
-        return 12;
-    }
-    0
-}
-
+// The first of refusals 8 to 12 that an increment meets.
+#[tactic(auto, unfolding(common::specs::Refusals::first))]
 pub fn inc_late(
     settings: Settings,
     x: Slot,
@@ -51,18 +31,25 @@ pub fn inc_late(
     rate: RateLimit,
     count: u64,
     draw: u64,
-) -> u64
+) -> Result<(), Refusal>
     requires { bucket_in settings ≤ 4294967296 }
-    ensures { result ≡ first (inc_late settings x lacks ring reading rate count draw) }
+    ensures { result ≡ ruled (first (inc_late settings x lacks ring reading rate count draw)) }
 {
     let pass = x.pass;
-    let expired = pass.expired;
-    let crams = plan::is_ring_full(ring, settings.join_ticks(), reading, expired, x);
-    inc_number(
-        !rate.is_in_range(),
-        MOST_DRAW < draw,
-        plan::passes(count, pass.live_total),
-        lacks,
-        crams,
-    )
+    if !rate.is_in_range() {
+        return Err(Refusal::BAD_RATE);
+    }
+    if MOST_DRAW < draw {
+        return Err(Refusal::BAD_DRAW);
+    }
+    if plan::passes(count, pass.live_total) {
+        return Err(Refusal::TOTAL_TOO_LARGE);
+    }
+    if lacks {
+        return Err(Refusal::NO_FREE_SLOT);
+    }
+    if plan::is_ring_full(ring, settings.join_ticks(), reading, pass.expired, x) {
+        return Err(Refusal::RING_FULL);
+    }
+    Ok(())
 }

@@ -2,14 +2,10 @@
 -- words are told by the edits of the key's slot, for an increment and a factor as a first look leaves it. s are the settings, w the room's words, t the
 -- reading.
 -- Assumes nothing.
-use Rattle.std.specs.Prelude.{true, List, [], ℕ}
+use Rattle.std.specs.Prelude.{true, List, [], ℕ, Result, Ok, Float}
 use Rattle.settings.specs.Clock.{join_ticks}
-use Rattle.answers.specs.declared.FactorAnswer.{FactorAnswer}
-use Rattle.answers.specs.declared.FactorAnswer.TheVariants as factor
 use Rattle.answers.specs.declared.RateLimitDecision.{RateLimitDecision}
 use Rattle.answers.specs.declared.RateLimitDecision.TheVariants as decision
-use Rattle.answers.specs.declared.SnapshotAnswer.{SnapshotAnswer}
-use Rattle.answers.specs.declared.SnapshotAnswer.TheVariants as snapshot
 use Rattle.settings.specs.declared.Settings.{Settings}
 use Rattle.common.specs.declared.units.RateLimit.{RateLimit}
 use Rattle.rules.specs.declared.RoomKind.TheVariants.{Suppressed}
@@ -23,22 +19,25 @@ use Rattle.judge.specs.Judge.{slot_in, looked_in}
 use Rattle.judge.specs.Verdict.{Verdict, verdict, call}
 use Rattle.plan.specs.Plan.{place_of}
 use Rattle.suppressed_edits.specs.Edits.{get_change, factor_change, inc_change}
+use Rattle.common.specs.Refusals.{refuse}
+use Rattle.common.specs.declared.refusal.Refusal.{Refusal}
+use Rattle.answers.specs.declared.SuppressedRateLimitSnapshot.{SuppressedRateLimitSnapshot}
 
-unfoldable pub get : Settings → List ℕ → ℕ → Sent → Verdict SnapshotAnswer
+unfoldable pub get : Settings → List ℕ → ℕ → Sent → Verdict (Result SuppressedRateLimitSnapshot Refusal)
 get s w t key =
     let h = held_in w key in
     let x = slot_in s w t key in
-    call snapshot.Refused Suppressed s w t key []
-    (verdict (snapshot.Snapshot (snapshot_of s t h (asking s t true h).factor))
+    call refuse Suppressed s w t key []
+    (verdict (Ok (snapshot_of s t h (asking s t true h).factor))
     (applied w x.at key (join_ticks s) t (get_change x (asking s t true h).caching)))
 
-unfoldable pub get_factor : Settings → List ℕ → ℕ → Sent → Verdict FactorAnswer
+unfoldable pub get_factor : Settings → List ℕ → ℕ → Sent → Verdict (Result Float Refusal)
 get_factor s w t key =
     let h = held_in w key in
     let x = looked_in s w t key in
     let a = asking s t (overdue_in s t h) h in
-    call factor.Refused Suppressed s w t key (factor_turns (none_left w key.caller) h)
-    (verdict (factor.Factor a.factor) (applied w (place_of w x) key (join_ticks s) t (factor_change x a.caching t)))
+    call refuse Suppressed s w t key (factor_turns (none_left w key.caller) h)
+    (verdict (Ok a.factor) (applied w (place_of w x) key (join_ticks s) t (factor_change x a.caching t)))
 
 -- by c at rate
 unfoldable pub inc : Settings → List ℕ → ℕ → Sent → RateLimit → ℕ → ℕ → Verdict RateLimitDecision

@@ -1,17 +1,16 @@
 -- What the code of the calls has found, turned into what the calls are to answer; and that their changes can be carried out.
 -- Assumes nothing.
-use Rattle.std.specs.Prelude.{◌≡◌, Bool, true, ◌||◌, cond, ℕ, ◌+◌, ◌≤◌, ◌<◌, length, drop}
+use Rattle.std.specs.Prelude.{◌≡◌, Bool, true, ◌||◌, cond, ℕ, ◌+◌, ◌≤◌, ◌<◌, length, drop, Ok, Option, Some, None, Err}
 use Rattle.std.proofs.Math.Path.{refl, sym, ap, ap₂}
 use Rattle.std.proofs.Common.{subst, ◌∙◌, arith}
 use Rattle.std.proofs.Math.Bool.{false}
 use mathlib.Core.List.{List, []}
 use borrow.Author.Tests.{ltb-false, leb-false}
-use Rattle.common.specs.Refusals.{first, Positive, AllFalse, all-false}
+use Rattle.common.specs.Refusals.{first, Positive, AllFalse, all-false, refuse}
+use Rattle.common.specs.declared.refusal.Refusal.{Refusal}
 use Rattle.settings.specs.Settings.{Proper}
 use Rattle.settings.specs.Clock.{join_ticks}
-use Rattle.answers.specs.declared.FactorAnswer.TheVariants as factor
 use Rattle.answers.specs.declared.RateLimitDecision.TheVariants as decision
-use Rattle.answers.specs.declared.SnapshotAnswer.TheVariants as snapshot
 use Rattle.answers.specs.declared.SuppressedRateLimitSnapshot.{SuppressedRateLimitSnapshot}
 use Rattle.settings.specs.declared.Settings.{Settings}
 use Rattle.common.specs.declared.units.RateLimit.{RateLimit}
@@ -25,11 +24,11 @@ use Rattle.judge.specs.declared.Judged.{Judged}
 use Rattle.rules.specs.declared.RoomKind.TheVariants as kind
 use Rattle.opened.specs.declared.Slot.{Slot}
 use Rattle.judge.specs.Held.{held_in}
-use Rattle.judge.specs.Judge.{early, judged_with, Passed, slot_in, looked_in}
+use Rattle.judge.specs.Judge.{early, judged_by, judged, judged_first, Passed, slot_in, looked_in, slot_by}
 use Rattle.opened.specs.Slot.{has_slot}
-use Rattle.judge.proofs.Laws.{code_is, none_is, slot_is, passed, free-there}
+use Rattle.judge.proofs.Laws.{judged-ok, passed, free-there}
 use Rattle.judge.specs.Verdict.{Told}
-use Rattle.judge.proofs.Verdict.{call-early, call-own, call-done}
+use Rattle.judge.proofs.Verdict.{call-refused, call-own, call-done}
 use Rattle.change.specs.declared.Change.{Change}
 use Rattle.change.specs.declared.Change.TheVariants.{Keep, Update, Take}
 use Rattle.edit.specs.declared.Edit.{Edit}
@@ -41,8 +40,6 @@ use Rattle.plan.specs.Plan.{place_of, lacks_at, full_after, evicting, opening}
 use Rattle.plan.specs.Seen.{full-after}
 use Rattle.rules.specs.Both.{overdue_in, passes, ring_full}
 use Rattle.rules.specs.declared.Asked.{Asked}
-use Rattle.rules.specs.declared.Caching.{Caching}
-use Rattle.rules.specs.declared.Caching.TheVariants.{Left, Cached}
 use Rattle.rules.specs.declared.Outcome.{Outcome}
 use Rattle.factor_opened.specs.Opened.{InRoom, asked_at}
 use Rattle.forecast_opened.specs.Forecast.{forecast_at, outcome_at, outcome-declined}
@@ -53,12 +50,13 @@ use Rattle.suppressed_verdicts.specs.Opened.{asking_at, snapshot_at, get_does, g
 use Rattle.suppressed_verdicts.specs.Opened.{limit_at, inc_own, inc_does, inc_on, inc_outcome, inc}
 use Rattle.suppressed_verdicts.specs.Seen.{get-opened, factor-opened, inc-opened}
 use Rattle.suppressed_verdicts.specs.Standing.{Stood, stood-slot, stood-looked, place_inside}
+use Rattle.suppression.specs.declared.CachedFactor.{CachedFactor}
 
 -- ---- edits that can be carried out
 
 -- of a series without its expired buckets
 module _ (s : Settings) (w : List ℕ) (t at : ℕ) (out : Bool) (x : Slot) (o : Room w) (h : Known kind.Suppressed s w t at out x) where
-  pub get-edits : (k : Caching) → EditsAt w at (join_ticks s) t (recached x k (evicting x Nothing))
+  pub get-edits : (k : Option CachedFactor) → EditsAt w at (join_ticks s) t (recached x k (evicting x Nothing))
   unfolding recached
   get-edits k = evicting-edits kind.Suppressed s w t at out x o h (join_ticks s) (recached x k (evicting x Nothing)) refl refl refl refl tt
 
@@ -78,7 +76,7 @@ module _ (s : Settings) (w : List ℕ) (t at : ℕ) (out : Bool) (x : Slot) (o :
         free = λ z. leb-false (ring_of w) (length (drop k xs)) (rw z at g);
       }
 
-  inc-edits : (k : Caching) (limit c d : ℕ) → d ≤ c → passes c x.pass.live_total ≡ false →
+  inc-edits : (k : Option CachedFactor) (limit c d : ℕ) → d ≤ c → passes c x.pass.live_total ≡ false →
       full_after (ring_of w) (join_ticks s) t x.pass.expired x ≡ false →
       EditsAt w at (join_ticks s) t (recached x k (evicting x (Increment c d)))
   unfolding recached
@@ -86,7 +84,7 @@ module _ (s : Settings) (w : List ℕ) (t at : ℕ) (out : Bool) (x : Slot) (o :
       (inc-fits c d l n f)
 
 -- of a series that begins
-new-edits : (w : List ℕ) (at b t : ℕ) (o : Room w) (h : at < slots_of w) (x : Slot) (k : Caching) (limit c d f u v : ℕ) → d ≤ c → c ≤ most_total →
+new-edits : (w : List ℕ) (at b t : ℕ) (o : Room w) (h : at < slots_of w) (x : Slot) (k : Option CachedFactor) (limit c d f u v : ℕ) → d ≤ c → c ≤ most_total →
     EditsAt w at b t (recached x k (opening limit (Increment c d) f u v))
 unfolding recached
 new-edits w at b t o h x k limit c d f u v l n =
@@ -117,22 +115,22 @@ module _ (s : Settings) (w : List ℕ) (t : ℕ) (key : Sent) (e : early kind.Su
   -- y are the words after, u the snapshot
   pub get-done : (a : Asked) → a ≡ asked_at s w t x x.limit →
       (u : SuppressedRateLimitSnapshot) (ch : Change) (y : List ℕ) → u ≡ snapshot_at x a.factor → ch ≡ get_change x a.caching →
-      y ≡ applied w x.at key (join_ticks s) t ch → Told (Calls.get s w t key) (snapshot.Snapshot u) y
+      y ≡ applied w x.at key (join_ticks s) t ch → Told (Calls.get s w t key) (Ok u) y
   unfolding get_on first
   get-done a h u ch y g k q =
       rw (← get-opened s w t key, get-is a h)
-      (call-done snapshot.Refused kind.Suppressed s w t key [] (get_does s w t key x a) (snapshot.Snapshot u) y e refl
-      (record { answer = ap (λ (z : SuppressedRateLimitSnapshot). snapshot.Snapshot z) g; words = q ∙ ap (applied w x.at key (join_ticks s) t) k }))
+      (call-done refuse kind.Suppressed s w t key [] (get_does s w t key x a) (Ok u) y e refl
+      (record { answer = ap (λ (z : SuppressedRateLimitSnapshot). Ok z) g; words = q ∙ ap (applied w x.at key (join_ticks s) t) k }))
 
-  get_by : (k : Caching) (z : Bool) → x.series ≡ z → Applies w x.at (join_ticks s) t (cond z (Update (recached x k (evicting x Nothing))) Keep)
+  get_by : (k : Option CachedFactor) (z : Bool) → x.series ≡ z → Applies w x.at (join_ticks s) t (cond z (Update (recached x k (evicting x Nothing))) Keep)
   get_by k true h = get-edits s w t x.at true x opening-passed.room ((stood-slot s w t key opening-passed x p).known h) k
   get_by k false h = opening-passed.room
 
-  get-carries : (k : Caching) → Applies w x.at (join_ticks s) t (get_change x k)
+  get-carries : (k : Option CachedFactor) → Applies w x.at (join_ticks s) t (get_change x k)
   unfolding get_change
   get-carries k = get_by k x.series refl
 
-  pub get-applies : (k : Caching) (ch : Change) → ch ≡ get_change x k → Applies w x.at (join_ticks s) t ch
+  pub get-applies : (k : Option CachedFactor) (ch : Change) → ch ≡ get_change x k → Applies w x.at (join_ticks s) t ch
   get-applies k ch h = subst (λ (d : Change). Applies w x.at (join_ticks s) t d) (sym h) (get-carries k)
 
 -- ---- get_suppression_factor and inc, of a slot x that the code has found and looked at
@@ -166,20 +164,20 @@ module _ (s : Settings) (w : List ℕ) (t : ℕ) (key : Sent) (e : early kind.Su
     full_is : lacks_at (none_left w key.caller) x ≡ full
     full_is = sym (n ∙ ap (λ (z : Bool). lacks_at z x) g)
 
-    pub factor-full : full ≡ true → Told (Calls.get_factor s w t key) (factor.Refused 11) w
+    pub factor-full : full ≡ true → Told (Calls.get_factor s w t key) (refuse 11) w
     unfolding factor_on first
     factor-full f =
         let a : Asked = asked_at s w t x x.limit in
         rw (← factor-opened s w t key, factor-is a refl)
-        (call-own factor.Refused kind.Suppressed s w t key (factor_own w key x) (factor_does s w t key x a) 11 e (sym (rw (full_is, f))) (λ z. omega arith))
+        (call-own refuse kind.Suppressed s w t key (factor_own w key x) (factor_does s w t key x a) 11 e (sym (rw (full_is, f))) (λ z. omega arith))
 
     pub factor-done : full ≡ false → (a : Asked) → a ≡ asked_at s w t x x.limit →
         (ch : Change) (y : List ℕ) → ch ≡ factor_change x a.caching t → y ≡ applied w at key (join_ticks s) t ch →
-        Told (Calls.get_factor s w t key) (factor.Factor a.factor) y
+        Told (Calls.get_factor s w t key) (Ok a.factor) y
     unfolding factor_on first
     factor-done f a h ch y k q =
         rw (← factor-opened s w t key, factor-is a h)
-        (call-done factor.Refused kind.Suppressed s w t key (factor_own w key x) (factor_does s w t key x a) (factor.Factor a.factor) y e (rw (full_is, f))
+        (call-done refuse kind.Suppressed s w t key (factor_own w key x) (factor_does s w t key x a) (Ok a.factor) y e (rw (full_is, f))
         (record { answer = refl; words = q ∙ ap₂ (λ (i : ℕ) (d : Change). applied w i key (join_ticks s) t d) m k }))
 
     inside : lacks_at (none_left w key.caller) x ≡ false → place_of w x < slots_of w
@@ -189,20 +187,20 @@ module _ (s : Settings) (w : List ℕ) (t : ℕ) (key : Sent) (e : early kind.Su
     lone-by f true = opening-edits w (place_of w x) passing.room (inside (full_is ∙ f)) (join_ticks s) t 0 0 t 2 Nothing tt
     lone-by f false = opening-edits w (place_of w x) passing.room (inside (full_is ∙ f)) (join_ticks s) t 0 0 t 2 Nothing tt
 
-    lone-applies : full ≡ false → (z : Bool) (k : Caching) → Applies w (place_of w x) (join_ticks s) t (lone_change z k t)
-    lone-applies f z Left = passing.room
-    lone-applies f z (Cached k) = lone-by f z
+    lone-applies : full ≡ false → (z : Bool) (k : Option CachedFactor) → Applies w (place_of w x) (join_ticks s) t (lone_change z k t)
+    lone-applies f z None = passing.room
+    lone-applies f z (Some k) = lone-by f z
 
-    factor-by : full ≡ false → (k : Caching) (z : Bool) → x.series ≡ z →
+    factor-by : full ≡ false → (k : Option CachedFactor) (z : Bool) → x.series ≡ z →
         Applies w (place_of w x) (join_ticks s) t (cond z (cond z (Update (recached x k (evicting x Nothing))) Keep) (lone_change x.cached k t))
     factor-by f k true h = get-edits s w t (place_of w x) (overdue_in s t (held_in w key)) x passing.room (known-place h) k
     factor-by f k false h = lone-applies f x.cached k
 
-    factor-carries : full ≡ false → (k : Caching) → Applies w (place_of w x) (join_ticks s) t (factor_change x k t)
+    factor-carries : full ≡ false → (k : Option CachedFactor) → Applies w (place_of w x) (join_ticks s) t (factor_change x k t)
     unfolding factor_change get_change
     factor-carries f k = factor-by f k x.series refl
 
-    pub factor-applies : full ≡ false → (k : Caching) (ch : Change) → ch ≡ factor_change x k t → Applies w at (join_ticks s) t ch
+    pub factor-applies : full ≡ false → (k : Option CachedFactor) (ch : Change) → ch ≡ factor_change x k t → Applies w at (join_ticks s) t ch
     factor-applies f k ch h =
         subst (λ (i : ℕ). Applies w i (join_ticks s) t ch) (sym m)
         (subst (λ (d : Change). Applies w (place_of w x) (join_ticks s) t d) (sym h) (factor-carries f k))
@@ -235,7 +233,7 @@ module _ (s : Settings) (w : List ℕ) (t : ℕ) (key : Sent) (e : early kind.Su
         unfolding passes
         inc-total = ltb-false most_total (x.pass.live_total + c) none-late.1.1.0
 
-        edit-by : (k : Caching) (limit d : ℕ) → d ≤ c → (z : Bool) → x.series ≡ z →
+        edit-by : (k : Option CachedFactor) (limit d : ℕ) → d ≤ c → (z : Bool) → x.series ≡ z →
             EditsAt w (place_of w x) (join_ticks s) t
             (recached x k (cond z (evicting x (Increment c d)) (opening limit (Increment c d) x.factor x.factor_time x.used)))
         edit-by k limit d b true h =
@@ -249,7 +247,7 @@ module _ (s : Settings) (w : List ℕ) (t : ℕ) (key : Sent) (e : early kind.Su
         either y true g = g
         either y false g = g
 
-        inc-carries : (k : Caching) (limit d : ℕ) → d ≤ c → Applies w (place_of w x) (join_ticks s) t (inc_change x limit c d k)
+        inc-carries : (k : Option CachedFactor) (limit d : ℕ) → d ≤ c → Applies w (place_of w x) (join_ticks s) t (inc_change x limit c d k)
         unfolding inc_change inc_edit
         inc-carries k limit d b = either (recached x k (inc_edit x limit c d)) (has_slot x) (edit-by k limit d b x.series refl)
 
@@ -288,44 +286,43 @@ module _ (s : Settings) (w : List ℕ) (t : ℕ) (key : Sent) (e : early kind.Su
 
 -- ---- the calls, from what the judging function has found
 
-module _ (s : Settings) (w : List ℕ) (t : ℕ) (key : Sent) (x : Slot) (j : Judged) (h : j ≡ judged_with kind.Suppressed s w t key x) where
-  early-is : j.code ≡ early kind.Suppressed s w t key
-  early-is = ap (λ (y : Judged). y.code) h ∙ code_is kind.Suppressed s w t key x
+module _ (b : Bool) (s : Settings) (w : List ℕ) (t : ℕ) (key : Sent) (j : Judged) (h : Ok j ≡ judged_by b kind.Suppressed s w t key) where
+  pub not-early : early kind.Suppressed s w t key ≡ 0
+  not-early = (judged-ok kind.Suppressed s w t key b j h).0
 
-  pub not-early : j.code ≡ 0 → early kind.Suppressed s w t key ≡ 0
-  not-early z = sym early-is ∙ z
+  pub slot-found : j.slot ≡ slot_by b s w t key
+  slot-found = (judged-ok kind.Suppressed s w t key b j h).1
 
-  pub slot-found : j.code ≡ 0 → j.slot ≡ x
-  slot-found z = ap (λ (y : Judged). y.slot) h ∙ slot_is kind.Suppressed s w t key (not-early z)
+  pub none_found : j.none ≡ none_left w key.caller
+  none_found = (judged-ok kind.Suppressed s w t key b j h).2
 
-  pub none_found : j.code ≡ 0 → j.none ≡ none_left w key.caller
-  none_found z = ap (λ (y : Judged). y.none) h ∙ none_is kind.Suppressed s w t key x (not-early z)
+  pub room-found : Room w
+  room-found = (passed kind.Suppressed s w t key not-early).room
 
-  pub room-found : j.code ≡ 0 → Room w
-  room-found z = (passed kind.Suppressed s w t key (not-early z)).room
+  pub proper-found : Proper s
+  proper-found = (passed kind.Suppressed s w t key not-early).settings
 
-  pub proper-found : j.code ≡ 0 → Proper s
-  proper-found z = (passed kind.Suppressed s w t key (not-early z)).settings
+-- where the last second is asked for
+pub slot-in-room : (s : Settings) (w : List ℕ) (t : ℕ) (key : Sent) (j : Judged) → Ok j ≡ judged kind.Suppressed s w t key → InRoom w j.slot
+slot-in-room s w t key j h =
+    let there = stood-slot s w t key (passed kind.Suppressed s w t key (not-early false s w t key j h)) j.slot (slot-found false s w t key j h) in
+    record {
+      room = room-found false s w t key j h;
+      inside = λ y. (there.known y).inside;
+      sound = λ y. (there.known y).measured.sound;
+      some = λ y. (there.known y).measured.some;
+    }
 
-  -- where the last second is asked for
-  pub slot-in-room : x ≡ slot_in s w t key → j.code ≡ 0 → InRoom w j.slot
-  slot-in-room e z =
-      let there = stood-slot s w t key (passed kind.Suppressed s w t key (not-early z)) j.slot (slot-found z ∙ e) in
-      record {
-        room = room-found z;
-        inside = λ y. (there.known y).inside;
-        sound = λ y. (there.known y).measured.sound;
-        some = λ y. (there.known y).measured.some;
-      }
-
-  pub get-early : (j.code ≡ 0 → ⊥) → Told (Calls.get s w t key) (snapshot.Refused j.code) w
+module _ (s : Settings) (w : List ℕ) (t : ℕ) (key : Sent) (r : Refusal) where
+  pub get-early : Err r ≡ judged kind.Suppressed s w t key → Told (Calls.get s w t key) (Err r) w
   unfolding Calls.get
-  get-early z = call-early snapshot.Refused kind.Suppressed s w t key _ _ j.code early-is z
+  get-early e = call-refused refuse kind.Suppressed s w t key _ _ false r e
 
-  pub factor-early : (j.code ≡ 0 → ⊥) → Told (Calls.get_factor s w t key) (factor.Refused j.code) w
+  pub factor-early : Err r ≡ judged_first kind.Suppressed s w t key → Told (Calls.get_factor s w t key) (Err r) w
   unfolding Calls.get_factor
-  factor-early z = call-early factor.Refused kind.Suppressed s w t key _ _ j.code early-is z
+  factor-early e = call-refused refuse kind.Suppressed s w t key _ _ true r e
 
-  pub inc-early : (rate : RateLimit) (c draw : ℕ) → (j.code ≡ 0 → ⊥) → Told (Calls.inc s w t key rate c draw) (decision.Refused j.code) w
+  pub inc-early : (rate : RateLimit) (c draw : ℕ) → Err r ≡ judged_first kind.Suppressed s w t key →
+      Told (Calls.inc s w t key rate c draw) (decision.Refused r.0) w
   unfolding Calls.inc
-  inc-early rate c draw z = call-early decision.Refused kind.Suppressed s w t key _ _ j.code early-is z
+  inc-early rate c draw e = call-refused decision.Refused kind.Suppressed s w t key _ _ true r e

@@ -1,17 +1,13 @@
 -- The suppressed limiter's own calls as the code carries them out, on the key's slot x as it is opened. They are the calls of `Calls.antt` (`get-opened`,
 -- `factor-opened`, `inc-opened` in `Seen.antt`), and no contract names them.
 -- Assumes nothing.
-use Rattle.std.specs.Prelude.{Bool, cond, List, [], ◌∷◌, ℕ, Float}
+use Rattle.std.specs.Prelude.{Bool, cond, List, [], ◌∷◌, ℕ, Float, Result, Ok}
 use Rattle.answers.specs.HistoryMode.{no_snapshot}
 use Rattle.common.specs.Limits.{hard_word}
 use Rattle.settings.specs.Settings.{window_in, factor_in}
 use Rattle.settings.specs.Clock.{join_ticks}
-use Rattle.answers.specs.declared.FactorAnswer.{FactorAnswer}
-use Rattle.answers.specs.declared.FactorAnswer.TheVariants as factor
 use Rattle.answers.specs.declared.RateLimitDecision.{RateLimitDecision}
 use Rattle.answers.specs.declared.RateLimitDecision.TheVariants as decision
-use Rattle.answers.specs.declared.SnapshotAnswer.{SnapshotAnswer}
-use Rattle.answers.specs.declared.SnapshotAnswer.TheVariants as snapshot
 use Rattle.answers.specs.declared.SuppressedRateLimitSnapshot.{SuppressedRateLimitSnapshot}
 use Rattle.settings.specs.declared.Settings.{Settings}
 use Rattle.common.specs.declared.units.RateLimit.{RateLimit}
@@ -29,6 +25,8 @@ use Rattle.forecast_opened.specs.Forecast.{forecast_at, outcome_at}
 use Rattle.suppressed_edits.specs.Edits.{get_change, factor_change, inc_change}
 use Rattle.plan.specs.Plan.{place_of, lacks_at}
 use Rattle.suppressed_refusals.specs.Refusals.{inc_late}
+use Rattle.common.specs.Refusals.{refuse}
+use Rattle.common.specs.declared.refusal.Refusal.{Refusal}
 
 -- the factor of the slot as it stands
 abbrev pub asking_at : Settings → List ℕ → ℕ → Slot → Asked
@@ -41,13 +39,13 @@ abbrev pub snapshot_at : Slot → Float → SuppressedRateLimitSnapshot
 snapshot_at x f =
     cond x.series (record { total = x.pass.live_total; total_declined = x.pass.live_declined; suppression_factor = f }) no_snapshot
 
-abbrev pub get_does : Settings → List ℕ → ℕ → Sent → Slot → Asked → Verdict SnapshotAnswer
-get_does s w t key x a = verdict (snapshot.Snapshot (snapshot_at x a.factor)) (applied w x.at key (join_ticks s) t (get_change x a.caching))
+abbrev pub get_does : Settings → List ℕ → ℕ → Sent → Slot → Asked → Verdict (Result SuppressedRateLimitSnapshot Refusal)
+get_does s w t key x a = verdict (Ok (snapshot_at x a.factor)) (applied w x.at key (join_ticks s) t (get_change x a.caching))
 
-unfoldable pub get_on : Settings → List ℕ → ℕ → Sent → Slot → Asked → Verdict SnapshotAnswer
-get_on s w t key x a = call snapshot.Refused kind.Suppressed s w t key [] (get_does s w t key x a)
+unfoldable pub get_on : Settings → List ℕ → ℕ → Sent → Slot → Asked → Verdict (Result SuppressedRateLimitSnapshot Refusal)
+get_on s w t key x a = call refuse kind.Suppressed s w t key [] (get_does s w t key x a)
 
-unfoldable pub get : Settings → List ℕ → ℕ → Sent → Verdict SnapshotAnswer
+unfoldable pub get : Settings → List ℕ → ℕ → Sent → Verdict (Result SuppressedRateLimitSnapshot Refusal)
 get s w t key = get_on s w t key (slot_in s w t key) (asking_at s w t (slot_in s w t key))
 
 -- ---- get_suppression_factor
@@ -56,13 +54,13 @@ get s w t key = get_on s w t key (slot_in s w t key) (asking_at s w t (slot_in s
 abbrev pub factor_own : List ℕ → Sent → Slot → List (ℕ × Bool)
 factor_own w key x = (11, lacks_at (none_left w key.caller) x) ∷ []
 
-abbrev pub factor_does : Settings → List ℕ → ℕ → Sent → Slot → Asked → Verdict FactorAnswer
-factor_does s w t key x a = verdict (factor.Factor a.factor) (applied w (place_of w x) key (join_ticks s) t (factor_change x a.caching t))
+abbrev pub factor_does : Settings → List ℕ → ℕ → Sent → Slot → Asked → Verdict (Result Float Refusal)
+factor_does s w t key x a = verdict (Ok a.factor) (applied w (place_of w x) key (join_ticks s) t (factor_change x a.caching t))
 
-unfoldable pub factor_on : Settings → List ℕ → ℕ → Sent → Slot → Asked → Verdict FactorAnswer
-factor_on s w t key x a = call factor.Refused kind.Suppressed s w t key (factor_own w key x) (factor_does s w t key x a)
+unfoldable pub factor_on : Settings → List ℕ → ℕ → Sent → Slot → Asked → Verdict (Result Float Refusal)
+factor_on s w t key x a = call refuse kind.Suppressed s w t key (factor_own w key x) (factor_does s w t key x a)
 
-unfoldable pub get_factor : Settings → List ℕ → ℕ → Sent → Verdict FactorAnswer
+unfoldable pub get_factor : Settings → List ℕ → ℕ → Sent → Verdict (Result Float Refusal)
 get_factor s w t key = factor_on s w t key (looked_in s w t key) (asking_at s w t (looked_in s w t key))
 
 -- ---- inc

@@ -1,6 +1,6 @@
 -- What the code works out on an opened slot is what the suppressed limiter's rules say of what the key holds; so its calls are those of `Calls.antt`.
 -- Assumes nothing.
-use Rattle.std.specs.Prelude.{◌≡◌, Bool, not, ◌&&◌, ◌||◌, List, [], ◌∷◌, Float, length, drop}
+use Rattle.std.specs.Prelude.{◌≡◌, Bool, not, ◌&&◌, ◌||◌, List, [], ◌∷◌, Float, length, drop, Ok, Some}
 use Rattle.std.proofs.Math.Path.{refl, sym, ap, ap₂}
 use Rattle.std.proofs.Common.{◌∙◌, arith, length-drop, eq-eqb}
 use Rattle.std.proofs.Math.Bool.{true, false, cond}
@@ -12,9 +12,7 @@ use Rattle.common.specs.Limits.{cut_word, soft_word}
 use Rattle.common.specs.Ranges.{nil}
 use Rattle.settings.specs.Settings.{window_in, factor_in, cache_in}
 use Rattle.settings.specs.Clock.{age, ticks_in, window_ticks, look_ticks, join_ticks, cache_ticks, ticks-some, cut_below}
-use Rattle.answers.specs.declared.FactorAnswer.TheVariants as factor
 use Rattle.answers.specs.declared.RateLimitDecision.TheVariants as decision
-use Rattle.answers.specs.declared.SnapshotAnswer.TheVariants as snapshot
 use Rattle.answers.specs.declared.SuppressedRateLimitSnapshot.{SuppressedRateLimitSnapshot}
 use Rattle.settings.specs.declared.Settings.{Settings}
 use Rattle.common.specs.declared.units.RateLimit.{RateLimit}
@@ -22,7 +20,6 @@ use Rattle.rules.specs.Buckets.{recent, ahead, gone_if, out_if, last_second}
 use Rattle.ring.specs.declared.Bucket.{Bucket}
 use Rattle.ring.specs.Ring.{sum_of, counts, declineds, buckets}
 use Rattle.rules.specs.declared.Asked.{Asked}
-use Rattle.rules.specs.declared.Caching.TheVariants.{Cached}
 use Rattle.rules.specs.declared.FactorRule.{FactorRule}
 use Rattle.rules.specs.declared.FactorRule.TheVariants.{Nil}
 use Rattle.rules.specs.declared.Outcome.{Outcome}
@@ -47,11 +44,12 @@ use Rattle.suppressed_refusals.specs.Refusals.{inc_numbers, inc_late}
 use Rattle.suppressed_verdicts.specs.Calls as Calls
 use Rattle.suppressed_verdicts.specs.Opened.{asking_at, snapshot_at, get_on, get, factor_on, get_factor}
 use Rattle.suppressed_verdicts.specs.Opened.{limit_at, inc_outcome, inc_on, inc}
+use Rattle.common.specs.Refusals.{refuse}
 
 -- ---- "no series or no bucket 0", whatever the limits
 
 abbrev nil_asked : ℕ → Asked
-nil_asked t = record { factor = nil; caching = Cached (rules.cached_at nil t) }
+nil_asked t = record { factor = nil; caching = Some (rules.cached_at nil t) }
 
 fresh-none : (S H W n t : ℕ) (xs : List Bucket) → length xs ≡ 0 → rules.fresh_on S H W n t xs ≡ nil_asked t
 fresh-none S H W n t xs e =
@@ -231,28 +229,28 @@ module _ (s : Settings) (w : List ℕ) (t : ℕ) (key : Sent) where
   pub get-opened : get s w t key ≡ Calls.get s w t key
   unfolding get get_on Calls.get
   get-opened =
-      call-alike snapshot.Refused Suppressed s w t key _ _ _ _
+      call-alike refuse Suppressed s w t key _ _ _ _
       (λ p.
       let x = slot_in s w t key in
       let a = asking-is s t true h x (sees p) w (second_is p) in
       record {
         owns = refl;
         answers =
-            ap (λ (y : Asked). snapshot.Snapshot (snapshot_at x y.factor)) a ∙
-            ap (λ (y : SuppressedRateLimitSnapshot). snapshot.Snapshot y) (snapshot-is s t h x (sees p) (rules.asking s t true h).factor);
+            ap (λ (y : Asked). Ok (snapshot_at x y.factor)) a ∙
+            ap (λ (y : SuppressedRateLimitSnapshot). Ok y) (snapshot-is s t h x (sees p) (rules.asking s t true h).factor);
         wordings = ap (λ (y : Asked). applied w x.at key (join_ticks s) t (get_change x y.caching)) a;
       })
 
   pub factor-opened : get_factor s w t key ≡ Calls.get_factor s w t key
   unfolding get_factor factor_on Calls.get_factor
   factor-opened =
-      call-alike factor.Refused Suppressed s w t key _ _ _ _
+      call-alike refuse Suppressed s w t key _ _ _ _
       (λ p.
       let x = looked_in s w t key in
       let a = asking-is s t (overdue_in s t h) h x (looks p) w (second-looked p) in
       record {
         owns = ap (λ (z : Bool). (11, z) ∷ []) (lacks-is (window_ticks s) t (overdue_in s t h) h x (looks p) (none_left w key.caller));
-        answers = ap (λ (y : Asked). factor.Factor y.factor) a;
+        answers = ap (λ (y : Asked). Ok y.factor) a;
         wordings = ap (λ (y : Asked). applied w (place_of w x) key (join_ticks s) t (factor_change x y.caching t)) a;
       })
 

@@ -7,20 +7,17 @@ ghost use Rattle.suppression.specs.Factor.{larger, fresh_factor, factor_word_ok,
 use common::{WindowSize, double_of};
 
 // A factor and the reading at which it was cached.
-#[derive(Clone, Copy)]
+#[derive(Clone, Copy, Debug, PartialEq)]
 pub struct CachedFactor {
     pub suppression_factor: f64,
     pub time: u64,
 }
 
-// The larger of two rates, as Rust's `f64::max` of two numbers.
+// The larger of two rates, as Rust's `f64::max` of two numbers, whose contract leaves open which of two zeros it is.
 fn larger(a: f64, b: f64) -> f64
     ensures { result ≡ larger a b }
 {
-    if a < b {
-        return b;
-    }
-    a
+    if a < b { b } else { a }
 }
 
 // 0 at a zero perceived rate, else 1 - (S / W / perceived), where the perceived rate is the larger of total / W and the counts of the last second.
@@ -41,14 +38,11 @@ pub fn fresh_factor(soft: u64, total: u64, window: WindowSize, last_second: u64)
 pub fn is_factor(word: u64) -> bool
     ensures { result ≡ factor_word_ok word }
 {
-    if 9223372036854775808 <= word {
-        return false;
-    }
     let x = double_of(word);
-    if x >= 0.0 { x <= 1.0 } else { false }
+    word < 1 << 63 && x >= 0.0 && x <= 1.0
 }
 
-// Whether a factor lets a draw through: of the 2^53 draws as many as (1 - factor) * 2^53, all at 0 and none at 1.
+// Whether a factor lets a draw through: of the 2^53 draws as many as (1 - factor) * 2^53, all at 0 and none at 1. The rule's three cases, one by one.
 pub fn admits(factor: f64, draw: u64) -> bool
     ensures { result ≡ admitted factor draw }
 {

@@ -18,58 +18,32 @@ pub use tally::{Mark, Pass};
 fn older(w: u64, reading: u64, time: u64) -> bool
     ensures { result ≡ ltb w (reading - time) }
 {
-    w < ring::less(reading, time)
+    w < reading.saturating_sub(time)
 }
 
 // Whether the next bucket keeps all in order and within the totals.
 fn good(a: Tally, x: Bucket) -> bool
     ensures { result ≡ good_of a x }
 {
-    let lo = a.lo;
-    let left = a.left;
-    let spare = a.spare;
-    let c = x.count;
-    let d = x.declined;
-    let t = x.time;
-    if t < lo {
-        return false;
-    }
-    if c < d {
-        return false;
-    }
-    if left < c {
-        return false;
-    }
-    if spare < d {
-        return false;
-    }
-    true
+    a.lo <= x.time && x.declined <= x.count && x.count <= a.left && x.declined <= a.spare
 }
 
 // One bucket further.
 fn step(a: Tally, x: Bucket) -> Tally
     ensures { result ≡ step_of a x }
 {
-    let t = x.time;
-    let left = ring::less(a.left, x.count);
-    let spare = ring::less(a.spare, x.declined);
-    Tally { lo: t, left, spare }
+    Tally {
+        lo: x.time,
+        left: a.left.saturating_sub(x.count),
+        spare: a.spare.saturating_sub(x.declined),
+    }
 }
 
 // Whether no time is past `last`, and the totals are spent.
 fn ended(a: Tally, last: u64) -> bool
     ensures { result ≡ ended_of last a }
 {
-    let lo = a.lo;
-    let left = a.left;
-    let spare = a.spare;
-    if last < lo {
-        return false;
-    }
-    if left != 0 {
-        return false;
-    }
-    spare == 0
+    a.lo <= last && a.left == 0 && a.spare == 0
 }
 
 // The buckets one by one, up to one that is not in order.
@@ -85,14 +59,12 @@ fn sweep(b: &[u64], r: usize, last: u64) -> bool
         left: total,
         spare: declined,
     };
-    let mut k = 0;
-    while k < n {
+    for k in 0..n {
         let x = ring::nth(b, r, k);
         if !good(a, x) {
             return false;
         }
         a = step(a, x);
-        k += 1;
     }
     ended(a, last)
 }
@@ -102,13 +74,7 @@ fn is_sound(b: &[u64], r: usize, last: u64) -> bool
     requires { Shape r b.now }
     ensures { result ≡ sound_buckets r b.now last }
 {
-    if quick::shows_sound(b, r, last) {
-        return true;
-    }
-    if layout::MOST_TOTAL < b[layout::TOTAL] {
-        return false;
-    }
-    sweep(b, r, last)
+    quick::shows_sound(b, r, last) || (b[layout::TOTAL] <= layout::MOST_TOTAL && sweep(b, r, last))
 }
 
 // The oldest buckets that are over `window`, one by one; only these are read, and the next.
@@ -118,26 +84,23 @@ fn expire(b: &[u64], r: usize, reading: u64, window: u64) -> Gone
 {
     let n = ring::len(b, r);
     let mut j = b[layout::HEAD] as usize;
-    let mut k = 0;
     let mut total = b[layout::TOTAL];
     let mut declined = b[layout::DECLINED];
-    while k < n {
+    for k in 0..n {
         let x = ring::at(b, r, j);
-        let t = x.time;
-        if !older(window, reading, t) {
+        if !older(window, reading, x.time) {
             return Gone {
                 buckets: k,
                 total,
                 declined,
             };
         }
-        total = ring::less(total, x.count);
-        declined = ring::less(declined, x.declined);
+        total = total.saturating_sub(x.count);
+        declined = declined.saturating_sub(x.declined);
         j = quick::next(r, j);
-        k += 1;
     }
     Gone {
-        buckets: k,
+        buckets: n,
         total,
         declined,
     }
@@ -201,7 +164,7 @@ fn pass_fit(b: &[u64], r: usize, last: u64, reading: u64, window: u64, look: u64
         return no_pass();
     }
     let n = ring::len(b, r);
-    let end = ring::less(n as u64, 1) as usize;
+    let end = n.saturating_sub(1);
     let newest = ring::nth_or_none(b, r, end);
     let eldest = ring::nth_or_none(b, r, 0);
     let g = gone(b, r, last, eldest.time, newest.time, reading, window, look);

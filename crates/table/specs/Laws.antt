@@ -1,21 +1,22 @@
 -- The laws of a table: the test and the facts, where a controller stands, and what the code has tested turned into what `looked` says.
 -- Assumes nothing.
-use Rattle.std.specs.Prelude.{◌≡◌, Bool, cond, List, ◌≢◌, ℕ, ◌+◌, ◌-◌, ◌≤◌, ◌<◌, length, set, replicate, leb, ltb, eqb}
+use Rattle.std.specs.Prelude.{◌≡◌, Bool, cond, List, ◌≢◌, ℕ, ◌+◌, ◌-◌, ◌≤◌, ◌<◌, length, set, replicate, leb, ltb, eqb, Ok, Some, None}
 use Rattle.std.proofs.Math.Path.{refl, sym}
 use Rattle.std.proofs.Common.{ap, ◌∙◌, arith, length-set, get_or-set_same}
 use Rattle.std.proofs.Math.Bool.{true, false}
-use borrow.Author.Tests.{le-leb, lt-leb, leb-true, eq-eqb, ne_eqb, eqb-true, lt-ltb, le-ltb, ltb-true, ltb-false}
+use borrow.Author.Tests.{le-leb, leb-true, eq-eqb, ne_eqb, eqb-true, lt-ltb, le-ltb, ltb-true, ltb-false, lt-leb}
 use Rattle.base.specs.Decides.{and-true, other-true, not_so}
 use Rattle.base.specs.Seek.{seek-le, seek-passes}
 use Rattle.layout.specs.Layout.{slots_word, nobody, longest_key}
+use Rattle.common.specs.Refusals.{refuse}
 use Rattle.keys.specs.declared.Key.{Key}
 use Rattle.keys.specs.Keys.{key_of, key_fits}
-use Rattle.room.specs.Room.{Room, Directory, ring_of, key_at, key_sound, with_use, entered}
+use Rattle.room.specs.Room.{Room, Directory, ring_of, key_at, key_sound, with_use, entered, if_fits}
 use Rattle.room.specs.Entries.{held-length}
 use Rattle.frame.specs.Keys.{Bytes, key-fits}
 use Rattle.frame.specs.Distinct.{same-key}
 use Rattle.table.specs.Table.{most_controllers, table_words, known_of, is_table, Table, empty_table, TableMade, most_number, numbered, number_at, names}
-use Rattle.table.specs.Table.{entry_from, entry_for, is_known, once, sound_entry, sound_for, last_number, remembered, unseen, looked}
+use Rattle.table.specs.Table.{entry_from, entry_for, is_known, once, sound_entry, sound_for, last_number, remembered, looked, seen_sound, seen_at, seen_last}
 
 -- ---- a table: the test and the facts
 
@@ -44,16 +45,16 @@ no_room o r = omega (arith, o.no-ring, r.some)
 
 -- ---- made
 
-pub table-made : (w v : List ℕ) → length w ≡ table_words → v ≡ replicate (length w) 0 → TableMade w true v
+pub table-made : (w v : List ℕ) → length w ≡ table_words → v ≡ replicate (length w) 0 → TableMade w (Ok tt) v
 unfolding empty_table
 table-made w v l e =
     let f : eqb (length w) table_words ≡ true = eq-eqb _ _ l in
-    record { answer = sym f; words = e ∙ ap (λ (n : ℕ). replicate n 0) l ∙ sym (ap (λ (x : Bool). cond x empty_table w) f) }
+    record { answer = sym (ap if_fits f); words = e ∙ ap (λ (n : ℕ). replicate n 0) l ∙ sym (ap (λ (x : Bool). cond x empty_table w) f) }
 
-pub not_made : (w : List ℕ) → length w ≢ table_words → TableMade w false w
+pub not_made : (w : List ℕ) → length w ≢ table_words → TableMade w (refuse 5) w
 not_made w z =
     let f : eqb (length w) table_words ≡ false = ne_eqb _ _ z in
-    record { answer = sym f; words = sym (ap (λ (x : Bool). cond x empty_table w) f) }
+    record { answer = sym (ap if_fits f); words = sym (ap (λ (x : Bool). cond x empty_table w) f) }
 
 -- ---- where a controller stands
 
@@ -104,14 +105,6 @@ module _ (w key : List ℕ) where
 
 -- ---- a number, and an entry that stands once
 
-pub number-low : (n : ℕ) → n < 1 → false ≡ numbered n
-unfolding numbered
-number-low n h = sym (rw (lt-leb 1 n h))
-
-pub number-else : (n : ℕ) → 1 ≤ n → leb n most_number ≡ numbered n
-unfolding numbered
-number-else n h = sym (rw (le-leb 1 n h))
-
 pub number_in : (n : ℕ) → numbered n ≡ true → (1 ≤ n) × (n ≤ most_number)
 unfolding numbered
 number_in n e = let p = and-true (leb 1 n) _ e in (leb-true _ _ p.0, leb-true _ _ p.1)
@@ -152,11 +145,11 @@ module _ (w key : List ℕ) where
 
   -- ---- what the code has tested, as `looked` says it
 
-  pub looked-not : (Table w → ⊥) → unseen ≡ looked w key
+  pub looked-not : (Table w → ⊥) → None ≡ looked w key
   unfolding looked
   looked-not z = sym (rw (sound-not z))
 
-  pub looked-new : (at : ℕ) → Table w → at ≡ entry_for w key → known_of w ≤ at → record { sound = true; at = at; last = 0 } ≡ looked w key
+  pub looked-new : (at : ℕ) → Table w → at ≡ entry_for w key → known_of w ≤ at → Some (record { at = at; last = 0 }) ≡ looked w key
   unfolding looked last_number
   looked-new at o e h =
       let u : is_known w key ≡ false = known-no w key (omega (arith, e)) in
@@ -166,34 +159,34 @@ module _ (w key : List ℕ) where
     known : is_known w key ≡ true
     known = known-yes w key (omega (arith, e))
 
-    pub looked-unsound : once w at ≡ false → unseen ≡ looked w key
+    pub looked-unsound : once w at ≡ false → None ≡ looked w key
     unfolding looked
     looked-unsound f = sym (rw (sound-known o y known, ← e, f))
 
-    pub looked-known : (n : ℕ) → n ≡ number_at w at → once w at ≡ true → record { sound = true; at = at; last = n } ≡ looked w key
+    pub looked-known : (n : ℕ) → n ≡ number_at w at → once w at ≡ true → Some (record { at = at; last = n }) ≡ looked w key
     unfolding looked last_number
     looked-known n f g = sym (rw (sound-known o y known, ← e, g, known, f))
 
   -- ---- a look's fields, to whoever has looked
 
-  pub looked-sound : (looked w key).sound ≡ sound_for w key
+  pub looked-sound : seen_sound (looked w key) ≡ sound_for w key
   unfolding looked
   looked-sound = go (sound_for w key)
     where
-      go : (x : Bool) → (cond x (record { sound = true; at = entry_for w key; last = last_number w key }) unseen).sound ≡ x
+      go : (x : Bool) → seen_sound (cond x (Some (record { at = entry_for w key; last = last_number w key })) None) ≡ x
       go true = refl
       go false = refl
 
   -- an unsound table has no last number
-  pub looked-nothing : sound_for w key ≡ false → (looked w key).last ≡ 0
+  pub looked-nothing : sound_for w key ≡ false → seen_last (looked w key) ≡ 0
   unfolding looked
   looked-nothing e = rw e
 
-  pub looked-at : sound_for w key ≡ true → (looked w key).at ≡ entry_for w key
+  pub looked-at : sound_for w key ≡ true → seen_at (looked w key) ≡ entry_for w key
   unfolding looked
   looked-at e = rw e
 
-  pub looked-last : sound_for w key ≡ true → (looked w key).last ≡ last_number w key
+  pub looked-last : sound_for w key ≡ true → seen_last (looked w key) ≡ last_number w key
   unfolding looked
   looked-last e = rw e
 
@@ -220,3 +213,11 @@ raised-ready w o h =
 pub raised-length : (w v : List ℕ) (i number : ℕ) (k : Key) → v ≡ entered (set w slots_word (known_of w + 1)) i number k → length v ≡ length w
 unfolding entered
 raised-length w v i number k e = ap length e ∙ simp (length-set, held-length)
+
+pub number-low : (n : ℕ) → n < 1 → false ≡ numbered n
+unfolding numbered
+number-low n h = sym (rw (lt-leb 1 n h))
+
+pub number-else : (n : ℕ) → 1 ≤ n → leb n most_number ≡ numbered n
+unfolding numbered
+number-else n h = sym (rw (le-leb 1 n h))

@@ -2,12 +2,13 @@
 -- table knows, at most 64; the next two, a room's ring and last reading, are 0, so no table is a room. An entry has the controller's last admitted number
 -- where a room's has the use, then the key, which nobody holds: a controller is known by its bytes alone. w are the words of a table.
 -- Assumes nothing.
-use Rattle.std.specs.Prelude.{◌≡◌, Bool, true, false, cond, not, ◌&&◌, ◌||◌, List, ℕ, ◌+◌, ◌-◌, ◌*◌, ◌≤◌, ◌<◌, length, set, replicate, leb, ltb, eqb}
+use Rattle.std.specs.Prelude.{◌≡◌, Bool, true, false, cond, not, ◌&&◌, ◌||◌, List, ℕ, ◌+◌, ◌-◌, ◌*◌, ◌≤◌, ◌<◌, length, set, replicate, leb, ltb, eqb, Result, Option, Some, None}
 use Rattle.base.specs.Seek.{seek}
+use Rattle.common.specs.declared.refusal.Refusal.{Refusal}
 use Rattle.layout.specs.Layout.{slots_word, header_words, entry_words, nobody, most_slots, longest_key}
 use Rattle.keys.specs.declared.Key.{Key}
 use Rattle.keys.specs.Keys.{key_of, same_key}
-use Rattle.room.specs.Room.{slots_of, ring_of, last_of, use_of, key_at, key_sound, entered, with_use}
+use Rattle.room.specs.Room.{slots_of, ring_of, last_of, use_of, key_at, key_sound, entered, with_use, if_fits}
 use Rattle.table.specs.declared.Looked.{Looked}
 
 -- ---- lengths
@@ -38,9 +39,9 @@ pub record Table (w : List ℕ) : Type 0 where
 unfoldable pub empty_table : List ℕ
 empty_table = replicate table_words 0
 
--- making one in lent words: said yes exactly where they fit; else every word stays
-pub record TableMade (w : List ℕ) (x : Bool) (v : List ℕ) : Type 0 where
-  pub answer : x ≡ eqb (length w) table_words
+-- making one in lent words: done exactly where they fit; else every word stays
+pub record TableMade (w : List ℕ) (x : Result (Unit {0}) Refusal) (v : List ℕ) : Type 0 where
+  pub answer : x ≡ if_fits (eqb (length w) table_words)
   pub words : v ≡ cond (eqb (length w) table_words) empty_table w
 
 -- ---- a controller's entry
@@ -97,11 +98,21 @@ remembered w key number =
 -- ---- both at once, as the code does it
 
 -- a look at the table: where the controller stands or is to stand, and its last number; nothing where the table is unsound
-abbrev pub unseen : Looked
-unseen = record { sound = false; at = 0; last = 0 }
+unfoldable pub looked : List ℕ → List ℕ → Option Looked
+looked w key = cond (sound_for w key) (Some (record { at = entry_for w key; last = last_number w key })) None
 
-unfoldable pub looked : List ℕ → List ℕ → Looked
-looked w key = cond (sound_for w key) (record { sound = true; at = entry_for w key; last = last_number w key }) unseen
+-- what a look says: whether the table is sound, and if so where the controller stands or is to stand, and its last number
+abbrev pub seen_sound : Option Looked → Bool
+seen_sound (Some x) = true
+seen_sound None = false
+
+abbrev pub seen_at : Option Looked → ℕ
+seen_at (Some x) = x.at
+seen_at None = 0
+
+abbrev pub seen_last : Option Looked → ℕ
+seen_last (Some x) = x.last
+seen_last None = 0
 
 -- `at` is where the controller stands, or is to stand
 pub record Stands (w key : List ℕ) (at : ℕ) : Type 0 where

@@ -7,22 +7,22 @@ ghost use Rattle.base.specs.Decides.{Decides};
 ghost use Rattle.layout.specs.Layout.{slots_word};
 ghost use Rattle.room.specs.Room.{entered};
 ghost use Rattle.table.specs.Table.{Table, TableMade, Stands, most_controllers, known_of, entry_from, entry_for, numbered, once};
-ghost use Rattle.table.specs.Table.{unseen, looked, remembered};
+ghost use Rattle.table.specs.Table.{looked, remembered};
 
+use common::Refusal;
 use keys::Key;
 
 pub const MOST_CONTROLLERS: usize = layout::MOST_SLOTS as usize;
 
-const MOST_NUMBER: u64 = 4294967295;
+const MOST_NUMBER: u64 = u32::MAX as u64;
 
 const WORDS: usize = layout::HEADER + layout::ENTRY * MOST_CONTROLLERS;
 
 const LONGEST_KEY: usize = layout::LONGEST_KEY as usize;
 
-// Whether the table is sound for a controller, and if so its entry and its last number: the number of entries and 0 where it is not known.
+// A controller's entry and its last number: the number of entries and 0 where it is not known.
 #[derive(Clone, Copy)]
 pub struct Looked {
-    pub sound: bool,
     pub at: usize,
     pub last: u64,
 }
@@ -31,30 +31,21 @@ pub struct Looked {
 pub fn sized(w: &[u64]) -> bool
     ensures { Decides result (Table w.now) }
 {
-    if w.len() != WORDS {
-        return false;
-    }
-    if layout::MOST_SLOTS < w[layout::SLOTS] {
-        return false;
-    }
-    if w[layout::RING] != 0 {
-        return false;
-    }
-    if w[layout::LAST] != 0 {
-        return false;
-    }
-    true
+    w.len() == WORDS
+        && w[layout::SLOTS] <= layout::MOST_SLOTS
+        && w[layout::RING] == 0
+        && w[layout::LAST] == 0
 }
 
 // Makes an empty table of the lent words, or says that they do not fit and leaves them.
-pub fn make(w: &mut [u64]) -> bool
+pub fn make(w: &mut [u64]) -> Result<(), Refusal>
     ensures { TableMade w.old result w.new }
 {
     if w.len() != WORDS {
-        return false;
+        return Err(Refusal::BAD_ROOM);
     }
     room::zero(w);
-    true
+    Ok(())
 }
 
 // The lowest entry with key `k` from `from` on, or the number of entries.
@@ -63,14 +54,12 @@ fn entry_from(w: &[u64], k: Key, from: usize) -> usize
     ensures { result ≡ entry_from w.now k from }
 {
     let known = w[layout::SLOTS] as usize;
-    let mut i = from;
-    while i < known {
+    for i in from..known {
         if room::is_key_at(w, k, i) {
             return i;
         }
-        i += 1;
     }
-    i
+    known
 }
 
 // The controller's entry, or the number of entries.
@@ -88,10 +77,7 @@ fn entry_for(w: &[u64], key: &[u8]) -> usize
 pub fn is_number(number: u64) -> bool
     ensures { result ≡ numbered number }
 {
-    if number < 1 {
-        return false;
-    }
-    number <= MOST_NUMBER
+    1 <= number && number <= MOST_NUMBER
 }
 
 // Whether entry `at`'s number is in range, and no entry behind it has its key.
@@ -99,47 +85,28 @@ fn once(w: &[u64], at: usize) -> bool
     requires { Table w.now × (at < known_of w.now) }
     ensures { result ≡ once w.now at }
 {
-    if !is_number(room::use_of(w, at)) {
-        return false;
-    }
     let known = w[layout::SLOTS] as usize;
-    let next = at + 1;
-    entry_from(w, room::key_at(w, at), next) == known
+    is_number(room::use_of(w, at)) && entry_from(w, room::key_at(w, at), at + 1) == known
 }
 
-fn unsound() -> Looked
-    ensures { result ≡ unseen }
-{
-    Looked {
-        sound: false,
-        at: 0,
-        last: 0,
-    }
-}
-
-// Judges the table, and looks the controller up. The key of an entry found is the one that was looked for, so it is not judged.
-pub fn look(w: &[u64], key: &[u8]) -> Looked
+// Judges the table, and looks the controller up: nothing where it is unsound. The key of an entry found is the one that was looked for, so it is not judged.
+pub fn look(w: &[u64], key: &[u8]) -> Option<Looked>
     ensures { result ≡ looked w.now key.now }
 {
     if !sized(w) {
-        return unsound();
+        return None;
     }
     let at = entry_for(w, key);
     if w[layout::SLOTS] as usize <= at {
-        return Looked {
-            sound: true,
-            at,
-            last: 0,
-        };
+        return Some(Looked { at, last: 0 });
     }
     if !once(w, at) {
-        return unsound();
+        return None;
     }
-    Looked {
-        sound: true,
+    Some(Looked {
         at,
         last: room::use_of(w, at),
-    }
+    })
 }
 
 // Enters a controller behind the others.

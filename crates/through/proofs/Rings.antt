@@ -1,16 +1,14 @@
 -- Refusal 12 through a gateway (document 02, ticket 4): with a ring that is long enough no shot is told it either, nor any call between, with the table's
 -- words any at the beginning.
 -- Assumes nothing.
-use Rattle.std.specs.Prelude.{◌≡◌, Bool, not, ◌||◌, cond, List, [], ◌∷◌, ◌++◌, ◌≢◌, ℕ, ◌≤◌}
+use Rattle.std.specs.Prelude.{◌≡◌, Bool, not, ◌||◌, cond, List, [], ◌∷◌, ◌++◌, ◌≢◌, ℕ, ◌≤◌, Ok}
 use Rattle.std.proofs.Math.Path.{refl, ap}
 use Rattle.std.proofs.Common.{sym, subst, ◌∙◌, arith}
 use Rattle.std.proofs.Math.Bool.{true, false, false≢true}
 use Rattle.std.proofs.Math.Dec.{eqb}
 use Rattle.std.proofs.lemmas.Bool.{eqb-false}
 use Rattle.answers.specs.Rows.{shot_row, done_row, number_of}
-use Rattle.answers.specs.declared.DoneAnswer.TheVariants as done
-use Rattle.answers.specs.declared.ShotAnswer.TheVariants.{Refused}
-use Rattle.common.specs.Refusals.{first}
+use Rattle.common.specs.Refusals.{first, refuse}
 use Rattle.common.specs.declared.units.RateLimit.{RateLimit}
 use Rattle.settings.specs.Settings.{faults}
 use Rattle.settings.specs.declared.Settings.{Settings}
@@ -70,7 +68,7 @@ module _ (s : Settings) (w r : List ℕ) (t : ℕ) (key : Sent) (number : ℕ) (
     where
       go : (z : Bool) → eqb (first (shot_turns s w r t key number rate draw)) 0 ≡ z →
           number_of (shot_row (cond z (passed (is_held w key.bytes number) s w r t key number rate draw).answer
-          (Refused (first (shot_turns s w r t key number rate draw))))) ≡ 12 → ⊥
+          (refuse (first (shot_turns s w r t key number rate draw))))) ≡ 12 → ⊥
       go true q h = passed-untold (is_held w key.bytes number) h
       go false q h =
           let m = first-met (shot_turns s w r t key number rate draw) (eqb-false _ 0 q) in
@@ -80,7 +78,7 @@ season-untold : (w : List ℕ) → number_of (done_row (new_season w).answer) �
 unfolding new_season Room.unless_refused first done_row
 season-untold w = go (is_table w)
   where
-    go : (z : Bool) → number_of (done_row (cond (eqb (cond (not z) 5 0) 0) done.Done (done.Refused (cond (not z) 5 0)))) ≢ 12
+    go : (z : Bool) → number_of (done_row (cond (eqb (cond (not z) 5 0) 0) (Ok tt) (refuse (cond (not z) 5 0)))) ≢ 12
     go true e = omega (arith, e)
     go false e = omega (arith, e)
 

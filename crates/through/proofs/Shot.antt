@@ -12,8 +12,7 @@ use Rattle.base.specs.Decides.{and-true}
 use Rattle.answers.specs.Rows.{decision_row, shot_row}
 use Rattle.answers.specs.declared.RateLimitDecision.{RateLimitDecision}
 use Rattle.answers.specs.declared.RateLimitDecision.TheVariants as decision
-use Rattle.answers.specs.declared.ShotAnswer.TheVariants.{Refused}
-use Rattle.common.specs.Refusals.{first, first-both}
+use Rattle.common.specs.Refusals.{first, first-both, refuse}
 use Rattle.common.specs.declared.units.RateLimit.{RateLimit}
 use Rattle.settings.specs.Settings.{faults}
 use Rattle.settings.specs.declared.Settings.{Settings}
@@ -64,7 +63,7 @@ module _ (s : Settings) (w r : List ℕ) (t : ℕ) (key : Sent) (number : ℕ) (
       go : (h : Bool) → is_held w key.bytes number ≡ h → (z : Bool) →
           let n = first (gate_turns w key.bytes number ++ unless_held h (limiter_turns s w r t key rate draw)) in
           let v = passed h s w r t key number rate draw in
-          eqb n 0 ≡ z → Quiet r (record { answer = cond z v.answer (Refused n); table = cond z v.table w; room = cond z v.room r })
+          eqb n 0 ≡ z → Quiet r (record { answer = cond z v.answer (refuse n); table = cond z v.table w; room = cond z v.room r })
       go true p true q = record { room = refl; none = refl; said = inl refl }
       go true p false q = record { room = refl; none = refl; said = inr (eqb-false _ 0 q) }
       go false p true q = absurd (false≢true (sym e ∙ then-asks (eqb-true _ 0 q) p))

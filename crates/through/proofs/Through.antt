@@ -1,11 +1,10 @@
 -- Demand 3 through a gateway: ceiling and floor of a controller's shots, with the table's words any at the beginning, and any calls, shots of any
 -- controllers of either party and new seasons between.
 -- Assumes nothing.
-use Rattle.std.specs.Prelude.{◌≡◌, refl, Bool, true, false, cond, List, [], ◌∷◌, ◌≢◌, ◌⊎◌, ℕ, ◌+◌, ◌≤◌}
+use Rattle.std.specs.Prelude.{◌≡◌, refl, Bool, true, false, cond, List, [], ◌∷◌, ◌≢◌, ◌⊎◌, ℕ, ◌+◌, ◌≤◌, Ok}
 use Rattle.std.proofs.Common.{sym, ap, subst, ◌∙◌, inl, inr}
 use Rattle.answers.specs.Rows.{decision_row, shot_row, number_of}
 use Rattle.answers.specs.declared.RateLimitDecision.TheVariants.{Allowed}
-use Rattle.answers.specs.declared.ShotAnswer.TheVariants.{Held, Decided}
 use Rattle.common.specs.declared.units.RateLimit.{RateLimit}
 use Rattle.settings.specs.declared.Settings.{Settings}
 use Rattle.rules.specs.declared.RoomKind.TheVariants.{Suppressed}
@@ -25,6 +24,7 @@ use Rattle.through.proofs.Shot.{as-shot-row, shot-quiet, limiter-answers}
 use Rattle.through.specs.Events.{Event, shot, call, season, Lent, lent, left, asking, asked}
 use Rattle.through.proofs.Events.{same-room, same_log}
 use Rattle.through.specs.Through.{By, EachBy, CeilingThrough, FloorThrough}
+use Rattle.answers.specs.declared.ShotOutcome.TheVariants.{Held, Decided}
 
 -- ---- what is asked of the events: a shot is an increment by 1
 
@@ -78,10 +78,10 @@ carry-floor P f s slots ring table key rate events t number given draw is le p n
     same : r ≡ words Suppressed s (empty slots ring) calls
     same = same-room s x events
 
-    go : (z : Bool) → asks w key.bytes number ≡ z → (Gateway.shot s w r t key number given draw).answer ≡ Decided Allowed
+    go : (z : Bool) → asks w key.bytes number ≡ z → (Gateway.shot s w r t key number given draw).answer ≡ Ok (Decided Allowed)
     go false e = absurd (out (shot-quiet s w r t key number given draw e).said)
       where
-        out : ((Gateway.shot s w r t key number given draw).answer ≡ Held) ⊎ (number_of (shot_row (Gateway.shot s w r t key number given draw).answer) ≢ 0) → ⊥
+        out : ((Gateway.shot s w r t key number given draw).answer ≡ Ok Held) ⊎ (number_of (shot_row (Gateway.shot s w r t key number given draw).answer) ≢ 0) → ⊥
         out (inl q) = h q
         out (inr q) = q n
     go true e =

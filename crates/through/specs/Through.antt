@@ -1,10 +1,9 @@
 -- Demand 3 through a gateway: ceiling and floor of a controller's shots, with the table's words any at the beginning, and any calls, shots of any
 -- controllers of either party and new seasons between.
 -- Assumes nothing.
-use Rattle.std.specs.Prelude.{◌≡◌, List, [], ◌∷◌, ◌≢◌, ℕ, ◌+◌, ◌≤◌}
+use Rattle.std.specs.Prelude.{◌≡◌, List, [], ◌∷◌, ◌≢◌, ℕ, ◌+◌, ◌≤◌, Ok}
 use Rattle.answers.specs.Rows.{shot_row, number_of}
 use Rattle.answers.specs.declared.RateLimitDecision.TheVariants.{Allowed}
-use Rattle.answers.specs.declared.ShotAnswer.TheVariants.{Held, Decided}
 use Rattle.common.specs.declared.units.RateLimit.{RateLimit}
 use Rattle.settings.specs.Clock.{window_ticks, join_ticks}
 use Rattle.settings.specs.declared.Settings.{Settings}
@@ -16,6 +15,7 @@ use Rattle.admissions.specs.Log.{in_span, aged}
 use Rattle.steps.specs.Ops.{draws}
 use Rattle.demand3.specs.History.{IsKey, Clause}
 use Rattle.through.specs.Events.{Event, shot, call, season, Lent, lent, left, admitted_in}
+use Rattle.answers.specs.declared.ShotOutcome.TheVariants.{Held, Decided}
 
 -- ---- what is asked of the events: a shot is an increment by 1
 
@@ -45,5 +45,5 @@ FloorThrough back limit P =
     let x = lent table (empty slots ring) in
     let y = left s x events in
     let answer = (Gateway.shot s y.table y.room t key number given draw).answer in
-    EachBy P s key rate x (shot t key number given draw ∷ events) → number_of (shot_row answer) ≡ 0 → answer ≢ Held →
-    1 + aged (back s) t (admitted_in s key x events) ≤ limit s rate → answer ≡ Decided Allowed
+    EachBy P s key rate x (shot t key number given draw ∷ events) → number_of (shot_row answer) ≡ 0 → answer ≢ Ok Held →
+    1 + aged (back s) t (admitted_in s key x events) ≤ limit s rate → answer ≡ Ok (Decided Allowed)

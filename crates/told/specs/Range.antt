@@ -1,6 +1,6 @@
 -- Which lines are read back, in the words of document 02, ticket 1: what reading a line answers is said by what is printed.
 -- Assumes nothing.
-use Rattle.std.specs.Prelude.{◌≡◌, Bool, true, ◌||◌, List, ◌≢◌, ℕ, ◌≤◌, T, leb, eqb, Float}
+use Rattle.std.specs.Prelude.{◌≡◌, Bool, true, ◌||◌, List, ◌≢◌, ℕ, ◌≤◌, T, leb, eqb, Float, Result, Ok, Err}
 use Rattle.std.specs.Float.{binary64}
 use Rattle.std.specs.Float.Ieee.{fits, to_bits}
 use Rattle.fields.specs.Ranges.{largest, exact_largest}
@@ -10,8 +10,7 @@ use Rattle.told.specs.declared.Stored.{Stored}
 use Rattle.told.specs.declared.Told.{Told}
 use Rattle.told.specs.declared.Told.TheVariants.{Allowed, Rejected, Suppressed, Value, Refused}
 use Rattle.told.specs.declared.ToldLine.{ToldLine}
-use Rattle.told.specs.declared.LineAnswer.{LineAnswer}
-use Rattle.told.specs.declared.LineAnswer.TheVariants as answer
+use Rattle.common.specs.declared.refusal.Refusal.{Refusal}
 
 -- ---- "some reading, answer or refusal 1 to 14, and two totals"
 
@@ -59,6 +58,6 @@ pub record Unread (line : List ℕ) (n : ℕ) : Type 0 where
   pub number : n ≡ bad_line
   pub other : (l : ToldLine) → Fits l → line ≢ text_of l
 
-abbrev pub Reads : List ℕ → LineAnswer → Type 0
-Reads line (answer.Line l) = ReadsAs line l
-Reads line (answer.Refused n) = Unread line n
+abbrev pub Reads : List ℕ → Result ToldLine Refusal → Type 0
+Reads line (Ok l) = ReadsAs line l
+Reads line (Err e) = Unread line e.0

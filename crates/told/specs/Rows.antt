@@ -1,14 +1,14 @@
 -- A line that was read, as a row of seven numbers: 0 or the refusal's number, which case it is (0 for a refusal), the reading, two values, and the totals.
 -- The cases of a decision are numbered as in its own row. A double stands in a row by its bits, yes by 1.
 -- Assumes nothing.
-use Rattle.std.specs.Prelude.{List, [], ◌∷◌, ℕ}
+use Rattle.std.specs.Prelude.{List, [], ◌∷◌, ℕ, Result, Ok, Err}
 use Rattle.answers.specs.Rows.{said, bits}
 use Rattle.told.specs.Told.{no_stored}
 use Rattle.told.specs.declared.Stored.{Stored}
 use Rattle.told.specs.declared.Told.{Told}
 use Rattle.told.specs.declared.Told.TheVariants.{Allowed, Rejected, Suppressed, Value, Refused}
-use Rattle.told.specs.declared.LineAnswer.{LineAnswer}
-use Rattle.told.specs.declared.LineAnswer.TheVariants as answer
+use Rattle.told.specs.declared.ToldLine.{ToldLine}
+use Rattle.common.specs.declared.refusal.Refusal.{Refusal}
 
 abbrev pub row_of_seven : ℕ → ℕ → ℕ → ℕ → ℕ → Stored → List ℕ
 row_of_seven number case t a b x = number ∷ case ∷ t ∷ a ∷ b ∷ x.total ∷ x.declined ∷ []
@@ -21,6 +21,6 @@ told_row t (Suppressed factor admitted x) = row_of_seven 0 3 t (bits factor) (sa
 told_row t (Value factor x) = row_of_seven 0 5 t (bits factor) 0 x
 told_row t (Refused n) = row_of_seven 0 6 t n 0 no_stored
 
-unfoldable pub line_row : LineAnswer → List ℕ
-line_row (answer.Line l) = told_row l.t l.told
-line_row (answer.Refused n) = row_of_seven n 0 0 0 0 no_stored
+unfoldable pub line_row : Result ToldLine Refusal → List ℕ
+line_row (Ok l) = told_row l.t l.told
+line_row (Err e) = row_of_seven e.0 0 0 0 0 no_stored

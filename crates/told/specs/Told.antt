@@ -1,17 +1,13 @@
 -- What a line of `desk` tells of each answer, and its line, in 01's words: these are the definitions to hold beside the page.
 -- t is the reading, x what is stored after the call.
 -- Assumes nothing.
-use Rattle.std.specs.Prelude.{Bool, true, false, List, ℕ}
+use Rattle.std.specs.Prelude.{Bool, true, false, List, ℕ, Result, Ok, Err, Option, Some, None}
 use Rattle.std.specs.Float.{binary64}
 use Rattle.std.specs.Float.Ieee.{to_bits}
 use Rattle.common.specs.Ranges.{nil}
 use Rattle.common.specs.declared.units.WindowSize.{WindowSize}
 use Rattle.answers.specs.declared.RateLimitDecision.{RateLimitDecision}
 use Rattle.answers.specs.declared.RateLimitDecision.TheVariants as decision
-use Rattle.answers.specs.declared.SnapshotAnswer.{SnapshotAnswer}
-use Rattle.answers.specs.declared.SnapshotAnswer.TheVariants as snapshot
-use Rattle.answers.specs.declared.TotalAnswer.{TotalAnswer}
-use Rattle.answers.specs.declared.TotalAnswer.TheVariants as total
 use Rattle.printing.specs.Answers.{show_answer}
 use Rattle.printing.specs.declared.Answer.{Answer}
 use Rattle.printing.specs.declared.Answer.TheVariants as answer
@@ -20,8 +16,8 @@ use Rattle.told.specs.declared.Stored.{Stored}
 use Rattle.told.specs.declared.Told.{Told}
 use Rattle.told.specs.declared.Told.TheVariants.{Allowed, Rejected, Suppressed, Value, Refused}
 use Rattle.told.specs.declared.ToldLine.{ToldLine}
-use Rattle.told.specs.declared.DecisionTold.{DecisionTold}
-use Rattle.told.specs.declared.DecisionTold.TheVariants.{Decision, NoDecision}
+use Rattle.common.specs.declared.refusal.Refusal.{Refusal}
+use Rattle.answers.specs.declared.SuppressedRateLimitSnapshot.{SuppressedRateLimitSnapshot}
 
 -- "14: a bad line"
 abbrev pub bad_line : ℕ
@@ -41,21 +37,21 @@ decided (decision.Suppressed factor admitted) x = Suppressed factor admitted x
 decided (decision.Refused n) x = Refused n
 
 -- "live for aget": the live total that it answers; an absolute room declines nothing
-unfoldable pub live : TotalAnswer → Told
-live (total.Total n) = Value nil (record { total = n; declined = 0 })
-live (total.Refused n) = Refused n
+unfoldable pub live : Result ℕ Refusal → Told
+live (Ok n) = Value nil (record { total = n; declined = 0 })
+live (Err r) = Refused r.0
 
-unfoldable pub snapped : SnapshotAnswer → Stored → Told
-snapped (snapshot.Snapshot y) x = Value y.suppression_factor x
-snapped (snapshot.Refused n) x = Refused n
+unfoldable pub snapped : Result SuppressedRateLimitSnapshot Refusal → Stored → Told
+snapped (Ok y) x = Value y.suppression_factor x
+snapped (Err r) x = Refused r.0
 
 -- the decision that is told, with this window in the place of a rejection's, which a line does not hold
-unfoldable pub decision_of : Told → WindowSize → DecisionTold
-decision_of (Allowed x) window = Decision decision.Allowed
-decision_of (Rejected wait left x) window = Decision (decision.Rejected window wait left)
-decision_of (Suppressed factor admitted x) window = Decision (decision.Suppressed factor admitted)
-decision_of (Value factor x) window = NoDecision
-decision_of (Refused n) window = Decision (decision.Refused n)
+unfoldable pub decision_of : Told → WindowSize → Option RateLimitDecision
+decision_of (Allowed x) window = Some decision.Allowed
+decision_of (Rejected wait left x) window = Some (decision.Rejected window wait left)
+decision_of (Suppressed factor admitted x) window = Some (decision.Suppressed factor admitted)
+decision_of (Value factor x) window = None
+decision_of (Refused n) window = Some (decision.Refused n)
 
 -- ---- its line
 

@@ -4,10 +4,11 @@
 ghost use Rattle.std.specs.Prelude.{◌≡◌};
 ghost use Rattle.told.specs.Told.{bad_line, said, yes_or_no, refused_line, decided, live, snapped, decision_of, line_of};
 
-use answers::{RateLimitDecision, SnapshotAnswer, TotalAnswer};
-use common::WindowSize;
+use answers::{RateLimitDecision, SuppressedRateLimitSnapshot};
+use common::{Refusal, WindowSize};
 use printing::{Answer, AnswerLine};
 
+// The number that a line tells of what is no call: printed as it stands, so no `Refusal`.
 pub const BAD_LINE: u64 = 14;
 
 // A key's totals.
@@ -35,6 +36,7 @@ pub enum Told {
         factor: f64,
         stored: Stored,
     },
+    // As it was printed: any number that a line can hold.
     Refused(u64),
 }
 
@@ -45,23 +47,10 @@ pub struct ToldLine {
     pub told: Told,
 }
 
-// What reading a line back answers.
-#[derive(Clone, Copy)]
-pub enum LineAnswer {
-    Line(ToldLine),
-    Refused(u64),
-}
-
-// A decision that was told, if it was one.
-#[derive(Clone, Copy)]
-pub enum DecisionTold {
-    Decision(RateLimitDecision),
-    NoDecision,
-}
-
 // ---- what is told of each answer
 
 // Of an increment; `x` is what is stored after it.
+#[tactic(auto, unfolding(crate::specs::Told::decided))]
 pub fn decided(d: RateLimitDecision, x: Stored) -> Told
     ensures { result ≡ decided d x }
 {
@@ -89,42 +78,39 @@ pub fn decided(d: RateLimitDecision, x: Stored) -> Told
 }
 
 // Of an absolute `get`: the live total.
-pub fn live(a: TotalAnswer) -> Told
+pub fn live(a: Result<u64, Refusal>) -> Told
     ensures { result ≡ live a }
 {
     match a {
-        TotalAnswer::Total(total) => Told::Value {
+        Ok(total) => Told::Value {
             factor: 0.0,
             stored: Stored { total, declined: 0 },
         },
-        TotalAnswer::Refused(code) => Told::Refused(code),
+        Err(Refusal(code)) => Told::Refused(code),
     }
 }
 
 // Of a suppressed `get`; `x` is what is stored after it.
-pub fn snapped(a: SnapshotAnswer, x: Stored) -> Told
+pub fn snapped(a: Result<SuppressedRateLimitSnapshot, Refusal>, x: Stored) -> Told
     ensures { result ≡ snapped a x }
 {
     match a {
-        SnapshotAnswer::Snapshot(s) => Told::Value {
+        Ok(s) => Told::Value {
             factor: s.suppression_factor,
             stored: x,
         },
-        SnapshotAnswer::Refused(code) => Told::Refused(code),
+        Err(Refusal(code)) => Told::Refused(code),
     }
 }
 
-// The decision that is told. A line does not hold a rejection's window: `window` is put in its place.
-pub fn decision_of(told: Told, window: WindowSize) -> DecisionTold
+// The decision that is told, if it is one. A line does not hold a rejection's window: `window` is put in its place.
+#[tactic(auto, unfolding(crate::specs::Told::decision_of))]
+pub fn decision_of(told: Told, window: WindowSize) -> Option<RateLimitDecision>
     ensures { result ≡ decision_of told window }
 {
     match told {
-        Told::Allowed(_) => DecisionTold::Decision(RateLimitDecision::Allowed),
-        Told::Rejected {
-            wait,
-            left,
-            stored: _,
-        } => DecisionTold::Decision(RateLimitDecision::Rejected {
+        Told::Allowed(_) => Some(RateLimitDecision::Allowed),
+        Told::Rejected { wait, left, .. } => Some(RateLimitDecision::Rejected {
             window_size: window,
             retry_after: wait,
             remaining_after_waiting: left,
@@ -132,16 +118,13 @@ pub fn decision_of(told: Told, window: WindowSize) -> DecisionTold
         Told::Suppressed {
             factor,
             is_allowed,
-            stored: _,
-        } => DecisionTold::Decision(RateLimitDecision::Suppressed {
+            ..
+        } => Some(RateLimitDecision::Suppressed {
             suppression_factor: factor,
             is_allowed,
         }),
-        Told::Value {
-            factor: _,
-            stored: _,
-        } => DecisionTold::NoDecision,
-        Told::Refused(code) => DecisionTold::Decision(RateLimitDecision::Refused(code)),
+        Told::Value { .. } => None,
+        Told::Refused(code) => Some(RateLimitDecision::Refused(code)),
     }
 }
 
@@ -187,19 +170,16 @@ pub fn said(t: u64, answer: Answer, factor: u64, wait: u64, left: u64, x: Stored
 fn yes_or_no(admitted: bool) -> Answer
     ensures { result ≡ yes_or_no admitted }
 {
-    if admitted {
-        return Answer::Yes;
-    }
-    Answer::No
+    if admitted { Answer::Yes } else { Answer::No }
 }
 
 // The line of all that `desk` tells.
+#[tactic(auto, unfolding(crate::specs::Told::line_of))]
 pub fn line_of(l: ToldLine) -> AnswerLine
     ensures { result ≡ line_of l }
 {
     let t = l.t;
-    let told = l.told;
-    match told {
+    match l.told {
         Told::Allowed(stored) => said(t, Answer::Allowed, 0, 0, 0, stored),
         Told::Rejected { wait, left, stored } => said(t, Answer::Rejected, 0, wait, left, stored),
         Told::Suppressed {

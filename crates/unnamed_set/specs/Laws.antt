@@ -2,12 +2,12 @@
 -- Assumes nothing.
 use Rattle.std.proofs.Math.Path.{◌≡◌, refl, sym}
 use Rattle.std.proofs.Common.{ap, ◌∙◌, arith}
-use Rattle.std.specs.Prelude.{Bool, not, ◌&&◌, ◌≢◌, ℕ, ltb}
+use Rattle.std.specs.Prelude.{Bool, not, ◌&&◌, ◌≢◌, ℕ, ltb, Ok, Err}
 use Rattle.std.proofs.Math.Bool.{true, false, cond}
 use mathlib.Core.List.{List, [], ◌∷◌, ◌++◌}
 use Rattle.std.proofs.Math.Decide.{ℕ_discrete}
 use Rattle.parties.specs.Parties.{Sent}
-use Rattle.common.specs.Refusals.{first}
+use Rattle.common.specs.Refusals.{first, ruled}
 use Rattle.common.specs.declared.units.RateLimit.{RateLimit}
 use Rattle.common.specs.declared.comparator.RateLimitComparator.{RateLimitComparator}
 use Rattle.answers.specs.declared.HistoryUpdateMode.{HistoryUpdateMode}
@@ -19,43 +19,46 @@ use Rattle.rules.specs.Held.{Held, lacks_slot}
 use Rattle.rules.specs.Sets.{still_for, set_turns}
 use Rattle.judge.specs.declared.Judged.{Judged}
 use Rattle.judge.specs.Judge.{refusals, early, judged, slot_in}
-use Rattle.judge.proofs.Laws.{code_is, refused-early, refused-own}
+use Rattle.judge.proofs.Laws.{judged-ok, judged-err, refused-early, refused-own}
+use Rattle.common.specs.declared.refusal.Refusal.{Refusal}
+use Rattle.common.proofs.Ruled.{ruled-err}
 use Rattle.sets_opened.specs.Sets.{set_own}
 use Rattle.unnamed_set.specs.Unnamed.{bad_call, blind_turns, refusal}
 
 -- ---- the code
 
-module _ (kind : RoomKind) (s : Settings) (w : List ℕ) (t : ℕ) (key : Sent) (rate : RateLimit) (count : ℕ)
-    (j : Judged) (e : j ≡ judged kind s w t key) where
-  judged-code : j.code ≡ early kind s w t key
-  judged-code = ap (λ (y : Judged). y.code) e ∙ code_is kind s w t key (slot_in s w t key)
-
-  pub refusal-early : (j.code ≡ 0 → ⊥) → j.code ≡ refusal kind s w t key rate count
+module _ (kind : RoomKind) (s : Settings) (w : List ℕ) (t : ℕ) (key : Sent) (rate : RateLimit) (count : ℕ) where
+  pub refusal-early : (r : Refusal) → Err r ≡ judged kind s w t key → r.0 ≡ refusal kind s w t key rate count
   unfolding refusal
-  refusal-early z = judged-code ∙ sym (refused-early kind s w t key _ (λ f. z (judged-code ∙ f)))
+  refusal-early r e =
+      let o = judged-err kind s w t key false r e in
+      ap (λ (q : Refusal). q.0) o.1 ∙ sym (refused-early kind s w t key _ o.0)
 
   -- where none of 1 to 7, 15 and 16 is met
-  late_is : j.code ≡ 0 → refusal kind s w t key rate count ≡ first (blind_turns rate count ++ ((bad_call, true) ∷ []))
-  unfolding refusal
-  late_is h = refused-own kind s w t key _ (sym judged-code ∙ h)
+  module _ (j : Judged) (e : Ok j ≡ judged kind s w t key) where
+    late_is : refusal kind s w t key rate count ≡ first (blind_turns rate count ++ ((bad_call, true) ∷ []))
+    unfolding refusal
+    late_is = refused-own kind s w t key _ (judged-ok kind s w t key false j e).0
 
-  pub refusal-own : (n : ℕ) → j.code ≡ 0 → n ≡ first (set_own rate count false) → (n ≡ 0 → ⊥) → n ≡ refusal kind s w t key rate count
-  unfolding set_own first
-  refusal-own n h f z = go (unrated rate) (ltb most_total count) f z ∙ sym (late_is h)
-    where
-      go : (a b : Bool) → n ≡ cond a 8 (cond b 10 0) → (n ≡ 0 → ⊥) → n ≡ cond a 8 (cond b 10 14)
-      go true b p q = p
-      go false true p q = p
-      go false false p q = absurd (q p)
+    pub refusal-own : (r : Refusal) → Err r ≡ ruled (first (set_own rate count false)) → r.0 ≡ refusal kind s w t key rate count
+    unfolding set_own first
+    refusal-own r f =
+        let o = ruled-err _ r f in
+        ap (λ (q : Refusal). q.0) o.1 ∙ go (unrated rate) (ltb most_total count) o.0 ∙ sym late_is
+      where
+        go : (a b : Bool) → (◌≡◌ {A = ℕ} (cond a 8 (cond b 10 0)) 0 → ⊥) → ◌≡◌ {A = ℕ} (cond a 8 (cond b 10 0)) (cond a 8 (cond b 10 14))
+        go true b q = refl
+        go false true q = refl
+        go false false q = absurd (q refl)
 
-  pub refusal-none : j.code ≡ 0 → first (set_own rate count false) ≡ 0 → bad_call ≡ refusal kind s w t key rate count
-  unfolding set_own first
-  refusal-none h f = go (unrated rate) (ltb most_total count) f ∙ sym (late_is h)
-    where
-      go : (a b : Bool) → ◌≡◌ {A = ℕ} (cond a 8 (cond b 10 0)) 0 → ◌≡◌ {A = ℕ} 14 (cond a 8 (cond b 10 14))
-      go true b p = absurd (omega (arith, p))
-      go false true p = absurd (omega (arith, p))
-      go false false p = refl
+    pub refusal-none : first (set_own rate count false) ≡ 0 → bad_call ≡ refusal kind s w t key rate count
+    unfolding set_own first
+    refusal-none f = go (unrated rate) (ltb most_total count) f ∙ sym late_is
+      where
+        go : (a b : Bool) → ◌≡◌ {A = ℕ} (cond a 8 (cond b 10 0)) 0 → ◌≡◌ {A = ℕ} 14 (cond a 8 (cond b 10 14))
+        go true b p = absurd (omega (arith, p))
+        go false true p = absurd (omega (arith, p))
+        go false false p = refl
 
 -- ---- with comparator and mode, whichever they are
 

@@ -5,13 +5,10 @@ ghost use Rattle.std.specs.Prelude.{◌≡◌};
 ghost use Rattle.parties.specs.Parties.{sent};
 ghost use Rattle.unnamed_set.specs.Unnamed.{refusal};
 
-use common::RateLimit;
+use common::{RateLimit, Refusal};
 use parties::Caller;
 use rules::RoomKind;
 use settings::Settings;
-
-// What is no call.
-const BAD_CALL: u64 = 14;
 
 // The first refusal that needs neither of the two, or 14.
 pub fn refusal(
@@ -23,17 +20,14 @@ pub fn refusal(
     key: &[u8],
     rate: RateLimit,
     count: u64,
-) -> u64
-    ensures { result ≡ refusal kind settings room.now reading (sent caller key.now) rate count }
+) -> Refusal
+    ensures { result.0 ≡ refusal kind settings room.now reading (sent caller key.now) rate count }
 {
-    let j = judge::judge(kind, settings, room, reading, caller, key, judge::NO_LOOK);
-    let code = j.code;
-    if code != 0 {
-        return code;
+    if let Err(early) = judge::judge(kind, settings, room, reading, caller, key, judge::NO_LOOK) {
+        return early;
     }
-    let own = sets_opened::set_refusal(rate, count, false);
-    if own != 0 {
+    if let Err(own) = sets_opened::check_set(rate, count, false) {
         return own;
     }
-    BAD_CALL
+    Refusal::NO_CALL
 }

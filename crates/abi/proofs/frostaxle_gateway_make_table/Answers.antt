@@ -1,19 +1,13 @@
--- The gateway says whether the words fit.
-use mathlib.Core.Path.{◌∙◌, sym, ap}
-use mathlib.Core.Bool.{Bool}
-use Rattle.abi.specs.Faces.{make_number}
+-- What is told is the number of what the making answers.
+-- Assumes nothing.
+use Rattle.std.proofs.Common.{◌∙◌, ap}
+use Rattle.answers.specs.Rows.{done_row, number_of}
+use Rattle.abi.specs.Laws.{made-number}
 use Rattle.abi.proofs.frostaxle_gateway_make_table.Goals as goal
-
-pub returns-then-make_table : goal.returns-then-make_table
-returns-then-make_table c =
-    let made = c.make_table.ensures in record {
-      value = ap (λ (x : Bool). make_number x) (sym c.if-make_table.true ∙ made.answer);
-      table_after = made.words;
-    }
 
 pub returns : goal.returns
 returns c =
     let made = c.make_table.ensures in record {
-      value = ap (λ (x : Bool). make_number x) (sym c.if-make_table.false ∙ made.answer);
+      value = c.number_of.ensures ∙ ap (λ x. number_of (done_row x)) made.answer ∙ made-number _;
       table_after = made.words;
     }

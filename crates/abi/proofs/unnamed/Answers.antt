@@ -5,4 +5,4 @@ use Rattle.abi.proofs.unnamed.Goals as goal
 
 pub returns : goal.returns
 returns c =
-    rw (c.refused_row.ensures ∙ ap refused_row c.refusal-number.ensures) at c.give.ensures
+    rw (c.refused_row.ensures ∙ ap refused_row (c.number.ensures ∙ c.refusal-refusal.ensures)) at c.give.ensures

@@ -9,9 +9,9 @@ pub returns-then-is_below : goal.returns-then-is_below
 returns-then-is_below c =
     let b = c.is_below in
     let a = c.args in
-    allowed-stored a.limit a.look a.reading a.x (sym b.ensures ∙ c.if-is_below.true)
+    c.if-is_below.true ∙ allowed-stored a.limit a.look a.reading a.x (sym b.ensures ∙ c.if-is_below.true)
 
-pub returns : goal.returns
-returns c =
+pub returns-else-is_below : goal.returns-else-is_below
+returns-else-is_below c =
     let a = c.args in
     c.allows.ensures ∙ ap (allowed_at a.limit) c.first_look.ensures

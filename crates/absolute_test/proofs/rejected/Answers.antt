@@ -11,8 +11,8 @@ unfolding rejected_at
 returns-then-buckets-expired c =
     let x = c.args.x in rw (le-ltb x.pass.expired x.pass.buckets c.if-buckets-expired.true)
 
-pub nonzero_div-less : goal.nonzero_div-less
-nonzero_div-less c =
+pub nonzero_div-saturating_sub : goal.nonzero_div-saturating_sub
+nonzero_div-saturating_sub c =
     subst (λ (n : ℕ). 1 ≤ n) (sym c.ticks_per_millisecond.ensures) (ticks-some c.args.settings)
 
 pub returns : goal.returns
@@ -21,7 +21,7 @@ returns c =
     let x = c.args.x in
     rw (
       lt-ltb x.pass.expired x.pass.buckets c.if-buckets-expired.false,
-      c.less-2.ensures,
-      c.less.ensures,
+      c.saturating_sub-2.ensures,
+      c.saturating_sub.ensures,
       c.ticks_per_millisecond.ensures,
     )

@@ -1,17 +1,8 @@
--- Word by word, the definition from its innermost word on.
+-- `answer_lines::any_word` meets its contract: the words in turn, each beside the one before it.
 -- Assumes nothing.
-use Rattle.answer_lines.specs.Reading.{any_word}
+use mathlib.Core.Path.{◌∙◌}
+use Rattle.answer_lines.specs.Laws.{any-or}
 use Rattle.answer_lines.proofs.any_word.Goals as goal
 
 pub returns : goal.returns
-unfolding any_word
-returns c =
-    rw (
-      ← c.word_if-refused.ensures,
-      ← c.word_if-held.ensures,
-      ← c.word_if-value.ensures,
-      ← c.word_if-no.ensures,
-      ← c.word_if-yes.ensures,
-      ← c.word_if-rejected.ensures,
-    )
-    c.word_if.ensures
+returns c = cc (any-or c.args.line.now c.args.at)

@@ -1,20 +1,6 @@
 -- Each arm is its case of the definition.
-use Rattle.room.specs.Laws.{room-directory}
 use Rattle.change.specs.Words.{carried}
 use Rattle.change.proofs.carry.Goals as goal
-
-pub release-requires : goal.release-requires
-release-requires c =
-    let p = rw c.in-Free.is at c.requires in
-    (room-directory p.room, p.inside)
-
-pub update-requires : goal.update-requires
-update-requires c =
-    rw c.in-Update.is at c.requires
-
-pub take-requires : goal.take-requires
-take-requires c =
-    rw c.in-Take.is at c.requires
 
 pub returns-in-Keep : goal.returns-in-Keep
 unfolding carried

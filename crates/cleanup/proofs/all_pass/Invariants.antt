@@ -1,14 +1,9 @@
 use mathlib.Core.Path.{◌≡◌}
 use mathlib.Core.Bool.{true}
-use Prim.Native.Nat.{◌-◌, ◌≤◌}
 use Rattle.base.specs.Every.{every}
 use Rattle.cleanup.specs.Cleanup.{slot_passes}
 use Rattle.cleanup.proofs.all_pass.Given as goal
 
 abbrev pub invariant-loop-i : goal.invariant-loop-i
 invariant-loop-i l =
-    (l.i ≤ l.n) × (every (slot_passes l.kind l.settings l.w) l.i ≡ true)
-
-abbrev pub decreases-loop-i : goal.decreases-loop-i
-decreases-loop-i l =
-    l.n - l.i
+    every (slot_passes l.kind l.settings l.w) l.i ≡ true

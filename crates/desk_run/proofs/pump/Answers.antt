@@ -1,8 +1,7 @@
 -- No more is taken than is left of the block, and what is put after each part is what that part prints.
 -- Assumes nothing.
-use Rattle.std.proofs.Common.{refl, ◌∙◌, arith}
-use Rattle.std.proofs.lemmas.Bool.{false≢true}
-use Rattle.desk_run.specs.Laws.{reached-none, reached-part, part-inside, part-progress}
+use Rattle.std.proofs.Common.{refl, sym, ◌∙◌, arith}
+use Rattle.desk_run.specs.Laws.{not-fine, reached-none, reached-part, part-inside, part-progress}
 use Rattle.desk_run.proofs.pump.Goals as goal
 
 pub loop-at-init : goal.loop-at-init
@@ -13,14 +12,14 @@ overflow_add-at g c =
     let t = part-inside _ c.args.block.now c.loop-at.at _ _ _ _ _ _ c.feed-progress.ensures in
     omega (arith, t, c.loop-at.invariant.1)
 
-pub returns-then-not-sent : goal.returns-then-not-sent
-returns-then-not-sent g c =
+pub returns-then-is_err : goal.returns-then-is_err
+returns-then-is_err g c =
     let f = c.feed-progress.ensures in
     let t = part-inside _ c.args.block.now c.loop-at.at _ _ _ _ _ _ f in
     record {
       inside = omega (arith, t, c.loop-at.invariant.1);
       reached = reached-part _ _ c.args.block.now c.loop-at.at _ _ _ _ _ _ _ _ _ c.loop-at.invariant.2 f c.write_put-sent.ensures;
-      all = λ e. absurd (false≢true e);
+      all = λ e. absurd (not-fine _ (sym c.is_err.ensures.value ∙ c.if-is_err.true) e);
     }
 
 pub loop-at-smaller : goal.loop-at-smaller

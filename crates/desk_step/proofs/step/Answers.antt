@@ -14,20 +14,20 @@ returns-in_default c =
 pub slice_bounds-call-count : goal.slice_bounds-call-count
 slice_bounds-call-count c =
     let k = read-inside _ _ _ _ _ _ _ _ (sym c.read_call.ensures ∙
-    c.in-Call.is) in omega (arith, k.starts)
+    c.in-Some.is) in omega (arith, k.starts)
 
 pub slice_bounds-call-start : goal.slice_bounds-call-start
 slice_bounds-call-start c =
     let k = read-inside _ _ _ _ _ _ _ _ (sym c.read_call.ensures ∙
-    c.in-Call.is) in omega (arith, k.starts)
+    c.in-Some.is) in omega (arith, k.starts)
 
 pub slice_bounds-call-end : goal.slice_bounds-call-end
 slice_bounds-call-end c =
     let k = read-inside _ _ _ _ _ _ _ _ (sym c.read_call.ensures ∙
-    c.in-Call.is) in omega (arith, k.ends)
+    c.in-Some.is) in omega (arith, k.ends)
 
 pub returns : goal.returns
 unfolding stepped
 returns c =
     rw (sym c.read_call.ensures ∙
-    c.in-Call.is) c.call.ensures
+    c.in-Some.is) c.call.ensures

@@ -4,13 +4,13 @@ use mathlib.Core.Path.{refl, sym, ◌∙◌}
 use Rattle.printing.specs.Printing.{put-none}
 use Rattle.desk_turn.proofs.take_settings.Goals as goal
 
-pub returns-in-Open : goal.returns-in-Open
-returns-in-Open c =
+pub returns-in-Ok : goal.returns-in-Ok
+returns-in-Ok c =
     let a = c.args in
-    rw (sym c.begin-opening.ensures ∙ c.in-Open.is) (record { phase = refl; put = put-none a.out.now a.at })
+    rw (sym c.begin.ensures ∙ c.in-Ok.is) (record { phase = refl; put = put-none a.out.now a.at })
 
-pub returns-in-Refused : goal.returns-in-Refused
-returns-in-Refused c =
-    rw (sym c.begin-opening.ensures ∙
-    c.in-Refused.is)
+pub returns-in-Err : goal.returns-in-Err
+returns-in-Err c =
+    rw (sym c.begin.ensures ∙
+    c.in-Err.is)
     (record { phase = refl; put = rw c.refusal.ensures at c.put_line.ensures })

@@ -2,18 +2,6 @@
 use Rattle.edit.specs.Bodies.{acted}
 use Rattle.edit.proofs.act.Goals as goal
 
-pub increment-requires : goal.increment-requires
-increment-requires c =
-    rw c.in-Increment.is at c.requires
-
-pub replace-requires : goal.replace-requires
-replace-requires c =
-    rw c.in-Replace.is at c.requires
-
-pub preserve-requires : goal.preserve-requires
-preserve-requires c =
-    rw c.in-Preserve.is at c.requires
-
 pub returns-in-Nothing : goal.returns-in-Nothing
 unfolding acted
 returns-in-Nothing c =

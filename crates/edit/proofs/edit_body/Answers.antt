@@ -3,21 +3,12 @@ use mathlib.Core.Path.{sym, ap, subst, ◌∙◌}
 use mathlib.Core.List.{List}
 use Prim.Native.Nat.{ℕ}
 use Rattle.edit.specs.Bodies.{Acts, acted, fixed, edited}
-use Rattle.edit.specs.BodyLaws.{edit-starts, edit-acts}
-use native.Mathlib.Omega.{arith}
+use Rattle.edit.specs.BodyLaws.{edit-acts}
 use Rattle.edit.proofs.edit_body.Goals as goal
-
-pub start-requires : goal.start-requires
-start-requires c =
-    edit-starts _ _ _ _ _ c.requires
 
 pub act-requires : goal.act-requires
 act-requires c =
     subst (λ (y : List ℕ). Acts c.args.r c.args.size c.args.reading y c.args.e.then) (sym c.start.ensures) (edit-acts _ _ _ _ _ c.requires)
-
-pub fix-requires : goal.fix-requires
-fix-requires c =
-    omega (arith, c.act.auto.b, c.start.auto.b, c.requires.long)
 
 pub returns : goal.returns
 unfolding edited

@@ -1,14 +1,16 @@
 -- The tests of the definition, in its order.
+-- Assumes nothing.
+use Rattle.std.proofs.Common.{arith}
+use Rattle.std.proofs.lemmas.Bool.Decides.{nat_tests}
 use Rattle.factor_opened.specs.Opened.{usable_at}
 use Rattle.factor_opened.proofs.is_usable.Goals as goal
 
-pub returns-then-not-stays : goal.returns-then-not-stays
+pub returns-then-stays : goal.returns-then-stays
 unfolding usable_at
-returns-then-not-stays c =
-    simp (← c.stays.ensures, c.if-not-stays.true)
+returns-then-stays c =
+    grind (arith, nat_tests)
 
-pub returns : goal.returns
+pub returns-else-stays : goal.returns-else-stays
 unfolding usable_at
-returns c =
-    let s = c.stays in
-    simp (← s.ensures, c.if-not-stays.false, ← c.less.ensures, ← c.cache_ticks.ensures)
+returns-else-stays c =
+    grind (arith, nat_tests)

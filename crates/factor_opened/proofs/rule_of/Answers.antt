@@ -26,7 +26,7 @@ returns-then-accepted-soft c =
       c.if-not-series.false,
       ne_eqb _ 0 (λ z. c.if-left-eq0.false (c.left.ensures ∙ z)),
       lt-leb _ _ c.if-hard-total.false,
-      ← c.less-accepted.ensures,
+      ← c.saturating_sub-accepted.ensures,
       lt-ltb _ _ c.if-accepted-soft.true,
     )
 
@@ -37,7 +37,7 @@ returns-then-accepted-soft-2 c =
       c.if-not-series.false,
       ne_eqb _ 0 (λ z. c.if-left-eq0.false (c.left.ensures ∙ z)),
       lt-leb _ _ c.if-hard-total.false,
-      ← c.less-accepted.ensures,
+      ← c.saturating_sub-accepted.ensures,
       le-ltb _ _ c.if-accepted-soft.false,
       ne_eqb _ _ c.if-accepted-soft-2.true,
     )
@@ -49,7 +49,7 @@ returns-then-soft-hard c =
       c.if-not-series.false,
       ne_eqb _ 0 (λ z. c.if-left-eq0.false (c.left.ensures ∙ z)),
       lt-leb _ _ c.if-hard-total.false,
-      ← c.less-accepted.ensures,
+      ← c.saturating_sub-accepted.ensures,
       le-ltb _ _ c.if-accepted-soft.false,
       eq-eqb _ _ c.if-accepted-soft-2.false,
       eq-eqb _ _ c.if-soft-hard.true,
@@ -62,7 +62,7 @@ returns c =
       c.if-not-series.false,
       ne_eqb _ 0 (λ z. c.if-left-eq0.false (c.left.ensures ∙ z)),
       lt-leb _ _ c.if-hard-total.false,
-      ← c.less-accepted.ensures,
+      ← c.saturating_sub-accepted.ensures,
       le-ltb _ _ c.if-accepted-soft.false,
       eq-eqb _ _ c.if-accepted-soft-2.false,
       ne_eqb _ _ c.if-soft-hard.false,

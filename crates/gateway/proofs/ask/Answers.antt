@@ -1,25 +1,23 @@
 -- The room is the limiter's; the table has the number if it is admitted.
 -- Assumes nothing.
-use mathlib.Core.Path.{sym, ◌∙◌}
+use Rattle.std.proofs.Common.{◌≡◌, ◌∙◌, ap, sym, cond, Bool, List, ℕ}
 use Rattle.parties.specs.Parties.{sent}
-use Rattle.gateway.proofs.Laws.{asked-turned, asked-admitted}
+use Rattle.rules.specs.Suppressed.{admits}
+use Rattle.table.specs.Table.{remembered}
+use Rattle.gateway.proofs.Laws.{asked-told}
 use Rattle.gateway.proofs.ask.Goals as goal
-
-pub returns-then-not-is_admitted : goal.returns-then-not-is_admitted
-returns-then-not-is_admitted c =
-    let a = c.args in
-    let key = sent a.caller a.controller.now in
-    let i = c.inc-decision in
-    let d = c.is_admitted in
-    rw c.as_shot.ensures
-    (asked-turned a.settings a.table.now a.room.now a.reading key a.number a.rate a.draw i.result _
-    i.ensures (sym d.ensures ∙ c.if-not-is_admitted.true))
+use Rattle.gateway.proofs.ask.Goals.{then-is_admitted, else-is_admitted}
 
 pub returns : goal.returns
 returns c =
     let a = c.args in
-    let key = sent a.caller a.controller.now in
-    let i = c.inc-decision in
     let d = c.is_admitted in
-    asked-admitted a.settings a.table.now a.room.now a.reading key a.number a.rate a.draw i.result _
-    c.remember.new.w i.ensures (sym d.ensures ∙ c.if-not-is_admitted.false) c.remember.ensures
+    let i = c.inc-decision in
+    let by : Bool → List ℕ = λ z. cond z (remembered a.table.now a.controller.now a.number) a.table.now in
+    let kept : c.if-is_admitted.table ≡ by (admits i.result) =
+    elim c.if-is_admitted.branch [
+      | then-is_admitted w ↦ w.table-is ∙ w.remember.ensures ∙ ap by (sym w.if-is_admitted.true ∙ d.ensures)
+      | else-is_admitted w ↦ w.table-is ∙ ap by (sym w.if-is_admitted.false ∙ d.ensures)
+    ] in
+    rw c.as_shot.ensures
+    (asked-told a.settings a.table.now a.room.now a.reading (sent a.caller a.controller.now) a.number a.rate a.draw i.result _ _ i.ensures kept)

@@ -34,8 +34,8 @@ pub push-requires : goal.push-requires
 push-requires c =
     takes-free c.requires (sym c.is_joined.ensures ∙ c.if-is_joined.false)
 
-pub returns : goal.returns
+pub returns-else-is_joined : goal.returns-else-is_joined
 unfolding incremented
-returns c =
+returns-else-is_joined c =
     rw (sym c.is_joined.ensures ∙ c.if-is_joined.false)
     c.push.ensures

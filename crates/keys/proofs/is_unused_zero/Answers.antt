@@ -1,21 +1,18 @@
--- No byte used, all eight used, or some: the power that the definition compares with, each time.
+-- All eight bytes used, or fewer: the power that the definition compares with.
 -- Assumes nothing.
-use native.Mathlib.Omega.{arith}
-use Rattle.keys.specs.KeyLaws.{unused-none, unused-all, unused-some}
+use Rattle.std.proofs.Common.{◌∙◌, ap, ◌^◌, arith, le-leb}
+use Rattle.keys.specs.KeyLaws.{unused-all, unused-some, power-word}
 use Rattle.keys.proofs.is_unused_zero.Goals as goal
 
-pub returns-then-len-i : goal.returns-then-len-i
-returns-then-len-i c =
-    let a = c.args in unused-none a.len a.i a.word c.if-len-i.true
-
-pub overflow_sub-n : goal.overflow_sub-n
-overflow_sub-n c =
-    omega arith
+pub pow-requires : goal.pow-requires
+pow-requires c =
+    power-word c.saturating_sub-n.result c.if-n-ge8.false
 
 pub returns-then-n-ge8 : goal.returns-then-n-ge8
 returns-then-n-ge8 c =
-    let a = c.args in unused-all a.len a.i a.word c.if-n-ge8.true (omega arith)
+    let a = c.args in le-leb _ _ c.if-n-ge8.true ∙ unused-all a.len a.i a.word (omega arith) (omega arith)
 
-pub returns : goal.returns
-returns c =
-    let a = c.args in unused-some a.len a.i a.word c.top.result c.if-n-ge8.false c.top.ensures
+pub returns-else-n-ge8 : goal.returns-else-n-ge8
+returns-else-n-ge8 c =
+    let a = c.args in
+    unused-some a.len a.i a.word c.pow.result (omega arith) (c.pow.ensures ∙ ap (λ n. 256 ^ n) c.saturating_sub-n.ensures)

@@ -1,18 +1,21 @@
 -- The tests of the definition, in its order.
+-- Assumes nothing.
+use Rattle.std.proofs.Common.{arith}
+use Rattle.std.proofs.lemmas.Bool.Decides.{nat_tests}
 use Rattle.opened.specs.Right.{cached_right}
 use Rattle.opened.proofs.cached_right.Goals as goal
 
-pub returns-then-not-cached : goal.returns-then-not-cached
+pub returns-then-not-x : goal.returns-then-not-x
 unfolding cached_right
-returns-then-not-cached c =
-    simp c.if-not-cached.true
+returns-then-not-x c =
+    grind (arith, nat_tests)
 
-pub returns-then-not-is_factor : goal.returns-then-not-is_factor
+pub returns-then-is_factor : goal.returns-then-is_factor
 unfolding cached_right
-returns-then-not-is_factor c =
-    simp (c.if-not-cached.false, ← c.is_factor.ensures, c.if-not-is_factor.true)
+returns-then-is_factor c =
+    grind (arith, nat_tests)
 
-pub returns : goal.returns
+pub returns-else-is_factor : goal.returns-else-is_factor
 unfolding cached_right
-returns c =
-    simp (c.if-not-cached.false, ← c.is_factor.ensures, c.if-not-is_factor.false)
+returns-else-is_factor c =
+    grind (arith, nat_tests)

@@ -9,7 +9,7 @@ returns-then-leaves_expired c =
     let a = c.args in
     c.all_stay.ensures ∙ look-leaves a.look a.reading a.x (sym c.leaves_expired.ensures ∙ c.if-leaves_expired.true)
 
-pub returns : goal.returns
-returns c =
+pub returns-else-leaves_expired : goal.returns-else-leaves_expired
+returns-else-leaves_expired c =
     let a = c.args in
     look-else a.look a.reading a.x (sym c.leaves_expired.ensures ∙ c.if-leaves_expired.false)

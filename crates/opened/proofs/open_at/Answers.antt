@@ -6,18 +6,13 @@ use Rattle.opened.specs.Slot.{opened, first_look}
 use Rattle.opened.specs.Look.{no-slot-look}
 use Rattle.opened.specs.Right.{slot-here, slot-none}
 use Rattle.room.specs.Room.{ring_of, last_of}
-use Rattle.room.specs.Laws.{part_body, part_length}
-use native.Mathlib.Omega.{arith}
+use Rattle.room.specs.Laws.{part_body}
 use Rattle.opened.proofs.open_at.Goals as goal
 
 pub returns-then-slots-at : goal.returns-then-slots-at
 returns-then-slots-at c =
     let a = c.args in
     rw (slot-none _ _ _ _ c.if-slots-at.true) (c.no_slot.ensures ∙ no-slot-look a.look a.reading _)
-
-pub open_body-requires : goal.open_body-requires
-open_body-requires c =
-    omega (arith, part_length c.args.w.now c.start-a.result c.args.at c.start-a.ensures.at c.requires c.if-slots-at.false)
 
 pub returns : goal.returns
 returns c =

@@ -1,31 +1,21 @@
 -- The tests of the definition, in its order.
+-- Assumes nothing.
+use Rattle.std.proofs.Common.{arith}
+use Rattle.std.proofs.lemmas.Bool.Decides.{nat_tests}
 use Rattle.opened.specs.Right.{series_right}
 use Rattle.opened.proofs.series_right.Goals as goal
 
-pub returns-then-not-series : goal.returns-then-not-series
+pub returns-then-not-x : goal.returns-then-not-x
 unfolding series_right
-returns-then-not-series c =
-    simp c.if-not-series.true
+returns-then-not-x c =
+    grind (arith, nat_tests)
 
-pub returns-then-not-sound : goal.returns-then-not-sound
+pub returns-then-declined_right : goal.returns-then-declined_right
 unfolding series_right
-returns-then-not-sound c =
-    simp (c.if-not-series.false, c.if-not-sound.true)
+returns-then-declined_right c =
+    grind (arith, nat_tests)
 
-pub returns-then-not-declined_right : goal.returns-then-not-declined_right
+pub returns-else-declined_right : goal.returns-else-declined_right
 unfolding series_right
-returns-then-not-declined_right c =
-    let d = c.declined_right in
-    simp (c.if-not-series.false, c.if-not-sound.false, ← d.ensures, c.if-not-declined_right.true)
-
-pub returns : goal.returns
-unfolding series_right
-returns c =
-    let d = c.declined_right in
-    simp (
-      c.if-not-series.false,
-      c.if-not-sound.false,
-      ← d.ensures,
-      c.if-not-declined_right.false,
-      ← c.divisor.ensures,
-    ) c.is_limit.ensures
+returns-else-declined_right c =
+    grind (arith, nat_tests)

@@ -9,7 +9,7 @@ unfolding none_left
 returns-then-caller-eq1 c =
     simp (eq-eqb _ _ c.if-caller-eq1.true, c.requires.first-is)
 
-pub returns : goal.returns
+pub returns-else-caller-eq1 : goal.returns-else-caller-eq1
 unfolding none_left
-returns c =
+returns-else-caller-eq1 c =
     simp (ne_eqb _ _ c.if-caller-eq1.false, c.requires.second_is)

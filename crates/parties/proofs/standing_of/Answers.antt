@@ -16,8 +16,8 @@ returns-then-not-held c =
     let e : ours w ≡ false = sym (census-ours w z.result z.ensures) ∙ not-true z.result.ours c.if-not-held.true in
     sym (rw e)
 
-pub refusal-requires : goal.refusal-requires
-refusal-requires c =
+pub check-requires : goal.check-requires
+check-requires c =
     let z = c.census-held in
     let e = sym (census-ours c.args.w.now z.result z.ensures) ∙ not-false z.result.ours c.if-not-held.false in
     (c.requires, census-counts c.args.w.now z.result z.ensures e)
@@ -33,4 +33,4 @@ unfolding standing_of first
 returns c =
     let z = c.census-held in
     let e = sym (census-ours c.args.w.now z.result z.ensures) ∙ not-false z.result.ours c.if-not-held.false in
-    sym (rw (e, c.refusal.ensures, c.none_left.ensures))
+    sym (rw (e, c.check.ensures, c.none_left.ensures))

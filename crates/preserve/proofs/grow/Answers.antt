@@ -24,15 +24,15 @@ returns-then-n-eq0 c =
 pub raise-requires : goal.raise-requires
 raise-requires c =
     let a = c.args in
-    grows-raises a.p c.len-n.result c.kept_end-i.result c.requires
-    c.len-n.ensures c.if-n-eq0.false c.kept_end-i.ensures
+    grows-raises a.p c.len-n.result c.kept_end.result c.requires
+    c.len-n.ensures c.if-n-eq0.false c.kept_end.ensures
 
-pub returns : goal.returns
+pub returns-else-n-eq0 : goal.returns-else-n-eq0
 unfolding grown_words
-returns c =
+returns-else-n-eq0 c =
     let a = c.args in
     let n : len_of a.b.now ≡ 0 → ⊥ = λ z. c.if-n-eq0.false
     (c.len-n.ensures ∙ z) in
     rw (ne_eqb _ _ n) (c.raise.ensures ∙
-    ap (λ (i : ℕ). raised_words a.r a.b.now i a.surplus 0) (c.kept_end-i.ensures ∙
+    ap (λ (i : ℕ). raised_words a.r a.b.now i a.surplus 0) (c.kept_end.ensures ∙
     ap (kept_end a.p) c.len-n.ensures))

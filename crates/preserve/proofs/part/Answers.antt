@@ -1,17 +1,10 @@
 -- `history::part` meets its contract: what goes is less than the bucket counts, so the rest of it stays.
 -- Assumes nothing.
-use Rattle.preserve.proofs.Turns.{part-some, part-stores, part-words}
+use Rattle.preserve.proofs.Turns.{part-stores, part-words}
 use Rattle.preserve.specs.Preserving.{lost_at}
 use Prim.Native.Nat.{ℕ}
-use mathlib.Core.Path.{refl, ap, ◌∙◌}
+use mathlib.Core.Path.{ap, ◌∙◌}
 use Rattle.preserve.proofs.part.Goals as goal
-
-pub overflow_sub-retained : goal.overflow_sub-retained
-overflow_sub-retained c =
-    let a = c.args in
-    part-some a.p a.r a.b.now a.reading a.q c.lost-i.result c.nth-x.result _
-    c.requires (c.lost-i.ensures.0 ∙
-    ap (λ (n : ℕ). lost_at a.p n 0) c.len-n.ensures) c.nth-x.ensures refl
 
 pub rewrite-requires : goal.rewrite-requires
 rewrite-requires c =

@@ -9,7 +9,7 @@ unfolding preserved_words
 returns-then-total-n c =
     rw (lt-ltb _ _ c.if-total-n.true) c.grow.ensures
 
-pub returns : goal.returns
+pub returns-else-total-n : goal.returns-else-total-n
 unfolding preserved_words
-returns c =
+returns-else-total-n c =
     rw (le-ltb _ _ c.if-total-n.false) c.shrink.ensures

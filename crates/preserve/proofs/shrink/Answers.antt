@@ -14,25 +14,25 @@ take_out-requires c =
     walked-leaves a.p a.r a.b.now a.reading a.m c.walk-x.result c.requires
     c.walk-x.ensures
 
-pub returns-then-rest-eq0 : goal.returns-then-rest-eq0
-returns-then-rest-eq0 c =
-    let a = c.args in
-    c.take_out.ensures ∙ shrunk-whole a.p a.r a.b.now a.m c.walk-x.result
-    c.walk-x.ensures c.if-rest-eq0.true
-
 pub part-requires : goal.part-requires
 part-requires c =
     let a = c.args in
     walked-parts a.p a.r a.b.now a.m c.walk-x.result
     c.walk-x.ensures a.reading _
-    c.requires c.if-rest-eq0.false
+    c.requires c.if-x-ne0.true
     c.take_out.ensures
 
-pub returns : goal.returns
-returns c =
+pub returns-then-x-ne0 : goal.returns-then-x-ne0
+returns-then-x-ne0 c =
     let a = c.args in
     c.part.ensures ∙
     ap (λ (w : List ℕ). part_words a.p a.r w c.walk-x.result.rest)
     c.take_out.ensures ∙
     shrunk-part a.p a.r a.b.now a.m c.walk-x.result
-    c.walk-x.ensures c.if-rest-eq0.false
+    c.walk-x.ensures c.if-x-ne0.true
+
+pub returns-else-x-ne0 : goal.returns-else-x-ne0
+returns-else-x-ne0 c =
+    let a = c.args in
+    c.take_out.ensures ∙ shrunk-whole a.p a.r a.b.now a.m c.walk-x.result
+    c.walk-x.ensures c.if-x-ne0.false

@@ -1,10 +1,13 @@
 -- The lower of the two numbers.
-use Rattle.provider.specs.Laws.{number_is}
+use Rattle.std.proofs.Common.{ap₂, ◌∙◌}
+use Rattle.provider.specs.Provider.{lower}
+use Rattle.cleanup.specs.Cleanup.{refusal}
+use Rattle.rules.specs.declared.RoomKind.TheVariants.{Absolute, Suppressed}
+use Rattle.provider.specs.Laws.{lower-is}
 use Rattle.provider.proofs.judge_both.Goals as goal
 
 pub returns : goal.returns
 returns c =
     let a = c.args in
-    number_is a.settings a.absolute.now a.suppressed.now a.reading a.absolutes a.suppresseds c.lowest.result c.judge_all-m.result
-    c.judge_all-n.result
-    c.lowest.ensures c.judge_all-m.ensures c.judge_all-n.ensures
+    c.lower.ensures ∙ ap₂ lower c.judge_all-m.ensures c.judge_all-n.ensures ∙
+    lower-is (refusal Absolute a.settings a.absolute.now a.reading a.absolutes) (refusal Suppressed a.settings a.suppressed.now a.reading a.suppresseds)

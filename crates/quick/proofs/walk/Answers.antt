@@ -14,22 +14,21 @@ loop-k-init c =
     let s = c.requires in
     let h = head_of a.b.now in
     let e : h ≡ h + 0 = omega arith in
-    (omega arith, s.head, e ∙ sym (wrap-lo a.r (h + 0) (omega (arith, s.head))), refl)
+    (s.head, e ∙ sym (wrap-lo a.r (h + 0) (omega (arith, s.head))), refl)
 
 pub loop-k-preserved : goal.loop-k-preserved
 loop-k-preserved c =
     let a = c.args in
     let l = c.loop-k in
     let m = c.next-j in
-    let x = c.at-x in
+    let x = c.at in
     let more : l.k < len_of a.b.now = omega
     (arith, c.len-n.ensures, c.loop-k-test.true)
     in (
-      omega arith,
-      next-inside a.r a.b.now c.requires l.j m.result l.invariant.1 m.ensures,
-      m.ensures ∙ next_place a.r a.b.now c.requires l.k l.j more l.invariant.2,
-      walk_turn a.r a.b.now c.requires l.k l.j l.a c.full_turn-a.result _ x.result more l.invariant.2 x.ensures
-          c.full_turn-a.ensures l.invariant.3,
+      next-inside a.r a.b.now c.requires l.j m.result l.invariant.0 m.ensures,
+      m.ensures ∙ next_place a.r a.b.now c.requires l.k l.j more l.invariant.1,
+      walk_turn a.r a.b.now c.requires l.k l.j l.a c.full_turn-a.result _ x.result more l.invariant.1 x.ensures
+          c.full_turn-a.ensures l.invariant.2,
     )
 
 pub returns : goal.returns
@@ -37,4 +36,4 @@ returns c =
     let a = c.args in
     let l = c.loop-k in
     walk_end a.r a.b.now c.requires l.k l.a _
-    (omega (arith, c.len-n.ensures, c.loop-k-test.false)) l.invariant.3
+    (omega (arith, c.len-n.ensures, c.loop-k-test.false)) l.invariant.2

@@ -1,6 +1,6 @@
 use mathlib.Core.Path.{◌≡◌}
 use mathlib.Core.Bool.{false}
-use Prim.Native.Nat.{◌+◌, ◌-◌, ◌≤◌, ◌<◌}
+use Prim.Native.Nat.{◌+◌, ◌<◌}
 use lib.ListN.{drop}
 use Rattle.ring.specs.Ring.{head_of, wrap, buckets}
 use Rattle.quick.specs.Quick.{run_of}
@@ -8,8 +8,4 @@ use Rattle.quick.proofs.walk.Given as goal
 
 abbrev pub invariant-loop-k : goal.invariant-loop-k
 invariant-loop-k l =
-    (l.k ≤ l.n) × (l.j < l.r) × (l.j ≡ wrap l.r (head_of l.b + l.k)) × (run_of false l.a (drop l.k (buckets l.r l.b)) ≡ run_of false l.initial.a (buckets l.r l.b))
-
-abbrev pub decreases-loop-k : goal.decreases-loop-k
-decreases-loop-k l =
-    l.n - l.k
+    (l.j < l.r) × (l.j ≡ wrap l.r (head_of l.b + l.k)) × (run_of false l.a (drop l.k (buckets l.r l.b)) ≡ run_of false l.initial.a (buckets l.r l.b))

@@ -1,12 +1,9 @@
 -- After i turns the row holds the first i buckets, and then what it held.
-use Rattle.std.proofs.Common.{◌≡◌, ◌-◌, ◌≤◌}
+use Rattle.std.proofs.Common.{◌≡◌}
 use Rattle.finding.specs.Finding.{asked}
 use Rattle.readout.specs.ReadOut.{row_at}
 use Rattle.readout.proofs.read_out.Given as goal
 
 abbrev pub invariant-loop-i : goal.invariant-loop-i
 invariant-loop-i l =
-    (l.i ≤ l.fitting) × (l.row ≡ row_at l.fn.kind l.fn.settings l.room (asked l.fn.party l.fn.key) l.fn.row l.i)
-
-abbrev pub decreases-loop-i : goal.decreases-loop-i
-decreases-loop-i l = l.fitting - l.i
+    l.row ≡ row_at l.room (asked l.fn.party l.fn.key) l.fn.row l.i

@@ -1,21 +1,7 @@
 -- `ring::evict` meets its contract: its stores are the words said, one after the other.
 -- Assumes nothing.
 use Rattle.ring.specs.Ring.{without}
-use lib.ListN.{length-set}
-use native.Mathlib.Omega.{arith}
 use Rattle.ring.proofs.evict.Goals as goal
-
-pub bounds-b-2 : goal.bounds-b-2
-bounds-b-2 c =
-    simp length-set (omega arith)
-
-pub bounds-b-3 : goal.bounds-b-3
-bounds-b-3 c =
-    simp length-set (omega arith)
-
-pub bounds-b-4 : goal.bounds-b-4
-bounds-b-4 c =
-    simp length-set (omega arith)
 
 pub returns : goal.returns
 unfolding without

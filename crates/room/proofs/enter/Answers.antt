@@ -3,32 +3,10 @@
 use mathlib.Core.Path.{ap}
 use mathlib.Core.List.{List, [], ◌∷◌}
 use Prim.Native.Nat.{ℕ, ◌+◌}
-use native.Mathlib.Omega.{arith}
-use lib.ListN.{length-set}
 use Rattle.base.specs.Writes.{writes}
 use Rattle.layout.specs.Layout.{len_word, a_word, b_word, c_word, d_word}
 use Rattle.room.specs.Room.{entered, entry_of}
 use Rattle.room.proofs.enter.Goals as goal
-
-pub bounds-w-e-2 : goal.bounds-w-e-2
-bounds-w-e-2 c =
-    simp length-set (omega arith)
-
-pub bounds-w-e-3 : goal.bounds-w-e-3
-bounds-w-e-3 c =
-    simp length-set (omega arith)
-
-pub bounds-w-e-4 : goal.bounds-w-e-4
-bounds-w-e-4 c =
-    simp length-set (omega arith)
-
-pub bounds-w-e-5 : goal.bounds-w-e-5
-bounds-w-e-5 c =
-    simp length-set (omega arith)
-
-pub bounds-w-e-6 : goal.bounds-w-e-6
-bounds-w-e-6 c =
-    simp length-set (omega arith)
 
 pub returns : goal.returns
 unfolding entered

@@ -2,15 +2,10 @@
 -- Assumes nothing.
 use mathlib.Core.Path.{ap₂}
 use Prim.Native.Nat.{ℕ}
-use native.Mathlib.Omega.{arith}
-use lib.ListN.{set, length-set}
+use lib.ListN.{set}
 use Rattle.layout.specs.Layout.{firsts_word, seconds_word}
 use Rattle.room.specs.Room.{held}
 use Rattle.room.proofs.hold.Goals as goal
-
-pub bounds-w-4-2 : goal.bounds-w-4-2
-bounds-w-4-2 c =
-    simp length-set (omega arith)
 
 pub returns : goal.returns
 unfolding held

@@ -7,13 +7,12 @@ use lib.Dec.{eqb}
 use Rattle.room.specs.Entries.{has_other, has_same}
 use Rattle.room.proofs.holds.Goals as goal
 
-pub returns-then-not-is_key_at : goal.returns-then-not-is_key_at
-returns-then-not-is_key_at c =
-    let a = c.args in
-    sym (has_other a.w.now a.k a.s (sym c.is_key_at.ensures ∙ c.if-not-is_key_at.true))
-
-pub returns : goal.returns
-returns c =
+pub returns-then-is_key_at : goal.returns-then-is_key_at
+returns-then-is_key_at c =
     let a = c.args in
     ap (λ (u : ℕ). not (eqb u 0)) c.holder_of.ensures ∙
-    sym (has_same a.w.now a.k a.s (sym c.is_key_at.ensures ∙ c.if-not-is_key_at.false))
+    sym (has_same a.w.now a.k a.s (sym c.is_key_at.ensures ∙ c.if-is_key_at.true))
+
+pub returns-else-is_key_at : goal.returns-else-is_key_at
+returns-else-is_key_at c =
+    let a = c.args in c.if-is_key_at.false ∙ sym (has_other a.w.now a.k a.s (sym c.is_key_at.ensures ∙ c.if-is_key_at.false))

@@ -6,13 +6,11 @@ use lib.Dec.{eqb}
 use Rattle.room.specs.Entries.{same-unspelled, same-spelled}
 use Rattle.room.proofs.is_key_at.Goals as goal
 
-pub returns-then-not-spells : goal.returns-then-not-spells
-returns-then-not-spells c =
+pub returns-then-spells : goal.returns-then-spells
+returns-then-spells c =
     let a = c.args in
-    sym (same-unspelled a.w.now a.k a.s (sym c.spells.ensures ∙ c.if-not-spells.true))
+    ap (λ (h : ℕ). eqb h a.k.holder) c.holder_of.ensures ∙ sym (same-spelled a.w.now a.k a.s (sym c.spells.ensures ∙ c.if-spells.true))
 
-pub returns : goal.returns
-returns c =
-    let a = c.args in
-    ap (λ (h : ℕ). eqb h a.k.holder) c.holder_of.ensures ∙
-    sym (same-spelled a.w.now a.k a.s (sym c.spells.ensures ∙ c.if-not-spells.false))
+pub returns-else-spells : goal.returns-else-spells
+returns-else-spells c =
+    let a = c.args in c.if-spells.false ∙ sym (same-unspelled a.w.now a.k a.s (sym c.spells.ensures ∙ c.if-spells.false))

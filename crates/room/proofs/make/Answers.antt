@@ -1,16 +1,13 @@
 -- Where the lengths fit, zeros with two stores are the empty room; else nothing was written.
 -- Assumes nothing.
 use mathlib.Core.Path.{refl, sym, subst}
-use mathlib.Core.Bool.{true}
 use Prim.Native.Nat.{◌<◌}
-use native.Mathlib.Omega.{arith}
-use lib.ListN.{length, set, length-set}
+use lib.ListN.{length, set}
 use Rattle.base.specs.Decides.{decided, undecided}
 use Rattle.room.specs.Laws.{zeros-long, empty-made, not_made}
 use Rattle.layout.specs.Layout.{last_word, slots_word, ring_word}
 use Rattle.room.specs.Room.{Made, Lengths}
-use Rattle.std.proofs.Common.{ap}
-use Rattle.std.proofs.Common.{not}
+use Rattle.std.proofs.Common.{ap, not, Ok}
 use Rattle.room.proofs.make.Goals as goal
 
 -- past the test: the lengths fit, and so the zeroed words have a header
@@ -27,16 +24,8 @@ returns-then-not-fits c =
     let a = c.args in
     not_made a.slots a.ring a.w.now (undecided c.fits.result (ap not c.if-not-fits.true) c.fits.ensures)
 
-pub bounds-w-0 : goal.bounds-w-0
-bounds-w-0 c =
-    omega (arith, long c)
-
-pub bounds-w-1 : goal.bounds-w-1
-bounds-w-1 c =
-    simp length-set (omega (arith, long c))
-
 pub returns : goal.returns
 returns c =
     let a = c.args in let z =
-    c.zero in subst (λ y. Made a.slots a.ring a.w.now true (set (set y slots_word a.slots) ring_word a.ring))
+    c.zero in subst (λ y. Made a.slots a.ring a.w.now (Ok tt) (set (set y slots_word a.slots) ring_word a.ring))
     (sym z.ensures) (empty-made a.slots a.ring (length a.w.now) a.w.now refl (lengths c))

@@ -6,7 +6,3 @@ use Rattle.second.proofs.last_second.Given as goal
 abbrev pub invariant-loop-k : goal.invariant-loop-k
 invariant-loop-k l =
     (l.k ≤ len_of l.b) × Walks l.r l.b l.most l.reading l.k l.sum × (l.gone ≤ l.k)
-
-abbrev pub decreases-loop-k : goal.decreases-loop-k
-decreases-loop-k l =
-    l.k

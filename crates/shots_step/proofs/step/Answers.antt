@@ -14,21 +14,21 @@ returns-in_default c =
 
 pub slice_bounds-take-count : goal.slice_bounds-take-count
 slice_bounds-take-count c =
-    let k = read-inside _ _ _ _ _ _ _ (sym c.read_shot.ensures ∙ c.in-Shot.is) in
+    let k = read-inside _ _ _ _ _ _ _ (sym c.read_shot.ensures ∙ c.in-Some.is) in
     omega (arith, k.starts)
 
 pub slice_bounds-take-start : goal.slice_bounds-take-start
 slice_bounds-take-start c =
-    let k = read-inside _ _ _ _ _ _ _ (sym c.read_shot.ensures ∙ c.in-Shot.is) in
+    let k = read-inside _ _ _ _ _ _ _ (sym c.read_shot.ensures ∙ c.in-Some.is) in
     omega (arith, k.starts)
 
 pub slice_bounds-take-end : goal.slice_bounds-take-end
 slice_bounds-take-end c =
-    let k = read-inside _ _ _ _ _ _ _ (sym c.read_shot.ensures ∙ c.in-Shot.is) in
+    let k = read-inside _ _ _ _ _ _ _ (sym c.read_shot.ensures ∙ c.in-Some.is) in
     omega (arith, k.ends)
 
 pub returns : goal.returns
 unfolding stepped
 returns c =
     rw (sym c.read_shot.ensures ∙
-    c.in-Shot.is) c.take.ensures
+    c.in-Some.is) c.take.ensures

@@ -13,6 +13,6 @@ returns c =
     let a = c.args in
     let key = sent (alone a.room.now) a.key.now in
     let told = rw (c.alone-caller.ensures, c.per_minute.ensures) at c.shot-a.ensures in
-    line-told a.t a.key.now (shot a.settings a.table.now a.room.now a.t key a.number (per_minute a.rate) a.draw)
+    line-told a.l.t a.key.now (shot a.settings a.table.now a.room.now a.l.t key a.l.number (per_minute a.l.rate) a.l.draw)
     c.shot-a.result c.shot-a.new.table c.shot-a.new.room c.stored_of.result c.shot_line.result
     told c.stored_of.ensures c.shot_line.ensures

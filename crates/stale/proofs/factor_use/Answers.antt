@@ -7,6 +7,6 @@ pub returns-then-milliseconds-stale : goal.returns-then-milliseconds-stale
 returns-then-milliseconds-stale c =
     let a = c.args in factor-young a.time a.reading a.ticks a.stale (omega (arith, c.milliseconds.ensures))
 
-pub returns : goal.returns
-returns c =
+pub returns-else-milliseconds-stale : goal.returns-else-milliseconds-stale
+returns-else-milliseconds-stale c =
     let a = c.args in factor-old a.time a.reading a.ticks a.stale (omega (arith, c.milliseconds.ensures))

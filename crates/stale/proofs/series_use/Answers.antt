@@ -20,8 +20,8 @@ returns-then-stale-milliseconds c =
       newest-age a.r a.b.now a.reading a.ticks c.len-n.result c.nth_or_none-newest.result c.len-n.ensures c.nth_or_none-newest.ensures,
     ))
 
-pub returns : goal.returns
-returns c =
+pub returns-else-stale-milliseconds : goal.returns-else-stale-milliseconds
+returns-else-stale-milliseconds c =
     let a = c.args in
     series-young (buckets a.r a.b.now) a.reading a.ticks a.stale (omega (arith, view-length a.r a.b.now))
     (omega (

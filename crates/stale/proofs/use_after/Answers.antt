@@ -1,29 +1,7 @@
 -- What stays, by the use.
-use mathlib.Core.Path.{ap}
-use Rattle.ring.specs.Ring.{buckets}
-use Rattle.opened.specs.Sound.{factor_time_of, has_series}
-use Rattle.stale.specs.Stays.{series-few, factor-few, after-series, after-factor, after_both, after-other}
+use Rattle.stale.specs.Stays.{after-series, after-factor, after_both, after-other}
 use native.Mathlib.Omega.{arith}
 use Rattle.stale.proofs.use_after.Goals as goal
-
-pub series_use-requires : goal.series_use-requires
-series_use-requires c =
-    (c.requires.0.shape (ap has_series c.in-1.is), c.requires.1)
-
-pub series_use-requires-in-3 : goal.series_use-requires-in-3
-series_use-requires-in-3 c =
-    (c.requires.0.shape (ap has_series c.in-3.is), c.requires.1)
-
-pub overflow_add-result : goal.overflow_add-result
-overflow_add-result c =
-    let a = c.args in
-    omega (
-      arith,
-      c.series_use-in-3.ensures,
-      c.factor_use-in-3.ensures,
-      series-few (buckets a.r a.b.now) a.reading a.ticks a.stale,
-      factor-few (factor_time_of a.b.now) a.reading a.ticks a.stale,
-    )
 
 pub returns-in-1 : goal.returns-in-1
 returns-in-1 c =

@@ -2,12 +2,12 @@
 use Rattle.suppressed_edits.specs.Edits.{recached}
 use Rattle.suppressed_edits.proofs.recached.Goals as goal
 
-pub returns-in-Left : goal.returns-in-Left
+pub returns-in-None : goal.returns-in-None
 unfolding recached
-returns-in-Left c =
-    rw (c.restored.ensures, c.in-Left.is, c.use_left.ensures, c.stays.ensures)
+returns-in-None c =
+    rw (c.restored.ensures, c.in-None.is, c.use_left.ensures, c.stays.ensures)
 
-pub returns-in-Cached : goal.returns-in-Cached
+pub returns-in-Some : goal.returns-in-Some
 unfolding recached
-returns-in-Cached c =
-    rw (c.restored-in-Cached.ensures, c.in-Cached.is, c.word_of.ensures)
+returns-in-Some c =
+    rw (c.restored-in-Some.ensures, c.in-Some.is, c.word_of.ensures)

@@ -1,20 +1,16 @@
--- `sweep::ended` meets its contract: each return settles the conjunction at the test that led to it.
+-- `sweep::ended` meets its contract: test by test, the definition's conjunction.
 -- Assumes nothing.
+use Rattle.std.proofs.Common.{arith}
+use Rattle.std.proofs.lemmas.Bool.Decides.{nat_tests}
 use Rattle.sweep.specs.Sweep.{ended_of}
-use borrow.Author.Tests.{le-leb, lt-leb, eq-eqb, ne_eqb}
 use Rattle.sweep.proofs.ended.Goals as goal
 
-pub returns-then-last-lo : goal.returns-then-last-lo
+pub returns-then-a-eq0 : goal.returns-then-a-eq0
 unfolding ended_of
-returns-then-last-lo c =
-    simp (lt-leb _ _ c.if-last-lo.true)
+returns-then-a-eq0 c =
+    grind (arith, nat_tests)
 
-pub returns-then-left-ne0 : goal.returns-then-left-ne0
+pub returns-else-a-eq0 : goal.returns-else-a-eq0
 unfolding ended_of
-returns-then-left-ne0 c =
-    simp (le-leb _ _ c.if-last-lo.false, ne_eqb _ _ c.if-left-ne0.true)
-
-pub returns : goal.returns
-unfolding ended_of
-returns c =
-    simp (le-leb _ _ c.if-last-lo.false, eq-eqb _ _ c.if-left-ne0.false)
+returns-else-a-eq0 c =
+    grind (arith, nat_tests)

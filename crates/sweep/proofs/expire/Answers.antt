@@ -15,7 +15,6 @@ loop-k-init c =
     let a = c.args in
     let h = head_of a.b.now in
     let e : h ≡ h + 0 = omega arith in (
-      omega arith,
       c.requires.head,
       e ∙ sym (wrap-lo a.r (h + 0) (omega (arith, c.requires.head))),
       gone-start a.r a.b.now a.reading a.window _ _ refl refl,
@@ -31,7 +30,7 @@ returns-then-not-older c =
     let o = c.older in
     gone-stop a.r a.b.now a.reading a.window l.k l.total l.declined x.result
     (omega (arith, c.len-n.ensures, c.loop-k-test.true))
-    (at_place a.r a.b.now s l.k l.j x.result l.invariant.2 x.ensures) (sym o.ensures ∙ c.if-not-older.true) l.invariant.3
+    (at_place a.r a.b.now s l.k l.j x.result l.invariant.1 x.ensures) (sym o.ensures ∙ c.if-not-older.true) l.invariant.2
 
 pub loop-k-preserved : goal.loop-k-preserved
 unfolding older
@@ -41,22 +40,21 @@ loop-k-preserved c =
     let l = c.loop-k in
     let x = c.at-x in
     let o = c.older in
-    let p = c.less-total in
-    let d = c.less-declined in
+    let p = c.saturating_sub-total in
+    let d = c.saturating_sub-declined in
     let m = c.next-j in
     let more : l.k < len_of a.b.now = omega
     (arith, c.len-n.ensures, c.loop-k-test.true) in (
-      omega arith,
-      next-inside a.r a.b.now s l.j m.result l.invariant.1 m.ensures,
-      m.ensures ∙ next_place a.r a.b.now s l.k l.j more l.invariant.2,
+      next-inside a.r a.b.now s l.j m.result l.invariant.0 m.ensures,
+      m.ensures ∙ next_place a.r a.b.now s l.k l.j more l.invariant.1,
       gone-turn a.r a.b.now a.reading a.window l.k l.total l.declined p.result d.result x.result more
-          (at_place a.r a.b.now s l.k l.j x.result l.invariant.2 x.ensures)
-          (sym o.ensures ∙ c.if-not-older.false) p.ensures d.ensures l.invariant.3,
+          (at_place a.r a.b.now s l.k l.j x.result l.invariant.1 x.ensures)
+          (sym o.ensures ∙ c.if-not-older.false) p.ensures d.ensures l.invariant.2,
     )
 
 pub returns : goal.returns
 returns c =
     let a = c.args in
     let l = c.loop-k in
-    gone-end a.r a.b.now a.reading a.window l.k l.total l.declined
-    (omega (arith, c.len-n.ensures, c.loop-k-test.false)) l.invariant.3
+    let e : c.len-n.result ≡ l.k = omega arith in
+    rw e (gone-end a.r a.b.now a.reading a.window l.k l.total l.declined (omega (arith, c.len-n.ensures, c.loop-k-test.false)) l.invariant.2)

@@ -1,7 +1,7 @@
 -- `sweep::pass` meets its contract: words that do not fit are not sound, and the others go on to the sweep.
 -- Assumes nothing.
 use Rattle.sweep.specs.Looked.{looked-unfit}
-use Rattle.base.specs.Decides.{decided, undecided}
+use Rattle.base.specs.Decides.{undecided}
 use mathlib.Core.Path.{◌∙◌}
 use Rattle.std.proofs.Common.{ap}
 use Rattle.std.proofs.Common.{not}
@@ -13,7 +13,3 @@ returns-then-not-fit c =
     let f = c.fit in
     c.no_pass.ensures ∙ looked-unfit a.r a.b.now a.last a.reading a.window a.look (undecided f.result (ap not c.if-not-fit.true)
     f.ensures)
-
-pub pass_fit-requires : goal.pass_fit-requires
-pass_fit-requires c =
-    let f = c.fit in decided f.result (ap not c.if-not-fit.false) f.ensures

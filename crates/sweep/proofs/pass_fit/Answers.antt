@@ -12,7 +12,7 @@ gone-g-requires c =
     let a = c.args in
     let s = c.is_sound in
     let n = c.len-n in
-    let d = c.less-end in
+    let d = c.saturating_sub-end in
     let x = c.nth_or_none-newest in (
       sound-true a.r a.b.now a.last (sym s.ensures ∙ c.if-not-is_sound.false),
       ap (λ (y : Bucket). y.time) c.nth_or_none-eldest.ensures,
@@ -24,7 +24,7 @@ returns c =
     let a = c.args in
     let s = c.is_sound in
     let n = c.len-n in
-    let d = c.less-end in
+    let d = c.saturating_sub-end in
     let m = c.nth_or_none-newest in
     let f = c.nth_or_none-eldest in
     let e = c.gone-g in

@@ -4,7 +4,7 @@ use mathlib.Core.Path.{sym, ◌∙◌}
 use native.Mathlib.Omega.{arith}
 use Rattle.base.specs.Decides.{decided, undecided}
 use Rattle.table.specs.Table.{Table}
-use Rattle.table.specs.Laws.{table-directory, looked-not, looked-new, looked-unsound, looked-known}
+use Rattle.table.specs.Laws.{looked-not, looked-new, looked-unsound, looked-known}
 use Rattle.std.proofs.Common.{ap}
 use Rattle.std.proofs.Common.{not}
 use Rattle.table.proofs.look.Goals as goal
@@ -18,36 +18,19 @@ pub returns-then-not-sized : goal.returns-then-not-sized
 returns-then-not-sized c =
     let a = c.args in
     let o = c.sized in
-    c.unsound.ensures ∙ looked-not a.w.now a.key.now (undecided o.result (ap not c.if-not-sized.true) o.ensures)
-
-pub entry_for-at-requires : goal.entry_for-at-requires
-entry_for-at-requires c =
-    (table (goal.at.entry_for-at-requires c).Else-not-sized)
-
-pub bounds-w-0 : goal.bounds-w-0
-bounds-w-0 c =
-    let t = (table (goal.at.bounds-w-0 c).Else-not-sized) in omega arith
+    looked-not a.w.now a.key.now (undecided o.result (ap not c.if-not-sized.true) o.ensures)
 
 pub returns-then-w-at : goal.returns-then-w-at
 returns-then-w-at c =
     let a = c.args in
     looked-new a.w.now a.key.now c.entry_for-at.result (table (goal.at.returns-then-w-at c).Else-not-sized) c.entry_for-at.ensures c.if-w-at.true
 
-pub once-requires : goal.once-requires
-once-requires c =
-    (table (goal.at.once-requires c).Else-not-sized, c.if-w-at.false)
-
 pub returns-then-not-once : goal.returns-then-not-once
 returns-then-not-once c =
     let a = c.args in
     let x = c.once in
-    c.unsound-then-not-once.ensures ∙
     looked-unsound a.w.now a.key.now c.entry_for-at.result (table (goal.at.returns-then-not-once c).Else-not-sized) (λ i. omega (arith, c.shared_slice_known-2-1.given i))
     c.entry_for-at.ensures c.if-w-at.false (sym x.ensures ∙ c.if-not-once.true)
-
-pub use_of-requires : goal.use_of-requires
-use_of-requires c =
-    (table-directory (table (goal.at.use_of-requires c).Else-not-sized), omega arith)
 
 pub returns : goal.returns
 returns c =

@@ -2,21 +2,12 @@
 -- Assumes nothing.
 use mathlib.Core.Path.{ap, ◌∙◌}
 use Prim.Native.Nat.{◌+◌}
-use native.Mathlib.Omega.{arith}
 use lib.ListN.{set}
 use Rattle.layout.specs.Layout.{slots_word}
 use Rattle.room.specs.Room.{entered}
 use Rattle.table.specs.Table.{known_of}
-use Rattle.table.specs.Laws.{table-directory, remembered-known, remembered-new}
+use Rattle.table.specs.Laws.{remembered-known, remembered-new}
 use Rattle.table.proofs.remember.Goals as goal
-
-pub set_use-requires : goal.set_use-requires
-set_use-requires c =
-    (table-directory c.requires.table, omega arith)
-
-pub enter-requires : goal.enter-requires
-enter-requires c =
-    (c.requires.table, omega (arith, c.requires.room, c.if-at-w.false))
 
 pub returns-then-at-w : goal.returns-then-at-w
 returns-then-at-w c =

@@ -4,12 +4,12 @@ use Rattle.told.specs.Told.{live}
 use lib.Ieee.{of_bits}
 use Rattle.told.proofs.live.Goals as goal
 
-pub returns-in-Total : goal.returns-in-Total
+pub returns-in-Ok : goal.returns-in-Ok
 unfolding live of_bits
-returns-in-Total c =
-    rw c.in-Total.is
+returns-in-Ok c =
+    rw c.in-Ok.is
 
-pub returns-in-Refused : goal.returns-in-Refused
+pub returns-in-Err : goal.returns-in-Err
 unfolding live of_bits
-returns-in-Refused c =
-    rw c.in-Refused.is
+returns-in-Err c =
+    rw c.in-Err.is

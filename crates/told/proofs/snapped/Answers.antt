@@ -3,12 +3,12 @@
 use Rattle.told.specs.Told.{snapped}
 use Rattle.told.proofs.snapped.Goals as goal
 
-pub returns-in-Snapshot : goal.returns-in-Snapshot
+pub returns-in-Ok : goal.returns-in-Ok
 unfolding snapped
-returns-in-Snapshot c =
-    rw c.in-Snapshot.is
+returns-in-Ok c =
+    rw c.in-Ok.is
 
-pub returns-in-Refused : goal.returns-in-Refused
+pub returns-in-Err : goal.returns-in-Err
 unfolding snapped
-returns-in-Refused c =
-    rw c.in-Refused.is
+returns-in-Err c =
+    rw c.in-Err.is

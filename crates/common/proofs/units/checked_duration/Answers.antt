@@ -1,21 +1,19 @@
--- The product is within the range exactly where the value is at most the range divided by the multiplier, so it is only formed where it fits.
-use Rattle.std.proofs.Common.{◌*◌, ◌≤◌, sym, arith}
-use Rattle.common.specs.Units.{period-none, period-within, period-over, period-fits}
+-- A product past a word is past the range; of any other the range decides.
+use Rattle.std.specs.Prelude.{ℕ, Bool, true, false, cond, Some, None, refl}
+use Rattle.std.specs.Bool.{then_some}
+use Rattle.common.specs.Units.{period-is, period-past}
+use Rattle.std.proofs.Common.{◌≡◌, arith, sym, ◌∙◌}
 use Rattle.common.proofs.units.checked_duration.Goals as goal
 
-pub returns-then-value-eq0 : goal.returns-then-value-eq0
-returns-then-value-eq0 c =
-    rw c.if-value-eq0.true (sym (period-none _ _))
+taken : (is : Bool) (x : ℕ) → then_some is x ≡ cond is (Some x) None
+taken true x = refl
+taken false x = refl
 
-pub returns-then-value-most : goal.returns-then-value-most
-returns-then-value-most c =
-    sym (period-over _ _ _ c.requires c.if-value-most.true)
-
-pub overflow_mul-result : goal.overflow_mul-result
-overflow_mul-result c =
-    let a = c.args in let h : a.value * a.multiplier ≤ a.most =
-    period-fits _ _ _ c.requires c.if-value-most.false in omega arith
+pub returns-in_err-number : goal.returns-in_err-number
+returns-in_err-number c =
+    let over = c.in_err-number.ensures in
+    c.from_residual.ensures ∙ sym (period-past _ _ _ (omega (arith, c.ranges.most.fits, over)))
 
 pub returns : goal.returns
 returns c =
-    sym (period-within _ _ _ (omega arith) (period-fits _ _ _ c.requires c.if-value-most.false))
+    (rw (c.is_within.ensures, c.in_ok-number.ensures.1) at c.then_some.ensures) ∙ taken _ _ ∙ sym (period-is _ _ _ c.requires)

@@ -6,8 +6,3 @@ pub returns-then-x-least : goal.returns-then-x-least
 unfolding of_bits
 returns-then-x-least c =
     simp c.if-x-least.true
-
-pub returns-else-x-least : goal.returns-else-x-least
-unfolding of_bits
-returns-else-x-least c =
-    simp c.if-x-least.false
