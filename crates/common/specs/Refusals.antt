@@ -1,6 +1,6 @@
--- Refusals: a list of numbers with their conditions, of which a call gives the first that holds.
+-- Refusals: a list of numbers with their conditions, of which a call gives the first that holds; and what is printed of one.
 -- Assumes nothing.
-use Rattle.std.specs.Prelude.{◌≡◌, ℕ, ◌<◌, Bool, true, false, cond, List, [], ◌∷◌, ◌++◌, ◌≢◌, refl, Result, Ok, Err, eqb}
+use Rattle.std.specs.Prelude.{◌≡◌, ℕ, ◌<◌, Bool, true, false, cond, List, [], ◌∷◌, ◌++◌, ◌≢◌, refl, Result, Ok, Err, eqb, if◌then◌else◌, ◌==◌, codes, decimal}
 use Rattle.common.specs.declared.refusal.Refusal.{Refusal}
 use Rattle.std.proofs.Common.{sym, ◌∙◌, arith}
 use Rattle.std.proofs.Math.Decide.{ℕ_discrete}
@@ -25,6 +25,29 @@ unless n v = cond (eqb n 0) (Ok v) (refuse n)
 -- what a number comes to: with 0 the call goes on
 abbrev pub ruled : ℕ → Result (Unit {0}) Refusal
 ruled n = unless n tt
+
+-- what is printed of a refusal: its words, and of a number without words the number
+abbrev pub refusal_text : ℕ → List ℕ
+refusal_text n =
+    if n == 1 then codes "window out of its range" else (
+    if n == 2 then codes "bucket out of its range" else (
+    if n == 3 then codes "cache period out of its range" else (
+    if n == 4 then codes "factor not finite, or below 1" else (
+    if n == 5 then codes "room or table of wrong lengths, or unsound" else (
+    if n == 6 then codes "reading below that of an earlier call" else (
+    if n == 7 then codes "key over 32 bytes" else (
+    if n == 8 then codes "rate out of its range" else (
+    if n == 9 then codes "draw over 2^53 - 1" else (
+    if n == 10 then codes "total would pass 2^53" else (
+    if n == 11 then codes "no slot left of those promised" else (
+    if n == 12 then codes "ring full" else (
+    if n == 14 then codes "names no call" else (
+    if n == 15 then codes "neither party" else (
+    if n == 16 then codes "promises pass the slots" else (
+    if n == 19 then codes "number of a shot out of its range" else (
+    if n == 20 then codes "number of a shot below the last" else (
+    if n == 21 then codes "table full" else (
+    codes "refusal " ++ decimal n))))))))))))))))))
 
 -- every number is above 0
 abbrev pub Positive : List (ℕ × Bool) → Type 0

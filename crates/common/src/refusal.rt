@@ -1,6 +1,6 @@
 // Why a call is turned away. A refusal is known by its number, as in C and in a line of `desk`; whoever adds one adds a name here.
-ghost use Rattle.std.specs.Prelude.{◌≡◌};
-ghost use Rattle.common.specs.Refusals.{ruled};
+ghost use Rattle.std.specs.Prelude.{◌≡◌, Some};
+ghost use Rattle.common.specs.Refusals.{refusal_text, ruled};
 
 use std::error::Error;
 use std::fmt;
@@ -64,6 +64,8 @@ impl Refusal {
 }
 
 impl fmt::Display for Refusal {
+    ghost output = { λ r. Some (refusal_text r.0) };
+
     fn fmt<W: fmt::Write>(&self, f: &mut fmt::Formatter<W>) -> fmt::Result {
         f.write_str(match self.0 {
             1 => "window out of its range",
