@@ -1,10 +1,10 @@
 -- A call with a key, decided on the key's slot: its own refusals and what it does are functions of that slot. What the judging function answered is turned
 -- into what the call is told.
 -- Assumes nothing.
-use Rattle.std.specs.Prelude.{◌≡◌, refl, Bool, true, false, ◌||◌, List, ℕ, ◌<◌, ltb, Result, Ok, Err}
+use Rattle.std.specs.Prelude.{◌≡◌, refl, Bool, true, false, ◌||◌, List, ℕ, ◌<◌, ltb, Ok, Err}
 use Rattle.std.proofs.Common.{sym, ap, subst, ◌∙◌, ltb-true, ltb-false}
 use Rattle.std.proofs.lemmas.Bool.{false≢true}
-use Rattle.common.specs.Refusals.{first, refuse}
+use Rattle.common.specs.Refusals.{first}
 use Rattle.settings.specs.Clock.{join_ticks}
 use Rattle.settings.specs.declared.Settings.{Settings}
 use Rattle.room.specs.Room.{slots_of}
@@ -17,10 +17,10 @@ use Rattle.opened.specs.declared.Slot.{Slot}
 use Rattle.opened.specs.Sound.{addressed}
 use Rattle.judge.specs.Judge.{early, judged, Passed, slot_in}
 use Rattle.opened.specs.Slot.{has_slot}
-use Rattle.judge.proofs.Laws.{judged-ok, judged-err, passed}
+use Rattle.judge.proofs.Laws.{judged-ok, passed}
 use Rattle.common.specs.declared.refusal.Refusal.{Refusal}
 use Rattle.judge.specs.Verdict.{Verdict, Told, call}
-use Rattle.judge.proofs.Verdict.{call-early, call-own, call-done}
+use Rattle.judge.proofs.Verdict.{call-refused, call-own, call-done}
 use Rattle.plan.specs.Known.{Found, Known, found, none, at-as, series-known}
 
 -- a call whose own refusals, and what it does, are functions of the slot
@@ -59,13 +59,10 @@ module _ (kind : RoomKind) (s : Settings) (w : List ℕ) (t : ℕ) (key : Sent) 
         (ap (λ (y : Slot). first (own y)) (sym judged-slot) ∙ f) (subst (λ (y : Slot). Told (does y) r x) judged-slot o)
 
 -- refused early
-module _ {A : Type 0} (kind : RoomKind) (s : Settings) (w : List ℕ) (t : ℕ) (key : Sent) (own : Slot → List (ℕ × Bool))
-    (does : Slot → Verdict (Result A Refusal)) where
-  pub judged-early : (r : Refusal) → Err r ≡ judged kind s w t key → Told (calls refuse kind s w t key own does) (Err r) w
-  judged-early r e =
-      let o = judged-err kind s w t key false r e in
-      subst (λ (q : Refusal). Told (calls refuse kind s w t key own does) (Err q) w) (sym o.1)
-      (call-early refuse kind s w t key (own (slot_in s w t key)) (does (slot_in s w t key)) (early kind s w t key) refl o.0)
+module _ {A : Type 0} (turned : ℕ → A) (kind : RoomKind) (s : Settings) (w : List ℕ) (t : ℕ) (key : Sent) (own : Slot → List (ℕ × Bool))
+    (does : Slot → Verdict A) where
+  pub judged-early : (r : Refusal) → Err r ≡ judged kind s w t key → Told (calls turned kind s w t key own does) (turned r.0) w
+  judged-early r e = call-refused turned kind s w t key (own (slot_in s w t key)) (does (slot_in s w t key)) false r e
 
 -- ---- the key's slot is there, where it holds anything
 

@@ -19,11 +19,11 @@ use Rattle.judge.specs.Verdict.{Verdict, verdict, unless_refused, Told, call, Al
 pub told-once : {A : Type 0} (v : Verdict A) (r r' : A) (x x' : List ℕ) → Told v r x → Told v r' x' → (r ≡ r') × (x ≡ x')
 told-once v r r' x x' a b = (a.answer ∙ sym b.answer, a.words ∙ sym b.words)
 
--- what is told of a verdict is told of the same verdict in other words
 -- what is handed on is answered as it was
 pub told-on : {A : Type 0} {v : Verdict A} {r q : A} {x : List ℕ} → r ≡ q → Told v q x → Told v r x
 told-on {A} {v} {r} {q} {x} e o = subst (λ (y : A). Told v y x) (sym e) o
 
+-- what is told of a verdict is told of the same verdict in other words
 pub told-as : {A : Type 0} {v v' : Verdict A} {r : A} {x : List ℕ} → v ≡ v' → Told v r x → Told v' r x
 told-as {r = r} {x = x} e o = subst (λ y. Told y r x) e o
 

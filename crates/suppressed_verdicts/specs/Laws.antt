@@ -24,7 +24,7 @@ use Rattle.judge.specs.declared.Judged.{Judged}
 use Rattle.rules.specs.declared.RoomKind.TheVariants as kind
 use Rattle.opened.specs.declared.Slot.{Slot}
 use Rattle.judge.specs.Held.{held_in}
-use Rattle.judge.specs.Judge.{early, judged_by, judged, judged_first, Passed, slot_in, looked_in, slot_by}
+use Rattle.judge.specs.Judge.{early, judged_by, Passed, slot_in, looked_in, slot_by}
 use Rattle.opened.specs.Slot.{has_slot}
 use Rattle.judge.proofs.Laws.{judged-ok, passed, free-there}
 use Rattle.judge.specs.Verdict.{Told}
@@ -302,27 +302,27 @@ module _ (b : Bool) (s : Settings) (w : List ℕ) (t : ℕ) (key : Sent) (j : Ju
   pub proper-found : Proper s
   proper-found = (passed kind.Suppressed s w t key not-early).settings
 
--- where the last second is asked for
-pub slot-in-room : (s : Settings) (w : List ℕ) (t : ℕ) (key : Sent) (j : Judged) → Ok j ≡ judged kind.Suppressed s w t key → InRoom w j.slot
-slot-in-room s w t key j h =
-    let there = stood-slot s w t key (passed kind.Suppressed s w t key (not-early false s w t key j h)) j.slot (slot-found false s w t key j h) in
-    record {
-      room = room-found false s w t key j h;
-      inside = λ y. (there.known y).inside;
-      sound = λ y. (there.known y).measured.sound;
-      some = λ y. (there.known y).measured.some;
-    }
+  -- where the last second is asked for
+  pub slot-in-room : slot_by b s w t key ≡ slot_in s w t key → InRoom w j.slot
+  slot-in-room e =
+      let there = stood-slot s w t key (passed kind.Suppressed s w t key not-early) j.slot (slot-found ∙ e) in
+      record {
+        room = room-found;
+        inside = λ y. (there.known y).inside;
+        sound = λ y. (there.known y).measured.sound;
+        some = λ y. (there.known y).measured.some;
+      }
 
-module _ (s : Settings) (w : List ℕ) (t : ℕ) (key : Sent) (r : Refusal) where
-  pub get-early : Err r ≡ judged kind.Suppressed s w t key → Told (Calls.get s w t key) (Err r) w
+-- refused early, whichever look was to be taken
+module _ (b : Bool) (s : Settings) (w : List ℕ) (t : ℕ) (key : Sent) (r : Refusal) (e : Err r ≡ judged_by b kind.Suppressed s w t key) where
+  pub get-early : Told (Calls.get s w t key) (Err r) w
   unfolding Calls.get
-  get-early e = call-refused refuse kind.Suppressed s w t key _ _ false r e
+  get-early = call-refused refuse kind.Suppressed s w t key _ _ b r e
 
-  pub factor-early : Err r ≡ judged_first kind.Suppressed s w t key → Told (Calls.get_factor s w t key) (Err r) w
+  pub factor-early : Told (Calls.get_factor s w t key) (Err r) w
   unfolding Calls.get_factor
-  factor-early e = call-refused refuse kind.Suppressed s w t key _ _ true r e
+  factor-early = call-refused refuse kind.Suppressed s w t key _ _ b r e
 
-  pub inc-early : (rate : RateLimit) (c draw : ℕ) → Err r ≡ judged_first kind.Suppressed s w t key →
-      Told (Calls.inc s w t key rate c draw) (decision.Refused r.0) w
+  pub inc-early : (rate : RateLimit) (c draw : ℕ) → Told (Calls.inc s w t key rate c draw) (decision.Refused r.0) w
   unfolding Calls.inc
-  inc-early rate c draw e = call-refused decision.Refused kind.Suppressed s w t key _ _ true r e
+  inc-early rate c draw = call-refused decision.Refused kind.Suppressed s w t key _ _ b r e

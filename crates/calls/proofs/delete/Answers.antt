@@ -20,7 +20,7 @@ returns-in_err-j c =
     let a = c.args in
     let e : c.from_residual.result ≡ Err c.in_err-j.field-0.0 = search rules in
     told-on e (told-as (delete-opened a.kind a.settings a.room.now a.reading (sent a.caller a.key.now))
-    (judged-early a.kind a.settings a.room.now a.reading (sent a.caller a.key.now) no_own
+    (judged-early refuse a.kind a.settings a.room.now a.reading (sent a.caller a.key.now) no_own
     (deletes a.settings a.room.now a.reading (sent a.caller a.key.now)) _ c.in_err-j.ensures))
 
 pub join_ticks-join-requires : goal.join_ticks-join-requires

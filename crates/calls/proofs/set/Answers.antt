@@ -20,7 +20,7 @@ returns-in_err-j c =
     let own = set_own_of a.kind a.settings (none_left a.room.now a.caller) a.rate a.comparator a.count a.mode in
     let e : c.from_residual.result ≡ Err c.in_err-j.field-0.0 = search rules in
     told-on e (told-as (set-opened a.kind a.settings a.room.now a.reading (sent a.caller a.key.now) a.rate a.comparator a.count a.mode)
-    (judged-early a.kind a.settings a.room.now a.reading (sent a.caller a.key.now) own
+    (judged-early refuse a.kind a.settings a.room.now a.reading (sent a.caller a.key.now) own
     (sets a.kind a.settings a.room.now a.reading (sent a.caller a.key.now) a.rate a.comparator a.count a.mode) _ c.in_err-j.ensures))
 
 pub place-at-requires : goal.place-at-requires

@@ -22,7 +22,7 @@ returns-in_err-j c =
     let a = c.args in
     let e : c.from_residual.result ≡ Err c.in_err-j.field-0.0 = search rules in
     told-on e (told-as (rate-opened a.kind a.settings a.room.now a.reading (sent a.caller a.key.now) a.rate)
-    (judged-early a.kind a.settings a.room.now a.reading (sent a.caller a.key.now)
+    (judged-early refuse a.kind a.settings a.room.now a.reading (sent a.caller a.key.now)
     (rate_own_of a.rate)
     (limits a.kind a.settings a.room.now a.reading (sent a.caller a.key.now) a.rate) _ c.in_err-j.ensures))
 

@@ -50,8 +50,8 @@ returns-in_err-fault c =
     let key = sent a.caller a.key.now in
     let e : c.from_residual.result ≡ Err c.in_err-fault.field-0.0 = search rules in
     let o = ruled-err _ _ c.in_err-fault.ensures in
-    rw e (inc-early a.settings a.room.now a.reading key _ a.rate a.count a.draw
-    (refused-is Suppressed a.settings a.room.now a.reading key true _ _ (fault-early Suppressed a.settings a.room.now a.reading key _ refl o.0) o.0 o.1))
+    rw e (inc-early true a.settings a.room.now a.reading key _
+    (refused-is Suppressed a.settings a.room.now a.reading key true _ _ (fault-early Suppressed a.settings a.room.now a.reading key _ refl o.0) o.0 o.1) a.rate a.count a.draw)
 
 pub misfit-requires : goal.misfit-requires
 misfit-requires c =
@@ -75,8 +75,8 @@ returns-in_err-misfit c =
     let key = sent a.caller a.key.now in
     let e : c.from_residual-in_err-misfit.result ≡ Err c.in_err-misfit.field-0.0 = search rules in
     let o = ruled-err _ _ c.in_err-misfit.ensures in
-    rw e (inc-early a.settings a.room.now a.reading key _ a.rate a.count a.draw
-    (refused-is Suppressed a.settings a.room.now a.reading key true _ _ refl o.0 o.1))
+    rw e (inc-early true a.settings a.room.now a.reading key _
+    (refused-is Suppressed a.settings a.room.now a.reading key true _ _ refl o.0 o.1) a.rate a.count a.draw)
 
 pub returns-in_err-inc_late : goal.returns-in_err-inc_late
 returns-in_err-inc_late c =

@@ -1,5 +1,6 @@
 -- Refusals 1 to 7, 15 and 16; then the change is carried out.
 use Rattle.std.proofs.Common.{rules, ◌≡◌, Err, false, sym, ap, subst, ◌∙◌, ℕ}
+use Rattle.std.proofs.Math.Path.{refl}
 use Rattle.parties.specs.Parties.{sent}
 use Rattle.change.specs.Words.{Applies, applied}
 use Rattle.suppressed_verdicts.specs.Laws.{not-early, slot-found, proper-found, slot-in-room, get-early, get-applies, get-done}
@@ -10,13 +11,13 @@ returns-in_err-judged c =
     let a = c.args in
     let key = sent a.caller a.key.now in
     let e : c.from_residual.result ≡ Err c.in_err-judged.field-0.0 = search rules in
-    rw e (get-early a.settings a.room.now a.reading key _ c.in_err-judged.ensures)
+    rw e (get-early false a.settings a.room.now a.reading key _ c.in_err-judged.ensures)
 
 pub ask-asked-requires : goal.ask-asked-requires
 ask-asked-requires c =
     let a = c.args in
     let key = sent a.caller a.key.now in (
-      slot-in-room a.settings a.room.now a.reading key c.in_ok-judged.judged c.in_ok-judged.ensures,
+      slot-in-room false a.settings a.room.now a.reading key c.in_ok-judged.judged c.in_ok-judged.ensures refl,
       (proper-found false a.settings a.room.now a.reading key c.in_ok-judged.judged c.in_ok-judged.ensures).cache-high,
     )
 

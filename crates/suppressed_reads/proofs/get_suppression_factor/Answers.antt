@@ -36,7 +36,7 @@ returns-in_err-judged c =
     let a = c.args in
     let key = sent a.caller a.key.now in
     let e : c.from_residual.result ≡ Err c.in_err-judged.field-0.0 = search rules in
-    rw e (factor-early a.settings a.room.now a.reading key _ c.in_err-judged.ensures)
+    rw e (factor-early true a.settings a.room.now a.reading key _ c.in_err-judged.ensures)
 
 pub place-at-requires : goal.place-at-requires
 place-at-requires c =
