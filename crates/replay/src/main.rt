@@ -268,16 +268,16 @@ fn state_of(w: &[u64], key: &[u8]) -> State {
 
 // ---- reading the list
 
-// The decimal that stands first, as far as it fits a word, and what follows it. No `parse`, which takes a number whole or not at all.
-fn decimal(s: &[u8]) -> (u64, &[u8]) {
+// The decimal at `from`, as far as it fits a word, and where it ends. No `parse`, which takes a number whole or not at all.
+fn decimal(line: &[u8], from: usize) -> (u64, usize) {
     let mut value: u64 = 0;
-    for (at, &b) in s.iter().enumerate() {
-        let Some(more) = appended(value, b) else {
-            return (value, &s[at..]);
+    for at in from..line.len() {
+        let Some(more) = appended(value, line[at]) else {
+            return (value, at);
         };
         value = more;
     }
-    (value, &[])
+    (value, line.len())
 }
 
 fn appended(value: u64, b: u8) -> Option<u64> {
@@ -290,11 +290,14 @@ fn appended(value: u64, b: u8) -> Option<u64> {
 // A line's numbers, each behind one separator; one that is missing is 0.
 fn numbers<const N: usize>(line: &[u8]) -> [u64; N] {
     let mut out = [0; N];
-    let mut rest = line.get(1..).unwrap_or(&[]);
+    let mut at = 1;
     for number in out.iter_mut() {
-        let (value, behind) = decimal(rest.get(1..).unwrap_or(&[]));
+        if line.len() <= at {
+            return out;
+        }
+        let (value, end) = decimal(line, at + 1);
         *number = value;
-        rest = behind;
+        at = end;
     }
     out
 }
@@ -488,19 +491,20 @@ fn heading(rt: &impl Print, line: &[u8], run: Run) -> io::Result<Run> {
     })
 }
 
+// A line, by the byte that it begins with.
 fn take_line(
     rt: &impl Print,
+    kind: u8,
     line: &[u8],
     run: Run,
     a: &mut [u64],
     b: &mut [u64],
     key: &mut [u8],
 ) -> io::Result<Run> {
-    match line {
-        [] => Ok(run),
-        [b'#', ..] => heading(rt, line, run),
-        [b'h', ..] => Ok(history_line(line, run, a, b)),
-        [b'c', ..] => call_line(rt, line, run, a, b, key),
+    match kind {
+        b'#' => heading(rt, line, run),
+        b'h' => Ok(history_line(line, run, a, b)),
+        b'c' => call_line(rt, line, run, a, b, key),
         _ => {
             word_line(line, a, b);
             Ok(run)
@@ -517,7 +521,9 @@ fn play(
 ) -> io::Result<()> {
     let mut run = begun();
     for line in text.split(|b| *b == b'\n') {
-        run = take_line(rt, line, run, a, b, key)?;
+        if let [kind, ..] = line {
+            run = take_line(rt, *kind, line, run, a, b, key)?;
+        }
     }
     summary(rt, run)
 }
