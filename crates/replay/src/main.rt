@@ -321,17 +321,11 @@ fn begun() -> Run {
     }
 }
 
-fn counted(run: Run, same: bool) -> Run {
+fn count(run: &mut Run, same: bool) {
     if same {
-        Run {
-            right: run.right.wrapping_add(1),
-            ..run
-        }
+        run.right = run.right.wrapping_add(1);
     } else {
-        Run {
-            wrong: run.wrong.wrapping_add(1),
-            ..run
-        }
+        run.wrong = run.wrong.wrapping_add(1);
     }
 }
 
@@ -402,14 +396,15 @@ fn key_call(
 fn call_line(
     rt: &impl Print,
     line: &[u8],
-    run: Run,
+    run: &mut Run,
     a: &mut [u64],
     b: &mut [u64],
     key: &mut [u8],
-) -> io::Result<Run> {
+) -> io::Result<()> {
     let long = run.long;
     if a.len() < long || b.len() < long {
-        return Ok(counted(run, false));
+        count(run, false);
+        return Ok(());
     }
     let same = key_call(
         rt,
@@ -423,7 +418,8 @@ fn call_line(
         rt.write_all(line)?;
         println!(rt)?;
     }
-    Ok(counted(run, same))
+    count(run, same);
+    Ok(())
 }
 
 // The words of a room of these slots and ring, 0 where there is none.
@@ -440,20 +436,15 @@ fn make_room(w: &mut [u64], long: usize, slots: u64, ring: u64) -> bool {
     long <= w.len() && room::make(&mut w[..long], slots, ring).is_ok()
 }
 
-fn history_line(line: &[u8], run: Run, a: &mut [u64], b: &mut [u64]) -> Run {
+fn history_line(line: &[u8], run: &mut Run, a: &mut [u64], b: &mut [u64]) {
     let n: [u64; 6] = numbers(line);
     let long = room_words(n[0], n[1]);
     let made = make_room(a, long, n[0], n[1]);
     let other = make_room(b, long, n[0], n[1]);
-    let next = Run {
-        settings: settings_of(n),
-        long,
-        ..run
-    };
-    if made && other {
-        next
-    } else {
-        counted(next, false)
+    run.settings = settings_of(n);
+    run.long = long;
+    if !(made && other) {
+        count(run, false);
     }
 }
 
@@ -478,17 +469,15 @@ fn summary(rt: &impl Print, run: Run) -> io::Result<()> {
 }
 
 // What is left of the counts of the heading before, if there was one, is told; the new one begins.
-fn heading(rt: &impl Print, line: &[u8], run: Run) -> io::Result<Run> {
+fn heading(rt: &impl Print, line: &[u8], run: &mut Run) -> io::Result<()> {
     if run.long != 0 {
-        summary(rt, run)?;
+        summary(rt, *run)?;
     }
     rt.write_all(line)?;
     println!(rt)?;
-    Ok(Run {
-        right: 0,
-        wrong: 0,
-        ..run
-    })
+    run.right = 0;
+    run.wrong = 0;
+    Ok(())
 }
 
 // A line, by the byte that it begins with.
@@ -496,18 +485,21 @@ fn take_line(
     rt: &impl Print,
     kind: u8,
     line: &[u8],
-    run: Run,
+    run: &mut Run,
     a: &mut [u64],
     b: &mut [u64],
     key: &mut [u8],
-) -> io::Result<Run> {
+) -> io::Result<()> {
     match kind {
         b'#' => heading(rt, line, run),
-        b'h' => Ok(history_line(line, run, a, b)),
+        b'h' => {
+            history_line(line, run, a, b);
+            Ok(())
+        }
         b'c' => call_line(rt, line, run, a, b, key),
         _ => {
             word_line(line, a, b);
-            Ok(run)
+            Ok(())
         }
     }
 }
@@ -522,7 +514,7 @@ fn play(
     let mut run = begun();
     for line in text.split(|b| *b == b'\n') {
         if let [kind, ..] = line {
-            run = take_line(rt, *kind, line, run, a, b, key)?;
+            take_line(rt, *kind, line, &mut run, a, b, key)?;
         }
     }
     summary(rt, run)
