@@ -1,8 +1,8 @@
 -- The laws of keys in words: what a word of a key may be.
 -- Assumes nothing.
-use Rattle.std.specs.Prelude.{◌≡◌, true, List, ℕ, zero, suc, ◌+◌, ◌-◌, ◌*◌, ◌/◌, ◌^◌, ◌≤◌, ◌<◌, min, ltb, length, get_or, eqb}
+use Rattle.std.specs.Prelude.{◌≡◌, refl, true, List, ℕ, zero, suc, ◌+◌, ◌-◌, ◌*◌, ◌/◌, ◌%◌, ◌^◌, ◌≤◌, ◌<◌, min, ltb, length, get_or, eqb}
 use Rattle.std.proofs.Common.{sym, ap, ◌∙◌, le_of_lt, add-zero, add_assoc, mul-suc, div-one, arith, pow-add, lt-ltb, pow-suc, add-one, ltb-true, eq-eqb, eqb-true}
-use Rattle.std.proofs.Math.Nat.{min-eq_left, min-eq_right, pow-le-pow_right, div-div-eq-div-mul}
+use Rattle.std.proofs.Math.Nat.{min-eq_left, min-eq_right, pow-le-pow_right, div-div-eq-div-mul, mod-eq_of_lt}
 use Rattle.std.proofs.Math.ListN.{get_or-eq_default}
 use Rattle.keys.specs.Keys.{pack, unused_zero}
 use Rattle.base.specs.Decides.{both_ways}
@@ -22,6 +22,17 @@ unused-some n i x y h e = ap (ltb x) (e ∙ ap (λ (z : ℕ). 256 ^ z) (sym (min
 -- fewer than eight bytes are less than a word
 pub power-word : (n : ℕ) → n < 8 → 256 ^ n < 18446744073709551616
 power-word n h = let m : n ≤ 7 = omega arith in let p : 256 ^ n ≤ 256 ^ 7 = pow-le-pow_right (omega arith) m in omega (arith, p)
+
+power-shifted : (n : ℕ) → 2 ^ (8 * n) ≡ 256 ^ n
+power-shifted zero = refl
+power-shifted (suc n) =
+    ap (λ (k : ℕ). 2 ^ k) (mul-suc 8 n) ∙ pow-add 2 (8 * n) 8 ∙ ap (λ (x : ℕ). x * 256) (power-shifted n) ∙ sym (pow-suc 256 n)
+
+-- as a bit shifted by so many bytes
+pub shifted-word : (n : ℕ) → n < 8 → 1 * 2 ^ (8 * n) % 18446744073709551616 ≡ 256 ^ n
+shifted-word n h =
+    let e : 1 * 2 ^ (8 * n) ≡ 256 ^ n = omega (arith, power-shifted n) in
+    mod-eq_of_lt (omega (arith, e, power-word n h)) ∙ e
 
 -- ---- shifts: a word of a key's last bytes loses the lowest ones, and past the key's end each byte reads as 0
 

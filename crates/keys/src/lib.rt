@@ -103,5 +103,5 @@ pub fn is_unused_zero(len: u64, i: u64, word: u64) -> bool
     ensures { result ≡ unused_zero len i word }
 {
     let n = len.saturating_sub(i);
-    8 <= n || word < 256u64.pow(n as u32)
+    8 <= n || word < 1 << (8 * n)
 }
